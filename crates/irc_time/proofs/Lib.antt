@@ -1,0 +1,4 @@
+pub mod Decoding
+pub mod Days
+pub mod TimeText
+pub mod ReadLaws

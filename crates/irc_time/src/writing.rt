@@ -1,0 +1,48 @@
+//! Writing the text of a moment.
+ghost use Rattle.std.specs.Prelude.{◌≡◌, pos, ◌≤◌, ◌≤ℤ◌};
+ghost use Rattle.jiff_core.specs.Date.{epoch_day};
+ghost use Rattle.irc_time.specs.Time.{IsTextOf};
+ghost use Rattle.irc_time.specs.Written.{time_text};
+
+use super::Moment;
+use super::parts::{Parts, text_of};
+use jiff_core::civil::Date;
+
+/// The date with that day number, counted from 0 at 1970-01-01.
+fn date_of(day: u32) -> Date
+    requires { day ≤ 2932896 }
+    ensures day { epoch_day result ≡ pos day }
+    ensures year { (pos 1970 ≤ℤ result.year) × (result.year ≤ℤ pos 9999) }
+{
+    Date::from_days_since_min(day + 4_371_587)
+}
+
+/// The year of a date, which isn't before 1970.
+fn year_of(date: Date) -> u16
+    requires { pos 1970 ≤ℤ date.year }
+    ensures { pos result ≡ date.year }
+{
+    date.year as u16
+}
+
+/// The text `YYYY-MM-DDThh:mm:ss.sssZ` of the moment in UTC, as the IRCv3 server-time specification has it. Its second
+/// is 59 at most: a moment is never written as a leap second.
+pub fn write_time(moment: Moment) -> [u8; 24]
+    ensures meaning { IsTextOf result moment }
+    ensures text { result ≡ time_text moment }
+{
+    let ms = moment.ms();
+    let date = date_of((ms / 86_400_000) as u32);
+    let in_day = ms % 86_400_000;
+    let minutes = in_day / 60_000;
+    let in_minute = in_day % 60_000;
+    text_of(Parts {
+        year: year_of(date) as u64,
+        month: date.month as u64,
+        day: date.day as u64,
+        hour: minutes / 60,
+        minute: minutes % 60,
+        second: in_minute / 1000,
+        millisecond: in_minute % 1000,
+    })
+}
