@@ -1,0 +1,10 @@
+pub mod Stream
+pub mod Next
+pub mod Syntax
+pub mod Faults
+pub mod FrontView
+pub mod Text
+pub mod CanStand
+pub mod OutLine
+pub mod Calls
+pub mod Read
