@@ -1,0 +1,19 @@
+-- A list of tags that is made tag by tag.
+use Rattle.std.specs.Prelude.{ℕ, List, [], ◌∷◌, Vec, map, if◌then◌else◌}
+use Rattle.std.specs.declared.alloc.Global.{Global}
+use Rattle.indexmap.specs.IndexMap.{insert_entry}
+use Rattle.irc_tags.specs.Tags.{Tag, has_key, same_bytes}
+
+-- the bytes of the keys and the values of a map
+abbrev pub tags_in : List (Vec ℕ Global × Vec ℕ Global) → List Tag
+tags_in entries = map (λ e. (e.0.items, e.1.items)) entries
+
+-- the tags with one more: its key keeps its place where it is there and takes the value, and a new key goes last. A tag
+-- with an empty key is skipped.
+abbrev pub with_tag : List Tag → Tag → List Tag
+with_tag tags tag = if has_key tag then insert_entry same_bytes tags tag.0 tag.1 else tags
+
+-- the tags with more of them, one after another
+abbrev pub with_tags : List Tag → List Tag → List Tag
+with_tags tags [] = tags
+with_tags tags (tag ∷ more) = with_tags (with_tag tags tag) more

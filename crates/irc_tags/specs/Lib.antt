@@ -1,0 +1,4 @@
+pub mod Entries
+pub mod Escape
+pub mod Standing
+pub mod Tags

@@ -1,0 +1,153 @@
+//! Tags as the specifications show them, and writers that fail or take a byte at a time.
+ghost use Rattle.std.specs.Prelude.{Some};
+
+use super::*;
+use std::io;
+use std::io::{ErrorKind, Write};
+use std::test::Fail;
+
+/// Takes one byte a write, and fails at each write once it has taken so many. Every second write is interrupted.
+#[derive(Drop)]
+struct OneByte {
+    bytes: Vec<u8>,
+    writes_left: usize,
+    interrupts: bool,
+}
+
+impl Write for OneByte {
+    ghost contents = { λ w. Some w.bytes.items };
+
+    fn write(&mut self, buf: &[u8]) -> io::Result<usize> {
+        if self.writes_left == 0 {
+            return Err(io::Error::from(ErrorKind::BrokenPipe));
+        }
+        self.interrupts = !self.interrupts;
+        if self.interrupts {
+            return Err(io::Error::from(ErrorKind::Interrupted));
+        }
+        if buf.is_empty() {
+            return Ok(0);
+        }
+        match self.bytes.push(buf[0]) {
+            Ok(()) => {
+                self.writes_left -= 1;
+                Ok(1)
+            }
+            Err(_) => Err(io::Error::from(ErrorKind::OutOfMemory)),
+        }
+    }
+
+    fn flush(&mut self) -> io::Result<()> {
+        Ok(())
+    }
+}
+
+/// Each key has its value. The first rows are of the parser tests of ircdocs, the others of the rules for equal and
+/// empty keys.
+#[test]
+fn gives_values(rt: HostRuntime) -> Result<(), Fail> {
+    for (data, key, value) in [
+        (r"msgid=a\:b;time=1970-01-01T00:00:01.000Z", "msgid", "a;b"),
+        (
+            r"msgid=a\:b;time=1970-01-01T00:00:01.000Z",
+            "time",
+            "1970-01-01T00:00:01.000Z",
+        ),
+        (r"a=b\\and\nk;c=72\s45;d=gh\:764", "a", "b\\and\nk"),
+        (r"a=b\\and\nk;c=72\s45;d=gh\:764", "c", "72 45"),
+        (r"a=b\\and\nk;c=72\s45;d=gh\:764", "d", "gh;764"),
+        (r"c;h=;a=b", "h", ""),
+        (r"tag1=value\\ntest", "tag1", "value\\ntest"),
+        (r"tag1=value\1", "tag1", "value1"),
+        (r"tag1=value1\", "tag1", "value1"),
+        (r"tag1=1;tag2=3;tag3=4;tag1=5", "tag1", "5"),
+        (
+            r"tag1=1;tag2=3;tag3=4;tag1=5;vendor/tag2=8",
+            "vendor/tag2",
+            "8",
+        ),
+        (r"a=\r\r;b=c=d", "a", "\r\r"),
+        (r"a=\r\r;b=c=d", "b", "c=d"),
+        (r"a=1;a", "a", ""),
+    ] {
+        let tags = read_tags(rt.alloc(), data.as_bytes())?;
+        assert!(rt;
+            tags.get(key.as_bytes()) == Some(value.as_bytes()),
+            "{key} of {data}"
+        );
+        assert!(rt; tags.get(b"=").is_none(), "{data}");
+    }
+    Ok(())
+}
+
+/// A key keeps its first place, and a tag with an empty key is skipped. Client-only tags are told by their `+`.
+#[test]
+fn keeps_the_order(rt: HostRuntime) -> Result<(), Fail> {
+    let mut tags = read_tags(rt.alloc(), b"=1;b=2;;+a;b=3;=;c=")?;
+    let keys = ["b", "+a", "c"];
+    assert_eq!(rt; tags.len(), keys.len());
+    for i in 0..tags.len() {
+        let (key, value) = tags.entry(i);
+        let expected = if i == 0 { "3" } else { "" };
+        assert!(rt; keys.get(i).is_some_and(|k| k.as_bytes() == key), "at {i}");
+        assert!(rt; value == expected.as_bytes(), "at {i}");
+    }
+    tags.keep_client_only();
+    assert_eq!(rt; tags.len(), 1);
+    assert!(rt; tags.entry(0).0 == b"+a".as_slice());
+    assert!(rt; read_tags(rt.alloc(), b";=a;")?.is_empty());
+    Ok(())
+}
+
+/// 8189 bytes are read, and one more is too long, whatever they are.
+#[test]
+fn counts_the_bytes(rt: HostRuntime) -> Result<(), Fail> {
+    let mut data = vec![in rt.alloc(); b'a'; 8188]?;
+    data.push(b';')?;
+    let tags = read_tags(rt.alloc(), data.as_slice())?;
+    assert_eq!(rt; tags.len(), 1);
+    assert!(rt; tags.get(&data[..data.len() - 1]).is_some());
+    data.push(b';')?;
+    match read_tags(rt.alloc(), data.as_slice()) {
+        Ok(_) => assert!(rt; false),
+        Err(fault) => assert_eq!(rt; fault, TagFault::TooLong),
+    }
+    Ok(())
+}
+
+/// Tags are written byte by byte, and up to the write that fails.
+#[test]
+fn writes_tags(rt: HostRuntime) -> Result<(), Fail> {
+    let tags = read_tags(rt.alloc(), br"msgid=a\:b;k;+x=\s\\\r\n=\;k=")?;
+    let text = br"msgid=a\:b;k;+x=\s\\\r\n=";
+    for k in 0..text.len() + 1 {
+        let mut writer = OneByte {
+            bytes: Vec::new(rt.alloc()),
+            writes_left: k,
+            interrupts: k % 2 == 0,
+        };
+        assert_eq!(rt;
+            write_tags(&tags, &mut writer).is_ok(),
+            k == text.len(),
+            "at {k}"
+        );
+        assert!(rt; writer.bytes.as_slice() == &text[..k], "at {k}");
+    }
+    Ok(())
+}
+
+/// A tag and a value are written with their escapes, and an empty value as nothing.
+#[test]
+fn writes_values(rt: HostRuntime) -> Result<(), Fail> {
+    let mut writer = OneByte {
+        bytes: Vec::new(rt.alloc()),
+        writes_left: 14,
+        interrupts: true,
+    };
+    assert!(rt; write_tag(b"+a", b";", &mut writer).is_ok());
+    assert!(rt; write_tag(b"b", b"", &mut writer).is_ok());
+    assert!(rt; write_value(b" \\\r\n", &mut writer).is_ok());
+    assert!(rt; writer.bytes.as_slice() == br"+a=\:b\s\\\r\n".as_slice());
+    assert!(rt; read_value(rt.alloc(), br"\s\\\r\n")?.as_slice() == b" \\\r\n".as_slice());
+    Ok(())
+}
