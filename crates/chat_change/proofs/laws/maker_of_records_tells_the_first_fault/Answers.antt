@@ -1,0 +1,10 @@
+use Rattle.chat_change.proofs.FaultLaws.{bad_target-told, bad_source-told, bad_body-told, line_too_long-told}
+use Rattle.chat_change.proofs.laws.maker_of_records_tells_the_first_fault.Goals as goal
+
+pub returns : goal.returns
+returns c = record {
+  bad_target = bad_target-told;
+  bad_source = bad_source-told;
+  bad_body = bad_body-told;
+  line_too_long = line_too_long-told;
+}

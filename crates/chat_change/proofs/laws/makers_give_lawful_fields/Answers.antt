@@ -1,0 +1,10 @@
+use Rattle.chat_change.proofs.MakingLaws.{buffer_fault-lawful, lawful_buffer, id_fault-lawful, record_fault-lawful}
+use Rattle.chat_change.proofs.laws.makers_give_lawful_fields.Goals as goal
+
+pub returns : goal.returns
+returns c = record {
+  buffer_parts = buffer_fault-lawful;
+  buffers = lawful_buffer;
+  ids = id_fault-lawful;
+  messages = record_fault-lawful;
+}

@@ -1,0 +1,64 @@
+-- The words that changes are made of: names of accounts and networks, targets, message ids, sources and bodies
+-- (RFC 1459 and RFC 2812, section 2.3; IRCv3 message-ids), and how letters are folded.
+use Rattle.std.specs.Prelude.{ℕ, ◌+◌, Bool, true, false, not, ◌&&◌, ◌||◌, ◌==◌, nat_lt, nat_le, List, [], ◌∷◌, length, map, if◌then◌else◌}
+use Rattle.std.specs.List.{list_any, list_all}
+
+-- the text has at least one byte and at most so many
+abbrev pub has_length_to : ℕ → List ℕ → Bool
+has_length_to most text = nat_lt 0 (length text) && nat_le (length text) most
+
+abbrev pub begins_with : ℕ → List ℕ → Bool
+begins_with byte [] = false
+begins_with byte (b ∷ bytes) = b == byte
+
+abbrev pub begins_with_colon : List ℕ → Bool
+begins_with_colon = begins_with 58
+
+-- NUL, LF and CR stand in no line
+abbrev pub ends_line : ℕ → Bool
+ends_line b = (b == 0) || (b == 10) || (b == 13)
+
+-- nor does a space stand in a word
+abbrev pub ends_word : ℕ → Bool
+ends_word b = ends_line b || (b == 32)
+
+-- nor a comma in a target, since targets are listed with commas between them
+abbrev pub ends_target : ℕ → Bool
+ends_target b = ends_word b || (b == 44)
+
+-- `a` to `z`, `0` to `9`, `-` and `_`
+abbrev pub is_name_byte : ℕ → Bool
+is_name_byte b = (nat_le 97 b && nat_le b 122) || (nat_le 48 b && nat_le b 57) || (b == 45) || (b == 95)
+
+-- the name of an account or of a network
+abbrev pub is_name : List ℕ → Bool
+is_name text = has_length_to 32 text && list_all is_name_byte text
+
+-- the text is `*`
+abbrev pub is_star : List ℕ → Bool
+is_star text = (length text == 1) && begins_with 42 text
+
+-- a channel or a nick
+abbrev pub is_target : List ℕ → Bool
+is_target text = has_length_to 200 text && not (list_any ends_target text) && not (begins_with_colon text) && not (is_star text)
+
+-- a message id
+abbrev pub is_id : List ℕ → Bool
+is_id text = has_length_to 255 text && not (list_any ends_word text) && not (begins_with_colon text)
+
+-- who sent a message: the rule of an id
+abbrev pub is_source : List ℕ → Bool
+is_source = is_id
+
+-- what a message says, which may be nothing
+abbrev pub is_body : List ℕ → Bool
+is_body text = not (list_any ends_line text)
+
+-- ---- folding
+
+-- letters are folded from `A`..`Z` to `a`..`z` alone
+abbrev pub fold_byte : ℕ → ℕ
+fold_byte b = if nat_le 65 b && nat_le b 90 then b + 32 else b
+
+abbrev pub folded : List ℕ → List ℕ
+folded text = map fold_byte text
