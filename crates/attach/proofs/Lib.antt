@@ -1,0 +1,3 @@
+pub mod HallMap
+pub mod LentBox
+pub mod PlaceRule
