@@ -136,18 +136,29 @@ fn writes_tags(rt: HostRuntime) -> Result<(), Fail> {
     Ok(())
 }
 
-/// A tag and a value are written with their escapes, and an empty value as nothing.
+/// Tags and a value are written with their escapes, an empty value as nothing, up to the write that fails.
 #[test]
 fn writes_values(rt: HostRuntime) -> Result<(), Fail> {
-    let mut writer = OneByte {
-        bytes: Vec::new(rt.alloc()),
-        writes_left: 14,
-        interrupts: true,
-    };
-    assert!(rt; write_tag(b"+a", b";", &mut writer).is_ok());
-    assert!(rt; write_tag(b"b", b"", &mut writer).is_ok());
-    assert!(rt; write_value(b" \\\r\n", &mut writer).is_ok());
-    assert!(rt; writer.bytes.as_slice() == br"+a=\:b\s\\\r\n".as_slice());
+    let text = br"+a=\:b\s\\\r\n";
+    for k in 0..text.len() + 1 {
+        let mut writer = OneByte {
+            bytes: Vec::new(rt.alloc()),
+            writes_left: k,
+            interrupts: k % 2 == 0,
+        };
+        assert_eq!(rt;
+            write_tag(b"+a", b";", &mut writer).is_ok(),
+            k >= 5,
+            "at {k}"
+        );
+        assert_eq!(rt; write_tag(b"b", b"", &mut writer).is_ok(), k >= 6, "at {k}");
+        assert_eq!(rt;
+            write_value(b" \\\r\n", &mut writer).is_ok(),
+            k == 14,
+            "at {k}"
+        );
+        assert!(rt; writer.bytes.as_slice() == &text[..k], "at {k}");
+    }
     assert!(rt; read_value(rt.alloc(), br"\s\\\r\n")?.as_slice() == b" \\\r\n".as_slice());
     Ok(())
 }
