@@ -7,14 +7,11 @@ use mathlib.Core.Option.{none, some, some-injective, some-ne-none}
 use native.Mathlib.Decide.{ℕ_discrete}
 use lib.ListN.{get_elem?}
 use prog.Atomic.{either}
-use Rattle.atomic_table.specs.Table.{State, Me, step, keeps, stepped, opening, Allows, Splits}
+use Rattle.atomic_table.specs.Table.{Me, step, keeps, stepped, opening, Allows, Splits}
 use Rattle.attach.specs.Places.{Holds, IsOneHolder, claimed, released}
-use Rattle.attach.specs.Steps.{Reached, OneHolderAtEveryStep, FreeOrHeldAtEveryStep}
+use Rattle.attach.specs.Steps.{PlaceState, Reached, OneHolderAtEveryStep, FreeOrHeldAtEveryStep}
 use Rattle.attach.specs.Steps.Reached.{made, split_off, claims as claims_one, finds_taken, frees as frees_one, drops}
 use Rattle.atomic_table.proofs.Lists.{at_set, set_here, set_else, set_again, at_longer, at_snoc}
-
-abbrev St : Type 0
-St = State (Unit {0}) (Option ℕ)
 
 -- a seat with this view holds just this place
 same_place : (views : List (Option ℕ)) (seat place other : ℕ) → Holds views seat place → Holds views seat other → place ≡ other
@@ -29,7 +26,7 @@ there (x ∷ xs) zero a e = omega arith
 there (x ∷ xs) (suc i) a e = omega (arith, there xs i a e)
 
 -- the holder of the place gives it up, and its word becomes 0
-gives : (count id place : ℕ) (s : St) → IsOneHolder count s → Holds s.views id place → IsOneHolder count (stepped s place 0 id [] None keeps)
+gives : (count id place : ℕ) (s : PlaceState) → IsOneHolder count s → Holds s.views id place → IsOneHolder count (stepped s place 0 id [] None keeps)
 gives count id place s r at =
     record {
       width = length-set s.words place 0 ∙ r.width;
@@ -100,7 +97,7 @@ splits count id s r at =
     }
 
 -- the seat takes a place whose word was 0, and the word becomes 1
-takes : (count id place : ℕ) (s : St) → IsOneHolder count s → get_elem? s.views id ≡ some None → place < count → get_or s.words place 0 ≡ 0
+takes : (count id place : ℕ) (s : PlaceState) → IsOneHolder count s → get_elem? s.views id ≡ some None → place < count → get_or s.words place 0 ≡ 0
     → IsOneHolder count (stepped s place 1 id [] (Some place) keeps)
 takes count id place s r at small free =
     let clear = λ (seat : ℕ) (h : Holds s.views seat place). let one = (r.taken seat place h).1 in let no : ◌≡◌ {A = ℕ} 0 1 = sym free ∙ one in absurd {A = ⊥} (omega (arith, no)) in record {
@@ -134,7 +131,7 @@ takes count id place s r at small free =
     }
 
 -- nothing changes
-unmoved : (count id place : ℕ) (s : St) → get_elem? s.views id ≡ some None → IsOneHolder count s → IsOneHolder count (stepped s place (get_or s.words place 0) id [] None keeps)
+unmoved : (count id place : ℕ) (s : PlaceState) → get_elem? s.views id ≡ some None → IsOneHolder count s → IsOneHolder count (stepped s place (get_or s.words place 0) id [] None keeps)
 unmoved count id place s at r =
     let words = set-get_or s.words place 0 in
     let views = set_again s.views id None at in
@@ -172,7 +169,7 @@ pub splits_at : (count id : ℕ) (me : Me (Unit {0}) (Option ℕ)) → me ≡ (N
 splits_at count id me is = subst (λ (m : Me (Unit {0}) (Option ℕ)). Splits (IsOneHolder count) id m.0 m.0 None) (sym is) (splits count id)
 
 -- the rule holds wherever the steps lead
-reached : (count : ℕ) (s : State (Unit {0}) (Option ℕ)) → Reached count s → IsOneHolder count s
+reached : (count : ℕ) (s : PlaceState) → Reached count s → IsOneHolder count s
 reached count _ made = opens count (replicate count 0) refl
 reached count _ (split_off s seat r at) = rw (set_again s.views seat None at) at (splits count seat s (reached count s r) at)
 reached count _ (claims_one s seat place r at small free) = takes count seat place s (reached count s r) at small free

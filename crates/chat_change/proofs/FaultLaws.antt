@@ -1,5 +1,5 @@
 -- Of several faults the first is told, each exactly where what goes before it is lawful.
-use Rattle.std.proofs.Common.{◌≡◌, ◌<◌, Bool, true, false, not, ◌&&◌, nat_lt, List, ℕ, length, Option, None, Some, ◌↔◌, refl, sym, ◌∙◌, arith}
+use Rattle.std.proofs.Common.{◌≡◌, ◌<◌, Bool, true, false, not, ◌&&◌, nat_lt, List, ℕ, length, Option, None, Some, ◌↔◌, refl, arith}
 use Rattle.std.proofs.lemmas.Bool.Decides.{nat_tests}
 use Rattle.chat_change.specs.Words.{is_name, is_target, is_id, is_source, is_body}
 use Rattle.chat_change.specs.Record.{line_of, line_limit}

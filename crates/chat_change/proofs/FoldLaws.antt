@@ -1,9 +1,9 @@
 -- Folding keeps a target a target, and changes nothing that is folded.
-use Rattle.std.proofs.Common.{◌≡◌, ◌+◌, ◌≤◌, ◌<◌, ℕ, Bool, true, false, not, ◌&&◌, ◌||◌, ◌==◌, nat_lt, nat_le, List, [], ◌∷◌, length, map, ◌⊎◌, inl, inr, refl, sym, ap, ◌∙◌, arith, lit<, if◌then◌else◌}
+use Rattle.std.proofs.Common.{◌≡◌, ◌<◌, ℕ, not, ◌&&◌, ◌||◌, ◌==◌, nat_lt, nat_le, List, [], ◌∷◌, length, refl, arith, lit<}
 use Rattle.std.specs.List.{list_any}
 use Rattle.std.proofs.lemmas.List.{length-map}
 use Rattle.std.proofs.lemmas.Bool.Decides.{nat_tests}
-use Rattle.chat_change.specs.Words.{fold_byte, folded, ends_target, begins_with, is_star, has_length_to, is_target}
+use Rattle.chat_change.specs.Words.{fold_byte, folded, ends_target, begins_with, is_target}
 
 pub ends_target-fold : (b : ℕ) → ends_target (fold_byte b) ≡ ends_target b
 ends_target-fold b = grind (arith, nat_tests)

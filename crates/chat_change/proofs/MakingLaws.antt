@@ -1,5 +1,5 @@
 -- What is not refused is lawful.
-use Rattle.std.proofs.Common.{◌≡◌, ◌≤◌, ℕ, Bool, true, false, not, ◌&&◌, nat_lt, List, length, Option, None, Some, ◌↔◌, refl, sym, ap, ◌∙◌, arith}
+use Rattle.std.proofs.Common.{◌≡◌, ◌≤◌, ℕ, Bool, true, false, not, ◌&&◌, nat_lt, List, length, Option, None, ◌↔◌, refl, ap, ◌∙◌, arith}
 use Rattle.std.proofs.lemmas.Bool.Decides.{nat_tests}
 use Rattle.chat_change.specs.Words.{is_name, is_target, is_id, is_source, is_body}
 use Rattle.chat_change.specs.Record.{line_of, line_limit, IsLawfulMessage}

@@ -1,6 +1,6 @@
 -- The words that changes are made of: names of accounts and networks, targets, message ids, sources and bodies
 -- (RFC 1459 and RFC 2812, section 2.3; IRCv3 message-ids), and how letters are folded.
-use Rattle.std.specs.Prelude.{ℕ, ◌+◌, Bool, true, false, not, ◌&&◌, ◌||◌, ◌==◌, nat_lt, nat_le, List, [], ◌∷◌, length, map, if◌then◌else◌}
+use Rattle.std.specs.Prelude.{ℕ, ◌+◌, Bool, false, not, ◌&&◌, ◌||◌, ◌==◌, nat_lt, nat_le, List, [], ◌∷◌, length, map, if◌then◌else◌}
 use Rattle.std.specs.List.{list_any, list_all}
 
 -- the text has at least one byte and at most so many

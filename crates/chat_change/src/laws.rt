@@ -10,7 +10,8 @@ ghost use Rattle.chat_change.specs.Record.{line_of, line_limit};
 ghost use Rattle.chat_change.specs.Making.{buffer_fault, buffer_of, id_fault, record_fault};
 ghost use Rattle.chat_change.specs.Order.{text_cmp, buffer_cmp, record_cmp, GoesBefore};
 ghost use Rattle.chat_change.specs.declared.records.Kind.{Kind};
-ghost use Rattle.chat_change.specs.declared.faults.ChangeFault.TheVariants.{BadName, BadTarget, BadId, BadSource, BadBody, LineTooLong};
+ghost use Rattle.chat_change.specs.declared.faults.ChangeFault.TheVariants.{BadName, BadTarget, BadId};
+ghost use Rattle.chat_change.specs.declared.faults.ChangeFault.TheVariants.{BadSource, BadBody, LineTooLong};
 
 /// Of the records of one message one is kept, whatever the order in which they are compared.
 ///

@@ -25,10 +25,11 @@ pub struct Feeder {
     buffer: Vec<u8>,
     // Of the bytes before it lines were made.
     start: usize,
-    // No LF stands from `start` up to here.
-    searched: usize,
     // The rest of a line that was too long is still to come.
     in_long_line: bool,
+    // No LF stands from `start` up to here. It is no neighbour of `start`, since both would then be loaded as one
+    // vector just after one of them was written, which is slow where bytes come one by one.
+    searched: usize,
 }
 
 impl Model for Feeder {

@@ -44,15 +44,20 @@ fn parameter_bytes(line: &Line<'_>) -> u64 {
     bytes
 }
 
+/// Reads the line, and counts it if it can be read. It stands apart from the loop, so that its locals cost nothing where
+/// no line comes.
+#[inline(never)]
+fn count_line(text: &[u8], totals: &mut Totals) {
+    if let Ok(line) = read_line(text, TagLimit::Server) {
+        totals.lines = totals.lines.wrapping_add(1);
+        totals.bytes = totals.bytes.wrapping_add(parameter_bytes(&line));
+    }
+}
+
 fn take_lines(feeder: &mut Feeder, totals: &mut Totals) {
     for _ in 0..u64::MAX {
         match feeder.next_line() {
-            Next::Line(text) => {
-                if let Ok(line) = read_line(text, TagLimit::Server) {
-                    totals.lines = totals.lines.wrapping_add(1);
-                    totals.bytes = totals.bytes.wrapping_add(parameter_bytes(&line));
-                }
-            }
+            Next::Line(text) => count_line(text, totals),
             Next::TooLong => {}
             Next::More => return,
         }

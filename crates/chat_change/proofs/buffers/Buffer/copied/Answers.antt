@@ -1,4 +1,4 @@
-use Rattle.std.proofs.Common.{◌≡◌, true, sym, ap, ◌∙◌}
+use Rattle.std.proofs.Common.{sym, ap, ◌∙◌}
 use Rattle.chat_change.specs.Words.{is_name, is_target, folded}
 use Rattle.chat_change.proofs.FoldLaws.{folded-folded, is_target-folded}
 use Rattle.chat_change.proofs.buffers.Buffer.copied.Goals as goal

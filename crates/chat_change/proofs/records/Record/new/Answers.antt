@@ -1,5 +1,4 @@
-use Rattle.std.proofs.Common.{sym, ◌∙◌, subst}
-use Rattle.chat_change.specs.Record.{IsLawfulMessage}
+use Rattle.std.proofs.Common.{sym}
 use Rattle.chat_change.proofs.MakingLaws.{lawful_message}
 use Rattle.chat_change.proofs.records.Record.new.Goals as goal
 
