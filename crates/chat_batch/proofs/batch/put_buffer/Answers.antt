@@ -1,0 +1,31 @@
+use Rattle.std.proofs.Common.{◌≡◌, ℕ, List, [], ◌∷◌, ◌++◌, Bool, true, false, cond, codes, None, refl, ap, ◌∙◌}
+use Rattle.output.proofs.Fronts.{front_of_first, front_same, writes_second, writes_failed, writes_same}
+use Rattle.irc_caps.specs.declared.CapSet.{CapSet}
+use Rattle.irc_time.specs.Written.{time_text}
+use Rattle.chat_batch.specs.Reply.{reply}
+use Rattle.chat_batch.specs.Tags.{tag_part, only_if, batch_tags}
+use Rattle.chat_batch.specs.Batch.{buffer_text}
+use Rattle.chat_batch.proofs.batch.put_buffer.Goals as goal
+
+one_tag : (b : Bool) (reference : List ℕ) → cond b (codes "@batch=" ++ (reference ++ codes " ")) [] ≡ tag_part (only_if b (codes "batch=" ++ reference))
+one_tag true reference = refl
+one_tag false reference = refl
+
+line : (caps : CapSet) (cluster reference target time : List ℕ) (at : ℕ) → time ≡ time_text at
+    → cond caps.batch (codes "@batch=" ++ (reference ++ codes " ")) [] ++ reply cluster (codes "CHATHISTORY") (codes "TARGETS" ∷ target ∷ time ∷ []) None
+    ≡ buffer_text caps cluster reference (at, target)
+line caps cluster reference target time at e =
+    ap (λ l. l ++ reply cluster (codes "CHATHISTORY") (codes "TARGETS" ∷ target ∷ time ∷ []) None) (one_tag caps.batch reference)
+    ∙ ap (λ l. tag_part (batch_tags caps reference) ++ reply cluster (codes "CHATHISTORY") (codes "TARGETS" ∷ target ∷ l ∷ []) None) e
+
+pub returns-in_err-put_batch_tag : goal.returns-in_err-put_batch_tag
+returns-in_err-put_batch_tag g c =
+    writes_failed _ _ _ _ c.from_residual.result c.from_residual.ensures.1
+    (front_same _ _ _ _ (line c.args.caps c.args.cluster.now c.args.reference.now c.args.buffer.now.target.now (time_text c.args.buffer.now.at) c.args.buffer.now.at refl)
+    (front_of_first _ _ _ _ c.in_err-put_batch_tag.ensures))
+
+pub returns : goal.returns
+returns g c =
+    writes_same _ _ _ _ c.write_reply.result
+    (line c.args.caps c.args.cluster.now c.args.reference.now c.args.buffer.now.target.now c.write_time-at.result c.args.buffer.now.at c.write_time-at.ensures.text)
+    (writes_second _ _ _ _ _ c.write_reply.result c.in_ok-put_batch_tag.ensures c.write_reply.ensures)

@@ -1,0 +1,5 @@
+pub mod Reply
+pub mod Tags
+pub mod Message
+pub mod Batch
+pub mod Latest

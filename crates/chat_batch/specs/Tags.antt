@@ -1,0 +1,26 @@
+-- The tags of the lines that are written (IRCv3 message-tags, "Format").
+use Rattle.std.specs.Prelude.{ℕ, Bool, List, [], ◌∷◌, ◌++◌, codes, if◌then◌else◌}
+use Rattle.irc_caps.specs.declared.CapSet.{CapSet}
+use Rattle.irc_tags.specs.Escape.{escaped}
+use Rattle.irc_time.specs.Written.{time_text}
+use Rattle.chat_change.specs.Record.{Record}
+
+-- tags as they stand before a line: `@`, the tags with `;` between them, and a space. No tags are nothing.
+abbrev pub more_tags : List (List ℕ) → List ℕ
+more_tags [] = codes " "
+more_tags (tag ∷ tags) = codes ";" ++ (tag ++ more_tags tags)
+
+abbrev pub tag_part : List (List ℕ) → List ℕ
+tag_part [] = []
+tag_part (tag ∷ tags) = codes "@" ++ (tag ++ more_tags tags)
+
+abbrev pub only_if : Bool → List ℕ → List (List ℕ)
+only_if b tag = if b then tag ∷ [] else []
+
+-- the tag of a line in a batch (IRCv3 batch)
+abbrev pub batch_tags : CapSet → List ℕ → List (List ℕ)
+batch_tags caps reference = only_if caps.batch (codes "batch=" ++ reference)
+
+-- the tags of a message: its id (IRCv3 message-ids) and its moment (IRCv3 server-time)
+abbrev pub message_tags : CapSet → Record → List (List ℕ)
+message_tags caps r = only_if caps.message_tags (codes "msgid=" ++ escaped r.id) ++ only_if caps.server_time (codes "time=" ++ time_text r.at)

@@ -1,0 +1,50 @@
+//! The line of a record (RFC 2812, sections 2.3, 3.3.1 and 3.3.2).
+ghost use Rattle.output.specs.Writes.{Writes};
+ghost use Rattle.chat_batch.specs.Message.{message_line, record_text, live_text};
+
+use super::tags::put_tags;
+use chat_change::Record;
+use irc_caps::CapSet;
+use irc_line::{OutLine, write_line};
+use std::io;
+use std::io::Write;
+
+/// Writes a message as it was sent.
+fn put_message<W: Write>(writer: &mut W, message: &Record) -> io::Result<()>
+    ensures { Writes (W.contents writer.old) (W.contents writer.new) result (message_line message.now) }
+{
+    let middles = [message.target()];
+    let line = OutLine {
+        tags: None,
+        source: Some(message.source()),
+        command: message.kind().word(),
+        middles: &middles,
+        trailing: Some(message.body()),
+    };
+    write_line(&line, writer)
+}
+
+/// Writes a record in a batch under that reference.
+pub(crate) fn put_record<W: Write>(
+    message: &Record,
+    caps: CapSet,
+    reference: &[u8],
+    writer: &mut W,
+) -> io::Result<()>
+    ensures { Writes (W.contents writer.old) (W.contents writer.new) result (record_text caps reference.now message.now) }
+{
+    put_tags(writer, caps, reference, message)?;
+    put_message(writer, message)
+}
+
+/// Writes a record as it comes, without a batch: the line `:source KIND target :body`, with the tags `msgid` and `time`
+/// for a session that holds `message-tags` and `server-time`. Fails where the writer fails.
+pub fn write_live<W: Write>(message: &Record, caps: &CapSet, writer: &mut W) -> io::Result<()>
+    ensures { Writes (W.contents writer.old) (W.contents writer.new) result (live_text caps.now message.now) }
+{
+    let unbatched = CapSet {
+        batch: false,
+        ..*caps
+    };
+    put_record(message, unbatched, b"", writer)
+}

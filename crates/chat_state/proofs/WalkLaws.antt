@@ -1,0 +1,99 @@
+-- The walk over the buffers of a history that have certain records.
+use Rattle.std.proofs.Common.{◌≡◌, Bool, true, false, cond, not, Option, Some, None, List, [], ◌∷◌, ◌++◌, map, refl, sym, ◌∙◌, ap, append_assoc}
+use Rattle.std.specs.Prelude.{◌↔◌}
+use Rattle.std.proofs.lemmas.Bool.{false≢true}
+use Rattle.std.proofs.lemmas.List.{append-nil}
+use Rattle.std.specs.declared.cmp.Ordering.{Ordering}
+use Rattle.std.specs.declared.cmp.Ordering.TheVariants.{Less, Equal, Greater}
+use Rattle.std.specs.Ordering.{is_lt, is_gt}
+use Rattle.std.specs.List.{filter, filter_map, IsDistinct}
+use Rattle.std.specs.List.Sorted.{IsStrictlySortedBy}
+use Rattle.chat_change.specs.Buffer.{Buffer}
+use Rattle.chat_change.specs.Order.{buffer_cmp}
+use Rattle.chat_change.specs.declared.changes.Change.{Change}
+use Rattle.chat_change.proofs.OrderLaws.{buffer_total, buffer_exact}
+use Rattle.chat_state.specs.declared.state.Piece.{Piece}
+use Rattle.chat_state.specs.declared.walk.Sought.{Sought}
+use Rattle.chat_state.specs.Key.{key_of, same_key}
+use Rattle.chat_state.specs.History.{History, changes_of}
+use Rattle.chat_state.specs.Pieces.{history_of, piece_keys}
+use Rattle.chat_state.specs.Scan.{Among, IsFirst, if_passes}
+use Rattle.chat_state.specs.Walk.{sought_in, in_buffer_order, sought_buffers, is_past, sought_past, all_past}
+use Rattle.chat_state.proofs.MemberLaws.{among-filter_map, among_made}
+use Rattle.chat_state.proofs.EntryLaws.{ordered_member, member_ordered, ordered_by_key}
+use Rattle.chat_state.proofs.PieceVec.{pieces_keyed}
+use Rattle.chat_state.proofs.VisibleLaws.{change_held, held_change}
+use Rattle.chat_state.proofs.SortedLaws.{less_upto, from_member, passing_from, none_passing}
+use Rattle.chat_state.proofs.CursorLaws.{passed, piece_of, get_piece}
+
+-- ---- buffers in their order
+
+pub in_order_member : (bs : List Buffer) (b : Buffer) → Among b (in_buffer_order bs) → Among b bs
+in_order_member bs b m = ordered_member buffer_total buffer_exact (λ (b : Buffer). b) bs b m
+
+pub member_in_order : (bs : List Buffer) (b : Buffer) → Among b bs → Among b (in_buffer_order bs)
+member_in_order bs b m = member_ordered buffer_total buffer_exact (λ (b : Buffer). b) bs b m (λ d n e. e)
+
+pub buffers_sorted : (bs : List Buffer) → IsStrictlySortedBy buffer_cmp (in_buffer_order bs)
+buffers_sorted bs = ordered_by_key buffer_total buffer_exact (λ (b : Buffer). b) bs
+
+-- ---- a step of the walk
+
+less : (o : Ordering) → is_lt o ≡ true → o ≡ Less
+less Less e = refl
+less Equal e = absurd (false≢true e)
+less Greater e = absurd (false≢true e)
+
+pub past_closed : (last : Option Buffer) (x y : Buffer) → is_past last x ≡ true → is_gt (buffer_cmp x y) ≡ false → is_past last y ≡ true
+past_closed None x y t l = refl
+past_closed (Some a) x y t l = ap is_lt (less_upto buffer_total a x y (less (buffer_cmp a x) t) l)
+
+module _ (s : Sought) (ps : List Piece) (d : IsDistinct same_key (piece_keys ps)) (last : Option Buffer) where
+  abbrev buffers : List Buffer
+  buffers = sought_buffers s (history_of ps)
+
+  -- the buffers of pieces that are sought are those of the history
+  pub past_buffer : (b : Buffer) → Among b (all_past s last ps) ↔ (Among b buffers × (is_past last b ≡ true))
+  past_buffer b = (
+    λ m.
+        let r = among-filter_map (λ (p : Piece). sought_past s last p.change) ps b m in
+        let t = passed (is_past last) (sought_in s r.0.change) b r.2 in
+        let h = held_change (history_of ps) (pieces_keyed ps) r.0.change (get_piece ps r.0 d r.1) in
+        (member_in_order (filter_map (sought_in s) (changes_of (history_of ps))) b (among_made (sought_in s) (changes_of (history_of ps)) r.0.change b h t.0), t.1),
+    λ v.
+        let r = among-filter_map (sought_in s) (changes_of (history_of ps)) b (in_order_member (filter_map (sought_in s) (changes_of (history_of ps))) b v.0) in
+        let p = piece_of ps (key_of r.0) r.0 (change_held (history_of ps) (pieces_keyed ps) r.0 r.1) in
+        among_made (λ (p : Piece). sought_past s last p.change) ps p.0 b p.1
+        (ap (sought_past s last) p.2 ∙ ap (if_passes (is_past last)) r.2 ∙ ap (λ t. cond t (Some b) None) v.1),
+  )
+
+  pub walk_end : IsFirst buffer_cmp (all_past s last ps) None → filter (is_past last) buffers ≡ []
+  walk_end f = none_passing buffer_total buffers (all_past s last ps) (is_past last) (past_closed last) past_buffer f
+
+  pub walk_step : (b : Buffer) → IsFirst buffer_cmp (all_past s last ps) (Some b) → filter (is_past last) buffers ≡ b ∷ filter (is_past (Some b)) buffers
+  walk_step b f =
+      passing_from buffer_total buffers (all_past s last ps) (is_past last) (past_closed last) past_buffer b f
+      ∙ from_member buffer_total buffers b (buffers_sorted (filter_map (sought_in s) (changes_of (history_of ps)))) ((past_buffer b).0 f.0).0
+
+  pub is_one : (b : Buffer) → IsFirst buffer_cmp (all_past s last ps) (Some b) → Among b buffers
+  is_one b f = ((past_buffer b).0 f.0).0
+
+-- ---- a list that is made of the buffers, one for each
+
+pub filter_all : {A : Type 0} (xs : List A) → filter (λ x. true) xs ≡ xs
+filter_all [] = refl
+filter_all (x ∷ xs) = ap (λ ys. x ∷ ys) (filter_all xs)
+
+module _ {X : Type 0} (f : Buffer → X) (bs : List Buffer) where
+  -- what is made so far, and what is left to make, are all
+  abbrev pub IsMade : List X → Option Buffer → Type 0
+  IsMade made last = made ++ map f (filter (is_past last) bs) ≡ map f bs
+
+  pub made_none : IsMade [] None
+  made_none = ap (map f) (filter_all bs)
+
+  pub made_more : (made : List X) (last : Option Buffer) (b : Buffer) → filter (is_past last) bs ≡ b ∷ filter (is_past (Some b)) bs → IsMade made last → IsMade (made ++ f b ∷ []) (Some b)
+  made_more made last b e h = append_assoc made (f b ∷ []) (map f (filter (is_past (Some b)) bs)) ∙ ap (λ cs. made ++ map f cs) (sym e) ∙ h
+
+  pub made_all : (made : List X) (last : Option Buffer) → filter (is_past last) bs ≡ [] → IsMade made last → made ≡ map f bs
+  made_all made last e h = sym (append-nil made) ∙ ap (λ cs. made ++ map f cs) (sym e) ∙ h

@@ -1,0 +1,40 @@
+-- Spots, and cuts between the records of a buffer.
+use Rattle.std.specs.Prelude.{Bool, true, false, not, Some, List, filter, nat_lt, nat_le}
+use Rattle.std.specs.declared.cmp.Ordering.{Ordering}
+use Rattle.std.specs.Ordering.{nat_cmp, on, then_cmp, is_lt, is_le}
+use Rattle.std.specs.Option.{option_cmp}
+use Rattle.std.specs.Cmp.{IsTotalOrder, then_total, on_total, nat_cmp_total}
+use Rattle.std.specs.Cmp.Lexicographic.{lists_total, options_total}
+use Rattle.chat_change.specs.Record.{Record}
+use Rattle.chat_change.specs.Order.{text_cmp}
+use Rattle.chat_state.specs.declared.spot.Spot.{Spot}
+use Rattle.chat_state.specs.declared.spot.Cut.{Cut}
+use Rattle.chat_state.specs.declared.spot.Cut.TheVariants.{Bottom, UnderTime, OverTime, UnderMsg, OverMsg, Top}
+
+-- by moment, and at equal moments by id. No id stands before all ids
+abbrev pub cut_cmp : Spot → Spot → Ordering
+cut_cmp = then_cmp (on (λ (s : Spot). s.at) nat_cmp) (on (λ (s : Spot). s.id) (option_cmp text_cmp))
+
+pub cut_total : IsTotalOrder cut_cmp
+cut_total = then_total (on_total (λ (s : Spot). s.at) nat_cmp_total) (on_total (λ (s : Spot). s.id) (options_total (lists_total nat_cmp_total)))
+
+-- where a record stands
+abbrev pub of_record : Record → Spot
+of_record r = record { at = r.at; id = Some r.id }
+
+-- whether a record stands above a cut
+abbrev pub is_above : Cut → Record → Bool
+is_above Bottom r = true
+is_above (UnderTime t) r = nat_le t r.at
+is_above (OverTime t) r = nat_lt t r.at
+is_above (UnderMsg s) r = is_le (cut_cmp s.now (of_record r))
+is_above (OverMsg s) r = is_lt (cut_cmp s.now (of_record r))
+is_above Top r = false
+
+-- the records above a cut, in their order
+abbrev pub above : Cut → List Record → List Record
+above cut records = filter (is_above cut) records
+
+-- the records below a cut, in their order
+abbrev pub below : Cut → List Record → List Record
+below cut records = filter (λ r. not (is_above cut r)) records
