@@ -1,0 +1,4 @@
+pub mod LineLaws
+pub mod NodeLaws
+pub mod ProgressLaws
+pub mod LatestLaws

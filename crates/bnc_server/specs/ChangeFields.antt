@@ -1,0 +1,48 @@
+-- What the code's fields of a line stand for.
+use Rattle.std.specs.Prelude.{◌≡◌, ⊤, Bool, true, false, Result, Err}
+use Rattle.chat_change.specs.declared.changes.Change.{Change}
+use Rattle.chat_change.specs.declared.faults.ChangeFault as maker
+use Rattle.chat_change.specs.declared.faults.ChangeFault.TheVariants as made
+use Rattle.bnc_server.specs.ChangeLine as spec
+use Rattle.bnc_server.specs.declared.change_line.BufferFields.{BufferFields}
+use Rattle.bnc_server.specs.declared.change_line.PostFields.{PostFields}
+use Rattle.bnc_server.specs.declared.change_line.ChangeLineFault.{ChangeLineFault}
+use Rattle.bnc_server.specs.declared.change_line.ChangeLineFault.TheVariants.{BadForm, BadField, NoMemory}
+
+abbrev pub names_in : BufferFields → spec.BufferFields
+names_in b = record { account = b.account.now; network = b.network.now; target = b.target.now; rest = b.rest.now }
+
+abbrev pub post_in : PostFields → spec.PostFields
+post_in p = record { id = p.id.now; at = p.at.now; kind = p.kind.now; to = p.to.now; source = p.source.now; body = p.body.now }
+
+-- the fault is the line's own; none is told of a line where there was no memory
+abbrev pub IsFaultOf : Result Change spec.Refusal → ChangeLineFault → Type 0
+IsFaultOf line BadForm = line ≡ Err spec.bad_form
+IsFaultOf line BadField = line ≡ Err spec.bad_field
+IsFaultOf line NoMemory = ⊤
+
+-- the same of a part of a line: it isn't lawful
+abbrev pub IsPartFault : Bool → ChangeLineFault → Type 0
+IsPartFault lawful BadForm = ⊥
+IsPartFault lawful BadField = lawful ≡ false
+IsPartFault lawful NoMemory = ⊤
+
+-- what a maker's fault is for a line
+abbrev pub line_fault : maker.ChangeFault → ChangeLineFault
+line_fault made.BadName = BadField
+line_fault made.BadTarget = BadField
+line_fault made.BadId = BadField
+line_fault made.BadSource = BadField
+line_fault made.BadBody = BadField
+line_fault made.LineTooLong = BadField
+line_fault made.NoMemory = NoMemory
+
+-- whether it was memory that a maker wanted
+abbrev pub is_want_of_memory : maker.ChangeFault → Bool
+is_want_of_memory made.BadName = false
+is_want_of_memory made.BadTarget = false
+is_want_of_memory made.BadId = false
+is_want_of_memory made.BadSource = false
+is_want_of_memory made.BadBody = false
+is_want_of_memory made.LineTooLong = false
+is_want_of_memory made.NoMemory = true

@@ -1,0 +1,9 @@
+pub mod Words
+pub mod Number
+pub mod ChangeLine
+pub mod ChangeFields
+pub mod ClientLine
+pub mod Asked
+pub mod Script
+pub mod HeldScript
+pub mod Progress

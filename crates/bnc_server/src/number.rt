@@ -1,0 +1,75 @@
+//! Decimal numbers in lines.
+ghost use Rattle.std.specs.Prelude.{◌≡◌, ◌≤◌, ◌<◌, ◌-◌, min};
+ghost use Rattle.std.specs.List.{list_all};
+ghost use Rattle.bnc_server.specs.Number as spec;
+
+use crate::words::begins_with;
+
+fn is_digit(b: u8) -> bool
+    ensures { result ≡ spec.is_digit b }
+{
+    b'0' <= b && b <= b'9'
+}
+
+fn has_digits_only(text: &[u8]) -> bool
+    ensures { result ≡ list_all spec.is_digit text.now }
+{
+    text.iter().all(|b| is_digit(*b))
+}
+
+fn is_digits(text: &[u8]) -> bool
+    ensures { result ≡ spec.is_digits text.now }
+{
+    !text.is_empty() && has_digits_only(text)
+}
+
+fn has_leading_zero(text: &[u8]) -> bool
+    ensures { result ≡ spec.has_leading_zero text.now }
+{
+    text.len() > 1 && begins_with(b'0', text)
+}
+
+// What a digit counts.
+fn digit_value(b: u8) -> u64
+    ensures value { result ≡ b - 48 }
+    ensures bound { result ≤ 255 }
+{
+    b.saturating_sub(b'0') as u64
+}
+
+// The value of the digits, or `most` where it is above that.
+fn value_to(most: u64, text: &[u8]) -> u64
+    requires { most ≤ 1000000000000000 }
+    ensures { result ≡ min most (spec.value text.now) }
+{
+    let mut n = 0u64;
+    'digits: for b in text {
+        n = (n * 10 + digit_value(*b)).min(most);
+    }
+    n
+}
+
+/// The number up to `most` that the text spells without a leading zero.
+pub(crate) fn number_to(most: u64, text: &[u8]) -> Option<u64>
+    requires { most ≤ 999999999999999 }
+    ensures { result ≡ spec.number_to most text.now }
+{
+    if !is_digits(text) || has_leading_zero(text) {
+        return None;
+    }
+    let n = value_to(most + 1, text);
+    if n <= most { Some(n) } else { None }
+}
+
+/// The limit that the text spells, at most `most`.
+pub(crate) fn limit_to(most: u64, text: &[u8]) -> Option<u64>
+    requires bound { most ≤ 1000000000000000 }
+    requires some { 0 < most }
+    ensures { result ≡ spec.limit_to most text.now }
+{
+    if !is_digits(text) {
+        return None;
+    }
+    let n = value_to(most, text);
+    if n > 0 { Some(n) } else { None }
+}

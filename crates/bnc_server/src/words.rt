@@ -1,0 +1,67 @@
+//! The words of a line.
+ghost use Rattle.std.specs.Prelude.{◌≡◌, ◌<◌, position, length, IfSome, IfOk, List, ℕ};
+ghost use Rattle.bnc_server.specs.Words as spec;
+
+use std::alloc::{AllocError, Global};
+use std::marker::Model;
+
+/// Whether the text is that word, byte for byte.
+pub(crate) fn is_text(text: &[u8], word: &[u8]) -> bool
+    ensures { result ≡ spec.is_text text.now word.now }
+{
+    text.cmp(word).is_eq()
+}
+
+pub(crate) fn begins_with(byte: u8, text: &[u8]) -> bool
+    ensures { result ≡ spec.begins_with byte text.now }
+{
+    !text.is_empty() && text[0] == byte
+}
+
+// The place of the first space.
+fn find_space(bytes: &[u8]) -> Option<usize>
+    ensures place { result ≡ position spec.is_space bytes.now }
+    ensures within { IfSome result (λ at. at < length bytes.now) }
+{
+    bytes.iter().position(|b| *b == b' ')
+}
+
+/// The first word, and what stands behind the one space that ends it.
+#[tactic(auto, unfolding(crate::specs::Words::word, crate::specs::Words::behind))]
+pub(crate) fn split_word(bytes: &[u8]) -> (&[u8], &[u8])
+    ensures word { result.0.now ≡ spec.word bytes.now }
+    ensures behind { result.1.now ≡ spec.behind bytes.now }
+{
+    match find_space(bytes) {
+        Some(at) => (&bytes[..at], &bytes[at + 1..]),
+        None => (bytes, &bytes[bytes.len()..]),
+    }
+}
+
+/// Bytes of one's own, as contracts see them their list.
+#[derive(Drop)]
+pub(crate) struct Text {
+    bytes: Vec<u8>,
+}
+
+impl Model for Text {
+    ghost Value = { List ℕ };
+
+    ghost view = { λ t. t.bytes.items };
+}
+
+impl Text {
+    pub(crate) fn new(alloc: Global, bytes: &[u8]) -> Result<Text, AllocError>
+        ensures { IfOk result (λ text. text ≡ bytes.now) }
+    {
+        let mut copied = Vec::new(alloc);
+        copied.extend_from_slice(bytes)?;
+        Ok(Text { bytes: copied })
+    }
+
+    pub(crate) fn as_bytes(&self) -> &[u8]
+        ensures { result.now ≡ self.now }
+    {
+        &self.bytes
+    }
+}

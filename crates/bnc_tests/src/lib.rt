@@ -1,0 +1,5 @@
+//! Tests that cross crates: scripts, and what is printed.
+#![tactic(auto)]
+
+#[cfg(test)]
+mod tests;
