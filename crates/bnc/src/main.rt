@@ -28,8 +28,7 @@ enum End {
 }
 
 impl End {
-    fn status(self) -> u8
-    {
+    fn status(self) -> u8 {
         match self {
             End::Usage => 2,
             End::NoMemory => 3,
@@ -92,13 +91,7 @@ fn answer_input(rt: &HostRuntime, account: &[u8], network: &[u8], nick: &[u8]) -
     let answered = replay(rt.alloc(), &mut reader, &mut writer, account, network, nick);
     let flushed = writer.flush().is_ok();
     match answered {
-        Ok(()) => {
-            if flushed {
-                Ok(())
-            } else {
-                Err(End::Device)
-            }
-        }
+        Ok(()) => { if flushed { Ok(()) } else { Err(End::Device) } }
         Err(ReplayFault::NoMemory) => Err(End::NoMemory),
         Err(_) => Err(End::Device),
     }

@@ -54,7 +54,10 @@ fn each_end_has_its_status(rt: HostRuntime) {
     assert_eq!(rt; End::Usage.status(), 2);
     assert_eq!(rt; End::NoMemory.status(), 3);
     assert_eq!(rt; End::Device.status(), 4);
-    assert_eq!(rt; End::Usage.text(), "usage: bnc replay <account> <network> <nick> | bnc serve <config>");
+    assert_eq!(rt;
+        End::Usage.text(),
+        "usage: bnc replay <account> <network> <nick> | bnc serve <config>"
+    );
     assert_eq!(rt; End::NoMemory.text(), "no memory");
     assert_eq!(rt; End::Device.text(), "read or write failed");
 }

@@ -83,6 +83,20 @@ goes-behind a b xs g h p = (p.0, p.1, λ more. p.2 (xs ++ more))
 pub goes-stops : (a b c : Option (List ℕ)) (f g : List ℕ → List ℕ) → Goes a b f g → ((more : List ℕ) → AppendsFront b c (g more)) → (more : List ℕ) → AppendsFront a c (f more)
 goes-stops a b c f g p q more = front_same a c _ _ (sym (p.2 more)) (front_of_second a b c p.0 (g more) p.1 (q more))
 
+-- nothing was written
+kept_is_none : (a b : Option (List ℕ)) → Keeps a b → Appends a b []
+kept_is_none None b k = tt
+kept_is_none (Some xs) None k = absurd k
+kept_is_none (Some xs) (Some ys) k = k ∙ sym (append-nil xs)
+
+-- what was written is sent on its way
+pub goes-flushed : (a b c : Option (List ℕ)) (f g : List ℕ → List ℕ) → Goes a b f g → Keeps b c → Goes a c f g
+goes-flushed a b c f g p k = goes-trans a b c f g g p ([], kept_is_none b c k, λ more. refl)
+
+-- that failed
+pub stops-flushed : (a b c : Option (List ℕ)) (f g : List ℕ → List ℕ) → Goes a b f g → Keeps b c → (more : List ℕ) → AppendsFront a c (f more)
+stops-flushed a b c f g p k = goes-stops a b c f g p (λ more. ([], g more, refl, kept_is_none b c k))
+
 -- an item that was answered
 pub goes-next : (a b : Option (List ℕ)) (node node' : HeldNode) (held held' : Held) → Appends a b (text_of_next node (next_item held)) → node' ≡ node_after_next node (next_item held)
     → held' ≡ left_after (next_item held) held → Goes a b (to_come node held) (to_come node' held')

@@ -1,12 +1,10 @@
 //! What a client's line asks for.
 ghost use Rattle.std.specs.Prelude.{◌≡◌, map};
-ghost use Rattle.irc_line.specs.Read.{read};
-ghost use Rattle.irc_line.specs.declared.line.TagLimit.TheVariants.{Client};
 ghost use Rattle.bnc_server.specs.ClientLine as spec;
 
 use crate::number::limit_to;
 use crate::words::is_text;
-use irc_line::{Line, LineFault, TagLimit, read_line};
+use irc_line::{LineFault, TagLimit, read_line};
 
 /// What a client's line asks for. Targets stand as they were given.
 #[derive(Clone, Copy)]
@@ -80,18 +78,12 @@ fn command<'a>(command: &[u8], parameters: &[&'a [u8]]) -> ClientLine<'a>
     }
 }
 
-fn read<'a>(bytes: &'a [u8]) -> Result<Line<'a>, LineFault>
-    ensures { result ≡ read Client bytes.now }
-{
-    read_line(bytes, TagLimit::Client)
-}
-
 /// What a client's line asks for. Its tags and its source are dropped.
 #[tactic(auto, unfolding(crate::specs::ClientLine::client_line))]
 pub(crate) fn client_line<'a>(bytes: &'a [u8]) -> ClientLine<'a>
     ensures { spec.shown result ≡ spec.client_line bytes.now }
 {
-    match read(bytes) {
+    match read_line(bytes, TagLimit::Client) {
         Err(LineFault::Empty) => ClientLine::Nothing,
         Err(LineFault::TagsTooLong) => ClientLine::OverLong,
         Err(LineFault::TooLong) => ClientLine::OverLong,

@@ -22,7 +22,7 @@ use crate::reply::{
 use crate::words::{Text, begins_with, is_text, split_word};
 use chat_change::{Buffer, Change, ChangeFault};
 use chat_page::latest_page;
-use chat_state::state::{State, StateFault};
+use chat_state::{State, StateFault};
 use std::alloc::{AllocError, Global};
 use std::io::Write;
 use std::marker::Model;

@@ -56,7 +56,7 @@ fn drain<W: Write>(
 }
 
 // Answers the lines that end in a piece of the script.
-fn serve_piece<W: Write>(
+fn feed_piece<W: Write>(
     node: &mut Node,
     feeder: &mut Feeder,
     alloc: Global,
@@ -74,6 +74,26 @@ fn serve_piece<W: Write>(
         drain(node, feeder, alloc, writer)?;
     }
     Ok(())
+}
+
+// Answers the lines that end in a piece of the script, and sends the answers on their way, so that whoever asked sees
+// them before more is read.
+fn serve_piece<W: Write>(
+    node: &mut Node,
+    feeder: &mut Feeder,
+    alloc: Global,
+    piece: &[u8],
+    writer: &mut W,
+) -> Result<(), ReplayFault>
+    requires drained { IsDrained feeder.old }
+    ensures advances { Advances (W.contents writer.old) (W.contents writer.new) result (λ more. to_come node.old feeder.old (piece.now ++ more)) (to_come node.new feeder.new) }
+    ensures drained { OnOk result (IsDrained feeder.new) }
+{
+    feed_piece(node, feeder, alloc, piece, writer)?;
+    match writer.flush() {
+        Ok(()) => Ok(()),
+        Err(_) => Err(ReplayFault::Write),
+    }
 }
 
 // Answers a script by that many reads at most.

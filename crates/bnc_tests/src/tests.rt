@@ -77,9 +77,11 @@ fn run(alloc: Global, mut reader: Pieces<'_>, writer: &mut Kept) -> Result<(), R
     replay(alloc, &mut reader, writer, b"demo", b"net", b"al")
 }
 
-const ONE_MESSAGE: &[u8] = b"C POST demo net #a m1 1000 P #a bob!b@h :hi\nCHATHISTORY LATEST #a * 10\n";
+const ONE_MESSAGE: &[u8] =
+    b"C POST demo net #a m1 1000 P #a bob!b@h :hi\nCHATHISTORY LATEST #a * 10\n";
 
-const ONE_PAGE: &[u8] = b":bnc.example BATCH +r1 chathistory #a\r\n@batch=r1;msgid=m1;time=1970-01-01T00:00:01.000Z :bob!b@h PRIVMSG #a :hi\r\n:bnc.example BATCH -r1\r\n";
+const ONE_PAGE: &[u8] =
+    b":bnc.example BATCH +r1 chathistory #a\r\n@batch=r1;msgid=m1;time=1970-01-01T00:00:01.000Z :bob!b@h PRIVMSG #a :hi\r\n:bnc.example BATCH -r1\r\n";
 
 #[test]
 fn pages_are_printed(rt: HostRuntime) {
@@ -108,7 +110,10 @@ fn pages_are_printed(rt: HostRuntime) {
     ];
     for (i, (script, want)) in rows.iter().enumerate() {
         let mut writer = empty_writer(rt.alloc());
-        assert!(rt; run(rt.alloc(), whole(script), &mut writer).is_ok(), "at {i}");
+        assert!(rt;
+            run(rt.alloc(), whole(script), &mut writer).is_ok(),
+            "at {i}"
+        );
         assert!(rt; writer.bytes.as_slice() == *want, "at {i}");
     }
 }
@@ -117,7 +122,10 @@ fn pages_are_printed(rt: HostRuntime) {
 fn other_lines_are_answered(rt: HostRuntime) {
     let rows: [(&[u8], &[u8]); 9] = [
         // The form of a change, and then its fields.
-        (b"C POST demo net #A m1 1000 P #a bob!b@h :hi\n", b"% BadField\r\n"),
+        (
+            b"C POST demo net #A m1 1000 P #a bob!b@h :hi\n",
+            b"% BadField\r\n",
+        ),
         (
             b"C MARK demo net #a 01000\nC  MARK demo net #a 1\nC MARK demo net #a 253402300800000\n",
             b"% BadField\r\n% BadForm\r\n% BadField\r\n",
@@ -147,11 +155,17 @@ fn other_lines_are_answered(rt: HostRuntime) {
         // Tags and source of a client's line are dropped.
         (b"@a=b :x MARKREAD #a\n", b":bnc.example MARKREAD #a *\r\n"),
         // What stands behind the last LF is ignored.
-        (b"MARKREAD #a\nMARKREAD #b", b":bnc.example MARKREAD #a *\r\n"),
+        (
+            b"MARKREAD #a\nMARKREAD #b",
+            b":bnc.example MARKREAD #a *\r\n",
+        ),
     ];
     for (i, (script, want)) in rows.iter().enumerate() {
         let mut writer = empty_writer(rt.alloc());
-        assert!(rt; run(rt.alloc(), whole(script), &mut writer).is_ok(), "at {i}");
+        assert!(rt;
+            run(rt.alloc(), whole(script), &mut writer).is_ok(),
+            "at {i}"
+        );
         assert!(rt; writer.bytes.as_slice() == *want, "at {i}");
     }
 }
@@ -184,7 +198,10 @@ fn long_lines_are_refused(rt: HostRuntime) {
     for (i, (front, count, end, want)) in rows.iter().enumerate() {
         let script = long_script(rt.alloc(), front, *count, end).expect(&rt, "memory");
         let mut writer = empty_writer(rt.alloc());
-        assert!(rt; run(rt.alloc(), whole(&script), &mut writer).is_ok(), "at {i}");
+        assert!(rt;
+            run(rt.alloc(), whole(&script), &mut writer).is_ok(),
+            "at {i}"
+        );
         assert!(rt; writer.bytes.as_slice() == *want, "at {i}");
     }
 }

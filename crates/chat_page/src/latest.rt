@@ -4,8 +4,7 @@ ghost use Rattle.chat_state.specs.Visible.{records_in};
 ghost use Rattle.chat_page.specs.Page.{last};
 
 use chat_change::{Buffer, Record};
-use chat_state::spot::{Cut, Spot};
-use chat_state::state::State;
+use chat_state::{Cut, Spot, State};
 use irc_time::Moment;
 use std::alloc::{AllocError, Global};
 

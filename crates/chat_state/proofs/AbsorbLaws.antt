@@ -22,8 +22,8 @@ use Rattle.chat_state.specs.History.{floor, floor_moment, marker_moment, posted_
 use Rattle.chat_state.specs.Step.{IsNoFloor, raises, renews, renewed, entering, settled, same_buffer, outlasts, lowered}
 use Rattle.chat_state.proofs.KeyLaws.{same_key_itself, same_key_is}
 use Rattle.chat_state.proofs.PieceLaws.{Bears, IsKeyed, bearing-append, bearing-changes_of, get-norm, piece_bears, norm_from_pieces}
-use Rattle.chat_state.proofs.NormLaws.{best, top, stays, at_least, records_closed, floor-append}
-use Rattle.chat_state.proofs.StepLaws.{settle, piece-settle, floor_set, floor_step, get_step, settle-post, settle-redaction}
+use Rattle.chat_state.proofs.NormLaws.{stays, at_least, records_closed, floor-append}
+use Rattle.chat_state.proofs.StepLaws.{settle, piece-settle, floor_set, settle-post, settle-redaction}
 
 -- a change of another key isn't borne
 borne_not : (k : Key) (c : Change) → same_key k (key_of c) ≡ false → bearing k (c ∷ []) ≡ []

@@ -1,17 +1,15 @@
 -- What the search for the nearest record says of the records of a history, and the steps of a cursor.
-use Rattle.std.proofs.Common.{◌≡◌, ℕ, ◌≤◌, ◌<◌, Bool, true, false, cond, not, Option, Some, None, List, [], ◌∷◌, map, reverse, length, refl, sym, ◌∙◌, ap, subst, arith, ⊎_elim, inl, inr, ◌⊎◌, Bor}
+use Rattle.std.proofs.Common.{◌≡◌, ◌≤◌, Bool, true, false, cond, not, Option, Some, None, List, [], ◌∷◌, map, reverse, refl, sym, ◌∙◌, ap, subst, arith, ⊎_elim, inl, inr, Bor}
 use Rattle.std.proofs.lemmas.Bool.{false≢true}
 use Rattle.std.proofs.lemmas.Bool.Decides.{nat_tests}
 use Rattle.std.proofs.lemmas.Map.Keys.{IsDistinct-head, IsDistinct-tail}
-use Rattle.std.proofs.lemmas.Option.{cond_some}
-use Rattle.std.specs.Prelude.{◌↔◌, nat_le, nat_lt}
+use Rattle.std.specs.Prelude.{◌↔◌}
 use Rattle.std.specs.declared.cmp.Ordering.{Ordering}
 use Rattle.std.specs.declared.cmp.Ordering.TheVariants.{Less, Equal, Greater}
-use Rattle.std.specs.Ordering.{is_lt, is_gt, is_le, on, nat_cmp, flip_args, ordering_then, eq_by_cmp}
-use Rattle.std.specs.Cmp.{IsTotalOrder, eq_by_cmp_equiv}
+use Rattle.std.specs.Ordering.{is_lt, is_gt, is_le, nat_cmp, flip_args, ordering_then}
+use Rattle.std.specs.Cmp.{eq_by_cmp_equiv}
 use Rattle.std.proofs.lemmas.Cmp.{upto}
-use Rattle.std.specs.List.{filter, filter_map, find, IsDistinct, AllByRecursion}
-use Rattle.std.specs.List.Sorted.{IsStrictlySortedBy}
+use Rattle.std.specs.List.{filter, find, IsDistinct}
 use Rattle.std.specs.Option.{IfSome, option_map}
 use Rattle.std.specs.FinMap as finite
 use Rattle.std.specs.Map.Iter.{deref}
@@ -19,7 +17,7 @@ use Rattle.chat_change.specs.Buffer.{Buffer}
 use Rattle.chat_change.specs.Record.{Record}
 use Rattle.chat_change.specs.Order.{text_cmp}
 use Rattle.chat_change.specs.declared.changes.Change.{Change}
-use Rattle.chat_change.specs.declared.changes.Change.TheVariants.{Post, Redact, Mark, Floor}
+use Rattle.chat_change.specs.declared.changes.Change.TheVariants.{Post}
 use Rattle.chat_state.specs.declared.state.Piece.{Piece}
 use Rattle.chat_state.specs.declared.scan.Edge.{Edge}
 use Rattle.chat_state.specs.declared.scan.Edge.TheVariants.{Above, Below, After, Before}
@@ -27,9 +25,10 @@ use Rattle.chat_state.specs.declared.spot.Cut.{Cut}
 use Rattle.chat_state.specs.declared.spot.Cut.TheVariants.{Bottom, UnderTime, OverTime, UnderMsg, OverMsg, Top}
 use Rattle.chat_state.specs.Key.{Key, MessageOf, key_cmp, key_of, same_key}
 use Rattle.chat_state.specs.Pieces.{entry_of, history_of, piece_keys}
-use Rattle.chat_state.specs.Visible.{spot_of, spot_cmp, posted_in, records_in}
+use Rattle.chat_state.specs.Visible.{posted_in, records_in}
 use Rattle.chat_state.specs.Cut.{cut_cmp, cut_total, of_record, is_above, above, below}
-use Rattle.chat_state.specs.Scan.{rising, is_beyond, nearer_cmp, if_passes, candidate, candidates, Among, IsFirst}
+use Rattle.chat_state.specs.Choice.{keep}
+use Rattle.chat_state.specs.Scan.{rising, is_beyond, nearer_cmp, candidate, candidates, Among, IsFirst}
 use Rattle.chat_state.specs.Cursor.{up_from, down_from, IsAtRecord}
 use Rattle.chat_state.proofs.KeyLaws.{key_total, key_exact, same_key_itself}
 use Rattle.chat_state.proofs.MemberLaws.{among-filter_map, among_made}
@@ -72,7 +71,7 @@ get_piece ps p d m = get-table (λ (p : Piece). p.change) ps (key_of p.change) �
 
 -- ---- candidates
 
-pub passed : {A : Type 0} (p : A → Bool) (u : Option A) (x : A) → if_passes p u ≡ Some x → (u ≡ Some x) × (p x ≡ true)
+pub passed : {A : Type 0} (p : A → Bool) (u : Option A) (x : A) → keep p u ≡ Some x → (u ≡ Some x) × (p x ≡ true)
 passed p None x e = cc
 passed p (Some y) x e =
     elim (p y) as (λ b. p y ≡ b → cond b (Some y) None ≡ Some x → (Some y ≡ Some x) × (p x ≡ true)) [
@@ -96,7 +95,7 @@ module _ (e : Edge) (b : Buffer) (ps : List Piece) (d : IsDistinct same_key (pie
   held_candidate r v t =
       let s = piece_of ps (MessageOf b r.id) (Post r) v.1 in
       among_made (λ (p : Piece). candidate e b p.change) ps s.0 r s.1
-      (ap (candidate e b) s.2 ∙ ap (if_passes (is_beyond e)) (posted_here b r v.0) ∙ ap (λ x. cond x (Some r) None) t)
+      (ap (candidate e b) s.2 ∙ ap (keep (is_beyond e)) (posted_here b r v.0) ∙ ap (λ x. cond x (Some r) None) t)
 
   -- the candidates are the records of the buffer on the side that is searched
   pub candidate_record : (r : Record) → Among r (candidates e b ps) ↔ (Among r (records_in h b) × (is_beyond e r ≡ true))

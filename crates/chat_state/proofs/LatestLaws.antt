@@ -1,8 +1,7 @@
 -- The walk over the buffers of an account on a network, and the latest moment of each.
-use Rattle.std.proofs.Common.{◌≡◌, ℕ, ◌≤◌, ◌<◌, Bool, true, false, cond, not, ◌&&◌, Option, Some, None, List, [], ◌∷◌, map, length, refl, sym, ◌∙◌, ap, subst, arith, Bor}
+use Rattle.std.proofs.Common.{◌≡◌, ℕ, ◌≤◌, Bool, true, false, cond, not, ◌&&◌, Option, Some, None, List, ◌∷◌, map, refl, sym, ◌∙◌, ap, subst, Bor}
 use Rattle.std.proofs.lemmas.Bool.{false≢true}
-use Rattle.std.specs.declared.cmp.Ordering.{Ordering}
-use Rattle.std.specs.Ordering.{is_lt, is_eq, is_gt}
+use Rattle.std.specs.Ordering.{is_lt, is_eq}
 use Rattle.std.specs.Cmp.{Equal-is}
 use Rattle.std.specs.List.{filter, filter_map, IsDistinct}
 use Rattle.std.specs.Option.{IfSome, option_map, unwrap_or}
@@ -18,7 +17,6 @@ use Rattle.chat_state.specs.declared.scan.Edge.TheVariants.{Below}
 use Rattle.chat_state.specs.declared.spot.Cut.{Cut}
 use Rattle.chat_state.specs.declared.spot.Cut.TheVariants.{Top}
 use Rattle.chat_state.specs.declared.walk.Sought.TheVariants.{OfNetwork}
-use Rattle.chat_state.specs.Choice.{greatest}
 use Rattle.chat_state.specs.Cut.{is_above}
 use Rattle.chat_state.specs.Key.{same_key}
 use Rattle.chat_state.specs.History.{changes_of}

@@ -1,12 +1,11 @@
 -- What the change that a history has of a key says of markers, floors and messages.
-use Rattle.std.proofs.Common.{◌≡◌, ℕ, Bool, true, false, ◌||◌, Option, Some, None, List, [], ◌∷◌, refl, sym, ◌∙◌, ap, subst, inl}
-use Rattle.std.specs.Prelude.{◌↔◌, IsTrue, Contains}
+use Rattle.std.proofs.Common.{◌≡◌, ℕ, Bool, true, false, ◌||◌, Option, Some, None, List, [], refl, sym, ◌∙◌, ap, subst, inl}
+use Rattle.std.specs.Prelude.{◌↔◌, IsTrue}
 use Rattle.std.proofs.lemmas.Bool.{false≢true}
 use Rattle.std.specs.List.{filter_map, list_any, cons_option}
 use Rattle.std.specs.Option.{option_and_then, option_to_list, unwrap_or}
 use Rattle.std.specs.FinMap.{get}
 use Rattle.chat_change.specs.Buffer.{Buffer}
-use Rattle.chat_change.specs.Record.{Record}
 use Rattle.chat_change.specs.declared.changes.Change.{Change}
 use Rattle.chat_change.specs.declared.changes.Change.TheVariants.{Post, Redact, Mark, Floor}
 use Rattle.chat_state.specs.Choice.{greatest}

@@ -1,5 +1,5 @@
 -- A vector of pieces as a history: what a write over a piece and a push of one do to it.
-use Rattle.std.proofs.Common.{◌≡◌, ℕ, zero, suc, ◌<◌, Bool, true, false, cond, Option, Some, None, List, [], ◌∷◌, ◌++◌, map, length, get_or, refl, sym, ◌∙◌, ap, subst, arith}
+use Rattle.std.proofs.Common.{◌≡◌, ℕ, ◌<◌, Bool, true, false, cond, Option, Some, None, List, [], ◌∷◌, ◌++◌, map, length, get_or, refl, sym, ◌∙◌, ap, subst, arith}
 use Rattle.std.proofs.Math.ListN.{set}
 use Rattle.std.proofs.lemmas.Bool.{false≢true}
 use Rattle.std.proofs.lemmas.Bool.Decides.{nat_tests}
@@ -11,9 +11,7 @@ use Rattle.std.specs.List.Retain.{RetainsInTurn}
 use Rattle.std.specs.List.{find, position_or_len, slice_get, AllByRecursion, IsDistinct, retain_mut}
 use Rattle.std.specs.Option.{IfSome, option_map, option_or, unwrap_or, is_some}
 use Rattle.std.specs.Prelude.{position, nat_lt, ◌≢◌, ◌≤◌, ◌↔◌, IsTrue, not}
-use Rattle.std.specs.Ordering.{is_lt}
 use Rattle.std.specs.FinMap as finite
-use Rattle.std.proofs.lemmas.Cmp.{tied_itself}
 use Rattle.chat_change.specs.Buffer.{Buffer}
 use Rattle.chat_change.specs.declared.changes.Change.{Change}
 use Rattle.chat_change.specs.declared.changes.Change.TheVariants.{Post, Redact, Mark, Floor}

@@ -1,14 +1,12 @@
 -- What is read off the normal form of a set of changes is what the set says.
-use Rattle.std.proofs.Common.{◌≡◌, ℕ, Bool, true, false, cond, Option, Some, None, List, [], ◌∷◌, refl, sym, ◌∙◌, ap}
-use Rattle.std.specs.List.{filter_map, list_any, cons_option}
+use Rattle.std.proofs.Common.{◌≡◌, ℕ, Bool, true, false, cond, Option, Some, None, List, [], refl, sym, ◌∙◌, ap}
+use Rattle.std.specs.List.{list_any, cons_option}
 use Rattle.std.specs.Option.{option_and_then, option_to_list}
 use Rattle.chat_change.specs.Buffer.{Buffer}
-use Rattle.chat_change.specs.Record.{Record}
 use Rattle.chat_change.specs.declared.changes.Change.{Change}
-use Rattle.chat_change.specs.declared.changes.Change.TheVariants.{Post, Redact, Mark, Floor}
 use Rattle.chat_state.specs.Choice.{greatest}
 use Rattle.chat_state.specs.Key.{MessageOf, bearing}
-use Rattle.chat_state.specs.History.{floor, mark, is_gone, kept, position_of, message_moment, is_redaction, piece, norm, changes_of}
+use Rattle.chat_state.specs.History.{floor, is_gone, kept, position_of, message_moment, is_redaction, piece, norm, changes_of}
 use Rattle.chat_state.specs.Reading.{position_in}
 use Rattle.chat_state.proofs.ChoiceLaws.{keep}
 use Rattle.chat_state.proofs.PieceLaws.{bearing-norm, get-norm}

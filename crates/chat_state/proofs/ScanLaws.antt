@@ -1,24 +1,22 @@
 -- The search for the nearest record: one more candidate, and one more piece.
-use Rattle.std.proofs.Common.{◌≡◌, ℕ, ◌+◌, ◌<◌, Bool, true, false, cond, not, Option, Some, None, List, [], ◌∷◌, ◌++◌, length, get_or, take, refl, sym, ◌∙◌, ap, subst, arith, ⊎_elim, inl, inr, add-one}
+use Rattle.std.proofs.Common.{◌≡◌, ℕ, ◌+◌, ◌<◌, false, Option, Some, None, List, [], ◌∷◌, ◌++◌, length, get_or, take, refl, sym, ◌∙◌, ap, subst, ⊎_elim, inl, add-one}
 use Rattle.std.proofs.lemmas.List.{append-nil}
 use Rattle.std.proofs.lemmas.List.Elements.{filter_map-append}
 use Rattle.std.proofs.Math.Seq.{take-suc}
 use Rattle.std.specs.declared.cmp.Ordering.{Ordering}
-use Rattle.std.specs.Ordering.{ord_min, is_gt, eq_by_cmp, flip_args}
+use Rattle.std.specs.Ordering.{ord_min, is_gt}
 use Rattle.std.specs.Cmp.{IsTotalOrder}
 use Rattle.std.proofs.lemmas.Cmp.{upto, on_total, back_total}
 use Rattle.std.specs.List.{filter_map, cons_option}
 use Rattle.std.specs.Option.{option_to_list}
 use Rattle.chat_change.specs.Buffer.{Buffer}
 use Rattle.chat_change.specs.Record.{Record}
-use Rattle.chat_change.specs.Order.{buffer_cmp}
-use Rattle.chat_change.specs.declared.changes.Change.TheVariants.{Post}
 use Rattle.chat_state.specs.declared.state.Piece.{Piece}
 use Rattle.chat_state.specs.declared.scan.Edge.{Edge}
 use Rattle.chat_state.specs.declared.scan.Edge.TheVariants.{Above, Below, After, Before}
 use Rattle.chat_state.specs.Choice.{earlier}
 use Rattle.chat_state.specs.Visible.{spot_of}
-use Rattle.chat_state.specs.Scan.{rising, is_beyond, nearer_cmp, if_passes, candidate, candidates, Among, IsFirst}
+use Rattle.chat_state.specs.Scan.{rising, nearer_cmp, candidate, candidates, Among, IsFirst}
 use Rattle.chat_state.proofs.ChoiceLaws.{le_self, min_is, min_left, min_right}
 use Rattle.chat_state.proofs.MemberLaws.{among_left, among_right, among_either}
 use Rattle.chat_state.proofs.VisibleLaws.{spot_total}

@@ -1,12 +1,12 @@
 -- Markers, floors, positions and kept records as what the members of a set of changes say.
-use Rattle.std.proofs.Common.{◌≡◌, ◌≢◌, ℕ, ◌≤◌, Bool, true, false, cond, ◌||◌, Option, Some, None, List, [], ◌∷◌, refl, sym, ◌∙◌, ap, subst, arith, ⊎_elim, inl, inr, ◌⊎◌}
+use Rattle.std.proofs.Common.{◌≡◌, ◌≢◌, ℕ, ◌≤◌, Bool, true, false, ◌||◌, Option, Some, None, List, [], ◌∷◌, refl, sym, ◌∙◌, ap, subst, arith, ⊎_elim, inl, inr, ◌⊎◌}
 use Rattle.std.specs.declared.cmp.Ordering.{Ordering}
 use Rattle.std.specs.declared.cmp.Ordering.TheVariants.{Less, Equal, Greater}
 use Rattle.std.proofs.lemmas.Bool.{false≢true}
 use Rattle.std.proofs.lemmas.Bool.Decides.{nat_tests}
 use Rattle.std.proofs.lemmas.Map.Keys.{le_from_not_gt}
 use Rattle.std.specs.Prelude.{Contains, ◌↔◌, IsTrue, nat_le}
-use Rattle.std.specs.Ordering.{is_gt, nat_cmp, flip_args, ordering_reverse}
+use Rattle.std.specs.Ordering.{is_gt, nat_cmp, ordering_reverse}
 use Rattle.std.specs.Cmp.{IsTotalOrder}
 use Rattle.std.specs.List.{filter, filter_map, list_any}
 use Rattle.std.specs.Option.{unwrap_or}
@@ -16,7 +16,7 @@ use Rattle.chat_change.specs.Order.{record_cmp}
 use Rattle.chat_change.specs.declared.changes.Change.{Change}
 use Rattle.chat_change.specs.declared.changes.Change.TheVariants.{Post, Redact, Mark, Floor}
 use Rattle.chat_change.proofs.OrderLaws.{record_total, record_exact}
-use Rattle.chat_state.specs.Choice.{first_by, greatest}
+use Rattle.chat_state.specs.Choice.{greatest}
 use Rattle.chat_state.specs.Key.{Key, FloorOf, MarkerOf, MessageOf, same_key, key_of, bearing}
 use Rattle.chat_state.specs.History.{floor, mark, is_gone, kept, position_of, floor_moment, marker_moment, posted_record, message_moment, is_redaction}
 use Rattle.chat_state.specs.Members.{IsPosted, IsStandingPost, IsMomentOf}

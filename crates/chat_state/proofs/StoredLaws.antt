@@ -1,5 +1,5 @@
 -- What is stored in pieces is what they are seen as.
-use Rattle.std.proofs.Common.{◌≡◌, ℕ, ◌≤◌, Bool, true, false, cond, Option, Some, None, List, refl, sym, ◌∙◌, ap, arith}
+use Rattle.std.proofs.Common.{◌≡◌, ℕ, ◌≤◌, Bool, true, false, cond, Option, Some, List, refl, sym, ◌∙◌, ap, arith}
 use Rattle.std.proofs.lemmas.Bool.Decides.{nat_tests}
 use Rattle.std.specs.List.{Contains}
 use Rattle.std.specs.Option.{option_map, option_to_list}
@@ -7,11 +7,10 @@ use Rattle.std.specs.Prelude.{nat_le}
 use Rattle.std.specs.FinMap.{get}
 use Rattle.chat_change.specs.Buffer.{Buffer}
 use Rattle.chat_change.specs.Record.{Record}
-use Rattle.chat_change.specs.declared.changes.Change.{Change}
-use Rattle.chat_change.specs.declared.changes.Change.TheVariants.{Post, Redact, Mark, Floor}
+use Rattle.chat_change.specs.declared.changes.Change.TheVariants.{Post, Redact}
 use Rattle.chat_state.specs.declared.state.Piece.{Piece}
 use Rattle.chat_state.specs.Key.{MessageOf, key_of}
-use Rattle.chat_state.specs.History.{floor, is_gone, kept, position_of, piece, changes_of}
+use Rattle.chat_state.specs.History.{floor, is_gone, kept, position_of, changes_of}
 use Rattle.chat_state.specs.Pieces.{history_of, AreSound}
 use Rattle.chat_state.proofs.StepLaws.{settle, settle-post}
 use Rattle.chat_state.proofs.AbsorbLaws.{get_is_piece, at_rest, at_floor}

@@ -1,5 +1,5 @@
 -- A history that takes changes one by one, or list by list.
-use Rattle.std.proofs.Common.{◌≡◌, ℕ, ◌+◌, ◌<◌, List, [], ◌∷◌, ◌++◌, ◌≤◌, Some, suc, min, length, get_or, take, drop, refl, sym, ◌∙◌, ap, subst, append_assoc, arith, length-append, drop-cons, zero-add, Vec}
+use Rattle.std.proofs.Common.{◌≡◌, ℕ, ◌+◌, ◌<◌, List, [], ◌∷◌, ◌++◌, Some, suc, min, length, get_or, take, drop, sym, ◌∙◌, ap, subst, append_assoc, arith, length-append, drop-cons, zero-add, Vec}
 use Rattle.std.specs.Prelude.{slice_get, ◌↔◌}
 use Rattle.std.specs.declared.alloc.Global.{Global}
 use Rattle.std.proofs.Math.Seq.{take-append-add}

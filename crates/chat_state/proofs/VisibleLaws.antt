@@ -1,27 +1,25 @@
 -- The records of a history in a buffer: which they are, and that they are sorted.
-use Rattle.std.proofs.Common.{◌≡◌, ℕ, Bool, true, false, cond, Option, Some, None, List, [], ◌∷◌, map, length, T, refl, sym, ◌∙◌, ap, subst, arith, ⊎_elim, inl, inr, ◌⊎◌}
+use Rattle.std.proofs.Common.{◌≡◌, ℕ, Bool, true, false, cond, Option, Some, None, List, refl, sym, ◌∙◌, ap, subst}
 use Rattle.std.specs.declared.cmp.Ordering.{Ordering}
 use Rattle.std.specs.declared.cmp.Ordering.TheVariants.{Less, Equal, Greater}
-use Rattle.std.proofs.lemmas.Bool.{false≢true}
 use Rattle.std.specs.Prelude.{Contains, ◌↔◌}
-use Rattle.std.specs.Ordering.{on, nat_cmp, then_cmp, ordering_then, eq_by_cmp, is_eq}
+use Rattle.std.specs.Ordering.{on, nat_cmp, ordering_then, eq_by_cmp, is_eq}
 use Rattle.std.specs.Cmp.{IsTotalOrder, Equal-is}
 use Rattle.std.proofs.lemmas.Cmp.{nat_cmp_total, on_total, then_total, tied_itself}
 use Rattle.std.proofs.lemmas.Map.Lookups.{CmpEqualImpliesEq, exact_unsigned}
-use Rattle.std.specs.List.{filter_map, AllByRecursion}
+use Rattle.std.specs.List.{filter_map}
 use Rattle.std.specs.List.Sorted.{IsStrictlySortedBy}
-use Rattle.std.specs.Option.{option_map, option_to_list}
-use Rattle.std.specs.FinMap.{FinMap, from_entries, entries, entries_sorted, get, get-from_entries, values, find}
+use Rattle.std.specs.Option.{option_map}
+use Rattle.std.specs.FinMap.{get}
 use Rattle.chat_change.specs.Buffer.{Buffer}
 use Rattle.chat_change.specs.Record.{Record}
 use Rattle.chat_change.specs.Order.{text_cmp, buffer_cmp}
 use Rattle.chat_change.specs.declared.changes.Change.{Change}
 use Rattle.chat_change.specs.declared.changes.Change.TheVariants.{Post, Redact, Mark, Floor}
 use Rattle.chat_change.proofs.OrderLaws.{text_total, text_exact, buffer_total, buffer_exact}
-use Rattle.chat_state.specs.Key.{Key, MessageOf, key_cmp, same_key, key_of, bearing}
-use Rattle.chat_state.specs.History.{History, norm, changes_of, is_gone, kept, position_of, piece}
+use Rattle.chat_state.specs.Key.{MessageOf, key_of}
+use Rattle.chat_state.specs.History.{History, norm, changes_of, is_gone, kept, position_of}
 use Rattle.chat_state.specs.Visible.{spot_cmp, spot_of, posted_in, in_order, records_in, visible}
-use Rattle.chat_state.proofs.KeyLaws.{key_total, key_exact, same_key_itself}
 use Rattle.chat_state.proofs.PieceLaws.{IsKeyed, bearing-changes_of, norm_keyed, get-norm}
 use Rattle.chat_state.specs.Scan.{Among}
 use Rattle.chat_state.proofs.MemberLaws.{among, contained, among_one, one_among, among-filter_map, among_made}

@@ -1,5 +1,5 @@
 -- The walk over the buffers of a history that have certain records.
-use Rattle.std.proofs.Common.{◌≡◌, Bool, true, false, cond, not, Option, Some, None, List, [], ◌∷◌, ◌++◌, map, refl, sym, ◌∙◌, ap, append_assoc}
+use Rattle.std.proofs.Common.{◌≡◌, true, false, cond, Option, Some, None, List, [], ◌∷◌, ◌++◌, map, refl, sym, ◌∙◌, ap, append_assoc}
 use Rattle.std.specs.Prelude.{◌↔◌}
 use Rattle.std.proofs.lemmas.Bool.{false≢true}
 use Rattle.std.proofs.lemmas.List.{append-nil}
@@ -10,14 +10,14 @@ use Rattle.std.specs.List.{filter, filter_map, IsDistinct}
 use Rattle.std.specs.List.Sorted.{IsStrictlySortedBy}
 use Rattle.chat_change.specs.Buffer.{Buffer}
 use Rattle.chat_change.specs.Order.{buffer_cmp}
-use Rattle.chat_change.specs.declared.changes.Change.{Change}
 use Rattle.chat_change.proofs.OrderLaws.{buffer_total, buffer_exact}
 use Rattle.chat_state.specs.declared.state.Piece.{Piece}
 use Rattle.chat_state.specs.declared.walk.Sought.{Sought}
 use Rattle.chat_state.specs.Key.{key_of, same_key}
-use Rattle.chat_state.specs.History.{History, changes_of}
+use Rattle.chat_state.specs.History.{changes_of}
 use Rattle.chat_state.specs.Pieces.{history_of, piece_keys}
-use Rattle.chat_state.specs.Scan.{Among, IsFirst, if_passes}
+use Rattle.chat_state.specs.Choice.{keep}
+use Rattle.chat_state.specs.Scan.{Among, IsFirst}
 use Rattle.chat_state.specs.Walk.{sought_in, in_buffer_order, sought_buffers, is_past, sought_past, all_past}
 use Rattle.chat_state.proofs.MemberLaws.{among-filter_map, among_made}
 use Rattle.chat_state.proofs.EntryLaws.{ordered_member, member_ordered, ordered_by_key}
@@ -64,7 +64,7 @@ module _ (s : Sought) (ps : List Piece) (d : IsDistinct same_key (piece_keys ps)
         let r = among-filter_map (sought_in s) (changes_of (history_of ps)) b (in_order_member (filter_map (sought_in s) (changes_of (history_of ps))) b v.0) in
         let p = piece_of ps (key_of r.0) r.0 (change_held (history_of ps) (pieces_keyed ps) r.0 r.1) in
         among_made (λ (p : Piece). sought_past s last p.change) ps p.0 b p.1
-        (ap (sought_past s last) p.2 ∙ ap (if_passes (is_past last)) r.2 ∙ ap (λ t. cond t (Some b) None) v.1),
+        (ap (sought_past s last) p.2 ∙ ap (keep (is_past last)) r.2 ∙ ap (λ t. cond t (Some b) None) v.1),
   )
 
   pub walk_end : IsFirst buffer_cmp (all_past s last ps) None → filter (is_past last) buffers ≡ []

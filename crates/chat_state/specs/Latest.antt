@@ -1,5 +1,5 @@
 -- The buffers of an account on a network, each with its latest moment.
-use Rattle.std.specs.Prelude.{ℕ, ◌≡◌, not, Option, Some, None, List, [], filter, map}
+use Rattle.std.specs.Prelude.{ℕ, not, Option, Some, None, List, [], filter, map}
 use Rattle.std.specs.Ordering.{is_lt}
 use Rattle.std.specs.List.{IsDistinct}
 use Rattle.std.specs.Option.{IfSome, unwrap_or}

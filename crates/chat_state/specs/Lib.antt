@@ -8,6 +8,10 @@ pub mod Numbering
 pub mod Held
 pub mod Codes
 pub mod Pieces
+pub mod Step
+pub mod Taken
+pub mod Joined
+pub mod Merging
 pub mod Scan
 pub mod Cursor
 pub mod Members
@@ -16,7 +20,3 @@ pub mod Subject
 pub mod Walk
 pub mod Due
 pub mod Latest
-pub mod Step
-pub mod Taken
-pub mod Joined
-pub mod Merging

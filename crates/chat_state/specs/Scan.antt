@@ -1,5 +1,5 @@
 -- The search for the next record of a buffer, on one side of an edge.
-use Rattle.std.specs.Prelude.{ℕ, ◌≡◌, ◌⊎◌, Bool, true, false, not, cond, Option, Some, None, List, [], ◌∷◌}
+use Rattle.std.specs.Prelude.{◌≡◌, ◌⊎◌, Bool, false, not, Option, Some, None, List, [], ◌∷◌}
 use Rattle.std.specs.declared.cmp.Ordering.{Ordering}
 use Rattle.std.specs.Ordering.{on, flip_args, is_lt, is_gt}
 use Rattle.std.specs.List.{filter_map}
@@ -9,6 +9,7 @@ use Rattle.chat_change.specs.declared.changes.Change.{Change}
 use Rattle.chat_state.specs.declared.state.Piece.{Piece}
 use Rattle.chat_state.specs.declared.scan.Edge.{Edge}
 use Rattle.chat_state.specs.declared.scan.Edge.TheVariants.{Above, Below, After, Before}
+use Rattle.chat_state.specs.Choice.{keep}
 use Rattle.chat_state.specs.Visible.{spot_of, spot_cmp, posted_in}
 use Rattle.chat_state.specs.Cut.{is_above}
 
@@ -30,14 +31,9 @@ nearer_cmp (Below c) = flip_args rising
 nearer_cmp (After q) = rising
 nearer_cmp (Before q) = flip_args rising
 
--- the value where it passes
-abbrev pub if_passes : {A : Type 0} → (A → Bool) → Option A → Option A
-if_passes p None = None
-if_passes p (Some x) = cond (p x) (Some x) None
-
 -- the record that a change posts in a buffer, where it lies on the side that is searched
 abbrev pub candidate : Edge → Buffer → Change → Option Record
-candidate edge b c = if_passes (is_beyond edge) (posted_in b c)
+candidate edge b c = keep (is_beyond edge) (posted_in b c)
 
 abbrev pub candidates : Edge → Buffer → List Piece → List Record
 candidates edge b pieces = filter_map (λ (p : Piece). candidate edge b p.change) pieces

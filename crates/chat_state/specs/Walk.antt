@@ -12,7 +12,7 @@ use Rattle.chat_state.specs.declared.state.Piece.{Piece}
 use Rattle.chat_state.specs.declared.walk.Sought.{Sought}
 use Rattle.chat_state.specs.declared.walk.Sought.TheVariants.{Outdated, OfNetwork}
 use Rattle.chat_state.specs.History.{History, changes_of}
-use Rattle.chat_state.specs.Scan.{if_passes}
+use Rattle.chat_state.specs.Choice.{keep}
 
 -- the buffer is one of that account on that network
 abbrev pub is_of_network : List ℕ → List ℕ → Buffer → Bool
@@ -51,7 +51,7 @@ is_past (Some last) b = is_lt (buffer_cmp last b)
 
 -- the buffer of a piece that is sought, where it comes after the last one
 abbrev pub sought_past : Sought → Option Buffer → Change → Option Buffer
-sought_past s last c = if_passes (is_past last) (sought_in s c)
+sought_past s last c = keep (is_past last) (sought_in s c)
 
 abbrev pub all_past : Sought → Option Buffer → List Piece → List Buffer
 all_past s last pieces = filter_map (λ (p : Piece). sought_past s last p.change) pieces

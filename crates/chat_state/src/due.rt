@@ -9,8 +9,7 @@ ghost use Rattle.chat_state.specs.Due.{due_moment, floors_at, due_floors};
 use crate::faults::NoMemory;
 use crate::state::{Piece, State};
 use crate::walk::{Sought, next_buffer};
-use chat_change::{Buffer, Change};
-use irc_time::Moment;
+use chat_change::{Buffer, Change, Moment};
 use std::alloc::Global;
 
 const DAY_LENGTH: u64 = 86_400_000;

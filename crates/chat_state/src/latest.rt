@@ -13,8 +13,7 @@ use crate::scan::{Edge, nearest};
 use crate::spot::Cut;
 use crate::state::{Piece, State};
 use crate::walk::{Sought, next_buffer};
-use chat_change::Buffer;
-use irc_time::Moment;
+use chat_change::{Buffer, Moment};
 use std::marker::Model;
 
 /// Buffers that have a visible record, each with the moment of its latest, by target. It is seen as the list of what is

@@ -2,17 +2,26 @@
 #![tactic(auto)]
 
 mod absorbing;
-pub mod cursor;
-pub mod due;
-pub mod faults;
-pub mod latest;
+mod cursor;
+mod due;
+mod faults;
+mod latest;
 pub mod laws;
 mod merging;
-pub mod peek;
+mod peek;
 #[cfg(test)]
 mod read_tests;
-pub mod reading;
+mod reading;
 mod scan;
-pub mod spot;
-pub mod state;
+mod spot;
+mod state;
+#[cfg(test)]
+mod taking_tests;
 mod walk;
+
+pub use cursor::{Down, Up};
+pub use faults::{NoEntry, NoMemory};
+pub use latest::Latest;
+pub use peek::Peek;
+pub use spot::{Cut, Spot};
+pub use state::{State, StateFault, TakeFault, run};

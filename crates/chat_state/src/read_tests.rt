@@ -4,8 +4,7 @@ use crate::cursor::{Down, Up};
 use crate::peek::Peek;
 use crate::spot::{Cut, Spot};
 use crate::state::State;
-use chat_change::{Buffer, Change, Kind, MsgId, Record};
-use irc_time::Moment;
+use chat_change::{Buffer, Change, Kind, Moment, MsgId, Record};
 use std::alloc::Global;
 use std::test::Fail;
 
@@ -141,15 +140,16 @@ fn buffers_by_target(rt: HostRuntime) -> Result<(), Fail> {
     post(&mut state, alloc, b"#b", b"m2", 2000)?;
     post(&mut state, alloc, b"#a", b"m1", 1000)?;
     post(&mut state, alloc, b"#a", b"m3", 3000)?;
-    let mut buffers = state.latest(b"demo", b"net");
-    let (first, at) = buffers.next().ok_or("a buffer")?;
-    assert_eq!(rt; first.target(), b"#a".as_slice());
-    assert_eq!(rt; at.ms(), 3000);
-    let (second, at) = buffers.next().ok_or("a buffer")?;
-    assert_eq!(rt; second.target(), b"#b".as_slice());
-    assert_eq!(rt; at.ms(), 2000);
-    assert!(rt; buffers.next().is_none());
-    assert!(rt; state.latest(b"demo", b"other").next().is_none());
+    let mut targets = Vec::new(alloc);
+    let mut moments = Vec::new(alloc);
+    for (buffer, at) in state.latest(b"demo", b"net") {
+        targets.extend_from_slice(buffer.target())?;
+        moments.push(at.ms())?;
+    }
+    assert_eq!(rt; targets.as_slice(), b"#a#b".as_slice());
+    assert_eq!(rt; moments.as_slice(), [3000, 2000].as_slice());
+    let mut other = state.latest(b"demo", b"other");
+    assert!(rt; other.next().is_none());
     Ok(())
 }
 
@@ -162,7 +162,7 @@ fn floors_that_are_due(rt: HostRuntime) -> Result<(), Fail> {
     let floors = old.due_floors(alloc, now, 1)?;
     assert_eq!(rt; floors.len(), 1);
     let Change::Floor { buffer, at } = &floors[0] else {
-        return Err(Fail::from("a floor"));
+        return Err(Fail::new("a floor"));
     };
     assert_eq!(rt; buffer.target(), b"#a".as_slice());
     assert_eq!(rt; at.ms(), 2000);

@@ -11,8 +11,7 @@ ghost use Rattle.chat_state.specs.Reading.{is_redacted, is_posted, IsShown};
 ghost use Rattle.chat_state.specs.Subject.{subject_key};
 
 use crate::state::{Piece, State};
-use chat_change::{Buffer, Change, MsgId};
-use irc_time::Moment;
+use chat_change::{Buffer, Change, Moment, MsgId};
 
 // What a look-up asks for.
 #[derive(Clone, Copy)]
@@ -152,7 +151,7 @@ pub(crate) fn first_moment() -> Moment
 impl State {
     ghost use Rattle.chat_change.specs.declared.changes.Change as value;
 
-    /// The number of the piece that was changed last.
+    /// The number of the last change that changed the state.
     pub fn front(&self) -> u64
         ensures { result ≡ self.now.front }
     {

@@ -7,8 +7,7 @@ ghost use Rattle.std.specs.Ordering.{as_partial_cmp, eq_by_cmp, is_lt};
 ghost use Rattle.chat_state.specs.Visible.{spot_of, spot_cmp};
 ghost use Rattle.chat_state.specs.Cut.{cut_cmp, cut_total, of_record, is_above};
 
-use chat_change::{MsgId, Record};
-use irc_time::Moment;
+use chat_change::{Moment, MsgId, Record};
 use std::cmp::Ordering;
 
 /// A moment, and the id of the message there. No id stands before all ids of the moment.

@@ -9,8 +9,7 @@ ghost use Rattle.chat_state.specs.Scan.{IsFirst};
 ghost use Rattle.chat_state.specs.Walk.{is_of_network, is_sought, is_past, sought_past, all_past};
 
 use crate::state::Piece;
-use chat_change::{Buffer, Change, Record};
-use irc_time::Moment;
+use chat_change::{Buffer, Change, Moment, Record};
 
 // Which records are sought: older than a moment, or of an account on a network.
 #[derive(Clone, Copy)]

@@ -1,4 +1,4 @@
-use Rattle.std.proofs.Common.{◌≡◌, ◌++◌, ◌∷◌, [], cond, sym, ap, subst, ◌∙◌, refl}
+use Rattle.std.proofs.Common.{sym, subst, ◌∙◌, refl}
 use Rattle.chat_state.specs.declared.state.Piece.{Piece}
 use Rattle.chat_state.specs.Taken.{IsTaken}
 use Rattle.chat_state.proofs.PieceVec.{not_entered, enters_differs, entered}

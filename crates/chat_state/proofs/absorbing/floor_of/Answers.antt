@@ -1,7 +1,4 @@
-use Rattle.std.proofs.Common.{sym, ap, ◌∙◌}
-use Rattle.std.specs.Option.{unwrap_or}
-use Rattle.chat_state.specs.declared.state.Piece.{Piece}
-use Rattle.chat_state.specs.History.{floor_moment}
+use Rattle.std.proofs.Common.{sym, ◌∙◌}
 use Rattle.chat_state.proofs.PieceVec.{floor_at, floor_absent}
 use Rattle.chat_state.proofs.absorbing.floor_of.Goals as goal
 

@@ -1,4 +1,4 @@
-use Rattle.std.proofs.Common.{◌≡◌, ◌≤◌, ◌<◌, ◌++◌, ◌∷◌, [], sym, ap, subst, ◌∙◌, refl, arith, ⊎_elim}
+use Rattle.std.proofs.Common.{◌≤◌, ◌<◌, ◌++◌, ◌∷◌, [], sym, ap, subst, ◌∙◌, refl, arith, ⊎_elim}
 use Rattle.std.proofs.lemmas.Bool.{false≢true}
 use Rattle.std.specs.Prelude.{vec_len, vec_capacity}
 use Rattle.chat_change.specs.declared.changes.Change.TheVariants.{Floor}

@@ -1,4 +1,4 @@
-use Rattle.std.proofs.Common.{◌≡◌, sym, ap, subst, ◌∙◌, refl}
+use Rattle.std.proofs.Common.{sym, ap, subst, ◌∙◌, refl}
 use Rattle.chat_state.specs.declared.state.Piece.{Piece}
 use Rattle.chat_state.specs.Key.{key_of}
 use Rattle.chat_state.specs.Step.{renews}

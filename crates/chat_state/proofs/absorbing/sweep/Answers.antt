@@ -1,5 +1,4 @@
 use Rattle.std.proofs.Common.{rules, sym, ap, ◌∙◌}
-use Rattle.chat_state.specs.declared.state.Piece.{Piece}
 use Rattle.chat_state.proofs.PieceVec.{retained, low, lasts}
 use Rattle.chat_state.proofs.absorbing.sweep.Goals as goal
 

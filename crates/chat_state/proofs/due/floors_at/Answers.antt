@@ -1,6 +1,4 @@
-use Rattle.std.proofs.Common.{◌≡◌, ℕ, ◌<◌, Bool, true, false, cond, not, List, ◌++◌, ◌∷◌, [], Option, Some, None, length, refl, sym, ◌∙◌, ap, subst, arith}
-use Rattle.std.proofs.lemmas.Bool.{false≢true}
-use Rattle.std.specs.List.{filter}
+use Rattle.std.proofs.Common.{◌≡◌, ◌<◌, cond, List, ◌++◌, ◌∷◌, [], Some, None, length, sym, ◌∙◌, ap, subst, arith}
 use Rattle.std.specs.Option.{option_map}
 use Rattle.std.specs.Map.Iter.{deref}
 use Rattle.chat_change.specs.Buffer.{Buffer}
@@ -10,7 +8,7 @@ use Rattle.chat_change.specs.declared.changes.Change.TheVariants.{Floor}
 use Rattle.chat_state.specs.declared.walk.Sought.TheVariants.{Outdated}
 use Rattle.chat_state.specs.Pieces.{history_of}
 use Rattle.chat_state.specs.Scan.{IsFirst}
-use Rattle.chat_state.specs.Walk.{sought_buffers, is_past, all_past}
+use Rattle.chat_state.specs.Walk.{sought_buffers, all_past}
 use Rattle.chat_state.proofs.WalkLaws.{IsMade, made_none, made_more, made_all, walk_step, walk_end}
 use Rattle.chat_state.proofs.due.floors_at.Goals as goal
 

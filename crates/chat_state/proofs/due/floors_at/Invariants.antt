@@ -3,7 +3,6 @@ use Rattle.std.specs.List.{filter}
 use Rattle.std.specs.Option.{option_map}
 use Rattle.std.specs.Map.Iter.{deref}
 use Rattle.chat_change.specs.Buffer.{Buffer}
-use Rattle.chat_change.specs.declared.changes.Change.{Change}
 use Rattle.chat_change.specs.declared.changes.Change.TheVariants.{Floor}
 use Rattle.chat_state.specs.declared.walk.Sought.TheVariants.{Outdated}
 use Rattle.chat_state.specs.Pieces.{history_of}

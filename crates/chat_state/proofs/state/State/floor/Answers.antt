@@ -2,7 +2,6 @@ use Rattle.std.proofs.Common.{◌≡◌, sym, ◌∙◌, ap}
 use Rattle.std.specs.Option.{option_map, unwrap_or}
 use Rattle.std.specs.Map.Iter.{deref}
 use Rattle.chat_state.specs.Key.{FloorOf}
-use Rattle.chat_state.specs.History.{History}
 use Rattle.chat_state.specs.Held.{Held}
 use Rattle.chat_state.specs.Pieces.{history_of}
 use Rattle.chat_state.proofs.LookupLaws.{held_keyed, held_found, floor_found, floor_of_set}

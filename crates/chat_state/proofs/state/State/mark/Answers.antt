@@ -2,7 +2,6 @@ use Rattle.std.proofs.Common.{◌≡◌, sym, ◌∙◌, ap}
 use Rattle.std.specs.Option.{option_map}
 use Rattle.std.specs.Map.Iter.{deref}
 use Rattle.chat_state.specs.Key.{MarkerOf}
-use Rattle.chat_state.specs.History.{History}
 use Rattle.chat_state.specs.Held.{Held}
 use Rattle.chat_state.specs.Pieces.{history_of}
 use Rattle.chat_state.proofs.LookupLaws.{held_keyed, held_found, mark_found, mark_of_set}

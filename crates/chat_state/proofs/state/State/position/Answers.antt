@@ -2,7 +2,7 @@ use Rattle.std.proofs.Common.{◌≡◌, sym, ◌∙◌, ap}
 use Rattle.std.specs.Option.{option_map}
 use Rattle.std.specs.Map.Iter.{deref}
 use Rattle.chat_state.specs.Key.{MessageOf}
-use Rattle.chat_state.specs.History.{History, norm, changes_of}
+use Rattle.chat_state.specs.History.{norm, changes_of}
 use Rattle.chat_state.specs.Held.{Held}
 use Rattle.chat_state.specs.Pieces.{history_of}
 use Rattle.chat_state.proofs.LookupLaws.{held_keyed, held_found, position_found, position_of_set}

@@ -1,6 +1,6 @@
 use Rattle.std.proofs.Common.{length, ◌++◌}
 use Rattle.bnc_server.specs.Progress.{to_come, IsDrained, Goes}
-use Rattle.bnc_server.proofs.script.serve_piece.Given as goal
+use Rattle.bnc_server.proofs.script.feed_piece.Given as goal
 
 abbrev pub invariant-feeds : goal.invariant-feeds
 invariant-feeds g l = record {
