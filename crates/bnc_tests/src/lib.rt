@@ -1,5 +1,15 @@
-//! Tests that cross crates: scripts, and what is printed.
+//! Tests that cross crates: scripts, what is printed, and histories in every order.
 #![tactic(auto)]
 
+#[cfg(test)]
+mod history;
+#[cfg(test)]
+mod history_looks;
+#[cfg(test)]
+mod history_model;
+#[cfg(test)]
+mod history_orders;
+#[cfg(test)]
+mod history_steps;
 #[cfg(test)]
 mod tests;
