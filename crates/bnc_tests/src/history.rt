@@ -239,14 +239,14 @@ fn what_was_taken_before_the_last_number_stands(rt: HostRuntime) -> Result<(), F
     Ok(())
 }
 
-// The message was posted first, and again after the redaction.
+// The message was posted first, and again after the redaction and the marker: the redaction has the least number.
 #[test]
 fn a_merge_goes_by_number_up_to_the_last(rt: HostRuntime) -> Result<(), Fail> {
     let alloc = rt.alloc();
     let redaction = redact(b"#a", b"m2");
     let early = message(b"#a", b"m1", 1000, b"a");
     let late = message(b"#a", b"m1", 2000, b"b");
-    let other = state_of(alloc, &[early, redaction, late])?;
+    let other = state_of(alloc, &[early, redaction, mark(b"#a", 1000), late])?;
     let mut state = State::new_at(alloc, LAST - 1);
     let refused = state.merge(alloc, &other);
     assert_eq!(rt; refused.err(), Some(EXHAUSTED_AFTER_1));
