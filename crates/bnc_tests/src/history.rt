@@ -4,8 +4,7 @@ use crate::history_steps::{
     Step, buffer_of, change_of, changes_of, floor, mark, message, moment, redact, redact_at, sent,
 };
 use chat_change::{Change, MsgId, Record};
-use chat_state::spot::{Cut, Spot};
-use chat_state::state::{State, StateFault, TakeFault, run};
+use chat_state::{Cut, Spot, State, StateFault, TakeFault, run};
 use irc_time::Moment;
 use std::alloc::Global;
 use std::test::Fail;

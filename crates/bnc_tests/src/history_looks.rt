@@ -2,10 +2,7 @@
 use crate::history_model as model;
 use crate::history_steps::{CHANNELS, IDS, Post, Step, buffer_of};
 use chat_change::{Buffer, MsgId, Record};
-use chat_state::cursor::{Down, Up};
-use chat_state::peek::Peek;
-use chat_state::spot::{Cut, Spot};
-use chat_state::state::State;
+use chat_state::{Cut, Down, Peek, Spot, State, Up};
 use irc_time::Moment;
 use std::alloc::Global;
 use std::test::Fail;

@@ -5,7 +5,7 @@ use crate::history_steps::{
     Step, change_of, changes_of, floor, mark, message, redact, redact_at, sent,
 };
 use chat_change::Change;
-use chat_state::state::{State, run};
+use chat_state::{State, run};
 use std::alloc::{AllocError, Global};
 use std::test::Fail;
 
