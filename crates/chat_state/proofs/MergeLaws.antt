@@ -12,7 +12,7 @@ use Rattle.std.specs.Result.{OnOk, IfErr}
 use Rattle.chat_change.specs.declared.changes.Change.{Change}
 use Rattle.chat_state.specs.declared.state.Piece.{Piece}
 use Rattle.chat_state.specs.declared.state.TakeFault.{TakeFault}
-use Rattle.chat_state.specs.declared.state.StateFault.TheVariants.{Exhausted}
+use Rattle.chat_state.specs.declared.state.StateFault.TheVariants.{Exhausted, NoMemory}
 use Rattle.chat_state.specs.Key.{Key, key_of, same_key, bearing}
 use Rattle.chat_state.specs.History.{norm, changes_of, SameSet, join}
 use Rattle.chat_state.specs.Held.{Held, HasTaken, StoppedAt}
@@ -157,6 +157,6 @@ module _ (old other new : Held) (turn : List Change) (by_number : IsByNumber oth
   merged_all (Ok x) h t = record { turn = turn; by_number = by_number; history = h; held = t }
   merged_all (Err e) h t = tt
 
-  pub merged_first : (r : Result (Unit {0}) TakeFault) → IfErr r (λ fault. new.history ≡ norm (changes_of old.history ++ take fault.taken turn)) → IfErr r (λ fault. HasTaken old (take fault.taken turn) new) → IfErr r (λ fault. StoppedAt new turn fault.taken (fault.cause ≡ Exhausted)) → IfErr r (λ fault. ((fault.taken ≡ 0) × (new ≡ old)) ⊎ TakesFirst old other new fault.taken (fault.cause ≡ Exhausted))
+  pub merged_first : (r : Result (Unit {0}) TakeFault) → IfErr r (λ fault. new.history ≡ norm (changes_of old.history ++ take fault.taken turn)) → IfErr r (λ fault. HasTaken old (take fault.taken turn) new) → IfErr r (λ fault. StoppedAt new turn fault.taken (fault.cause ≡ Exhausted)) → IfErr r (λ fault. ((fault.taken ≡ 0) × (fault.cause ≡ NoMemory) × (new ≡ old)) ⊎ TakesFirst old other new fault.taken (fault.cause ≡ Exhausted))
   merged_first (Ok x) h t s = tt
   merged_first (Err e) h t s = inr (record { turn = turn; by_number = by_number; history = h; held = t; stopped = s })

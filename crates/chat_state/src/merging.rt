@@ -49,7 +49,7 @@ impl State {
     pub fn merge(&mut self, alloc: Global, other: &State) -> Result<(), TakeFault>
         ensures ok { OnOk result (self.new.history ≡ join (changes_of self.old.history) (changes_of other.now.history)) }
         ensures all { OnOk result (TakesAll self.old other.now self.new) }
-        ensures refused { IfErr result (λ fault. ((fault.taken ≡ 0) × (self.new ≡ self.old)) ⊎ TakesFirst self.old other.now self.new fault.taken (fault.cause ≡ StateFault.Exhausted)) }
+        ensures refused { IfErr result (λ fault. ((fault.taken ≡ 0) × (fault.cause ≡ StateFault.NoMemory) × (self.new ≡ self.old)) ⊎ TakesFirst self.old other.now self.new fault.taken (fault.cause ≡ StateFault.Exhausted)) }
     {
         match by_number(alloc, &other.pieces) {
             Ok(turn) => self.take_pieces(alloc, &turn),
