@@ -1,0 +1,22 @@
+//! Bytes of one's own, and want of memory: the one way to say it, of every crate that answers it as a fault.
+#![tactic(auto)]
+
+mod text;
+
+use std::alloc::AllocError;
+pub use text::Text;
+use thiserror::Error;
+
+/// There was no memory.
+#[derive(Clone, Copy, Debug, PartialEq, Eq, Error)]
+#[error("no memory")]
+pub struct NoMemory;
+
+impl From<AllocError> for NoMemory {
+    fn from(_: AllocError) -> NoMemory {
+        NoMemory
+    }
+}
+
+#[cfg(test)]
+mod tests;
