@@ -1,0 +1,14 @@
+//! Readers and writers for tests: they move a few bytes at a time, are interrupted, fail at some call, and note each
+//! call in a log that they share.
+#![tactic(auto)]
+
+mod log;
+mod sink;
+mod source;
+
+pub use log::{Event, Log};
+pub use sink::Sink;
+pub use source::Source;
+
+#[cfg(test)]
+mod tests;

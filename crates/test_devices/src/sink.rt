@@ -1,0 +1,143 @@
+//! A writer that keeps what it takes.
+ghost use Rattle.std.specs.Prelude.{◌≡◌, [], Some};
+
+use crate::log::{Event, Log};
+use std::alloc::Global;
+use std::io;
+use std::io::{ErrorKind, Write};
+use std::marker::Model;
+
+/// A writer that keeps the bytes that it takes: contracts see it as these. At first it takes all that it is given, and
+/// never fails.
+#[derive(Drop)]
+pub struct Sink<'a> {
+    bytes: Vec<u8>,
+    most: usize,
+    writes_left: usize,
+    flushes_left: usize,
+    is_interrupted: bool,
+    interrupts_next: bool,
+    log: Option<&'a Log>,
+}
+
+impl<'a> Model for Sink<'a> {
+    ghost use Rattle.std.specs.Prelude.{List, ℕ};
+
+    ghost Value = { List ℕ };
+
+    ghost view = { λ s. s.bytes.items };
+}
+
+impl<'a> Sink<'a> {
+    /// A writer that has no bytes yet.
+    pub fn new(alloc: Global) -> Sink<'a>
+        ensures { result ≡ [] }
+    {
+        Sink {
+            bytes: Vec::new(alloc),
+            most: usize::MAX,
+            writes_left: usize::MAX,
+            flushes_left: usize::MAX,
+            is_interrupted: false,
+            interrupts_next: false,
+            log: None,
+        }
+    }
+
+    /// It takes so many bytes a write at most.
+    pub fn at_most(self, most: usize) -> Sink<'a>
+        ensures { result ≡ self.entry }
+    {
+        Sink { most, ..self }
+    }
+
+    /// Its first write is interrupted, and from then on every second one.
+    pub fn interrupted(self) -> Sink<'a>
+        ensures { result ≡ self.entry }
+    {
+        Sink {
+            is_interrupted: true,
+            interrupts_next: true,
+            ..self
+        }
+    }
+
+    /// It fails at each write once it has made so many (`ErrorKind::BrokenPipe`). Interruptions do not count.
+    pub fn failing_after(self, writes: usize) -> Sink<'a>
+        ensures { result ≡ self.entry }
+    {
+        Sink {
+            writes_left: writes,
+            ..self
+        }
+    }
+
+    /// It fails at each flush once it has made so many (`ErrorKind::BrokenPipe`).
+    pub fn failing_after_flushes(self, flushes: usize) -> Sink<'a>
+        ensures { result ≡ self.entry }
+    {
+        Sink {
+            flushes_left: flushes,
+            ..self
+        }
+    }
+
+    /// It notes its writes and flushes in the log.
+    pub fn logged(self, log: &'a Log) -> Sink<'a>
+        ensures { result ≡ self.entry }
+    {
+        Sink {
+            log: Some(log),
+            ..self
+        }
+    }
+
+    /// The bytes that it has taken.
+    pub fn bytes(&self) -> &[u8]
+        ensures { result.now ≡ self.now }
+    {
+        self.bytes.as_slice()
+    }
+
+    fn note(&self, event: Event) -> io::Result<()> {
+        match self.log {
+            Some(log) => log.note(event),
+            None => Ok(()),
+        }
+    }
+}
+
+impl<'a> Write for Sink<'a> {
+    ghost contents = { λ bytes. Some bytes };
+
+    fn write(&mut self, buf: &[u8]) -> io::Result<usize> {
+        if self.interrupts_next {
+            self.interrupts_next = false;
+            return Err(io::Error::from(ErrorKind::Interrupted));
+        }
+        self.interrupts_next = self.is_interrupted;
+        if self.writes_left == 0 {
+            self.note(Event::FailedWrite)?;
+            return Err(io::Error::from(ErrorKind::BrokenPipe));
+        }
+        let n = buf.len().min(self.most);
+        self.note(Event::Write(n))?;
+        match self.bytes.extend_from_slice(&buf[..n]) {
+            Ok(()) => {
+                self.writes_left -= 1;
+                Ok(n)
+            }
+            Err(_) => Err(io::Error::from(ErrorKind::OutOfMemory)),
+        }
+    }
+
+    fn flush(&mut self) -> io::Result<()> {
+        if self.flushes_left == 0 {
+            self.note(Event::FailedFlush)?;
+            return Err(io::Error::from(ErrorKind::BrokenPipe));
+        }
+        self.note(Event::Flush)?;
+        self.flushes_left -= 1;
+        Ok(())
+    }
+}

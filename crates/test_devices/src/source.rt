@@ -1,0 +1,116 @@
+//! A reader of given bytes.
+ghost use Rattle.std.specs.Prelude.{◌≡◌, Some};
+
+use crate::log::{Event, Log};
+use std::io;
+use std::io::{ErrorKind, Read};
+use std::marker::Model;
+
+/// A reader that gives these bytes: contracts see it as those that are left. At first it gives as many a read as there
+/// is room for, and never fails.
+#[derive(Drop)]
+pub struct Source<'a> {
+    rest: &'a [u8],
+    most: usize,
+    reads_left: usize,
+    is_interrupted: bool,
+    interrupts_next: bool,
+    log: Option<&'a Log>,
+}
+
+impl<'a> Model for Source<'a> {
+    ghost use Rattle.std.specs.Prelude.{List, ℕ, ◌<◌};
+
+    ghost Value = { List ℕ };
+
+    ghost view = { λ s. s.rest.now };
+
+    ghost invariant = { λ s. 0 < s.most };
+}
+
+impl<'a> Source<'a> {
+    /// A reader of all the bytes.
+    pub fn new(bytes: &'a [u8]) -> Source<'a>
+        ensures { result ≡ bytes.now }
+    {
+        Source {
+            rest: bytes,
+            most: usize::MAX,
+            reads_left: usize::MAX,
+            is_interrupted: false,
+            interrupts_next: false,
+            log: None,
+        }
+    }
+
+    /// It gives so many bytes a read at most, and at least one while there are some.
+    pub fn at_most(self, most: usize) -> Source<'a>
+        ensures { result ≡ self.entry }
+    {
+        Source {
+            most: most.max(1),
+            ..self
+        }
+    }
+
+    /// Its first read is interrupted, and from then on every second one.
+    pub fn interrupted(self) -> Source<'a>
+        ensures { result ≡ self.entry }
+    {
+        Source {
+            is_interrupted: true,
+            interrupts_next: true,
+            ..self
+        }
+    }
+
+    /// It fails at each read once it has made so many (`ErrorKind::BrokenPipe`). Interruptions do not count.
+    pub fn failing_after(self, reads: usize) -> Source<'a>
+        ensures { result ≡ self.entry }
+    {
+        Source {
+            reads_left: reads,
+            ..self
+        }
+    }
+
+    /// It notes its reads in the log.
+    pub fn logged(self, log: &'a Log) -> Source<'a>
+        ensures { result ≡ self.entry }
+    {
+        Source {
+            log: Some(log),
+            ..self
+        }
+    }
+
+    fn note(&self, event: Event) -> io::Result<()> {
+        match self.log {
+            Some(log) => log.note(event),
+            None => Ok(()),
+        }
+    }
+}
+
+impl<'a> Read for Source<'a> {
+    ghost remaining = { λ rest. Some rest };
+
+    fn read(&mut self, buf: &mut [u8]) -> io::Result<usize> {
+        if self.interrupts_next {
+            self.interrupts_next = false;
+            return Err(io::Error::from(ErrorKind::Interrupted));
+        }
+        self.interrupts_next = self.is_interrupted;
+        if self.reads_left == 0 {
+            self.note(Event::FailedRead)?;
+            return Err(io::Error::from(ErrorKind::BrokenPipe));
+        }
+        let all = self.rest;
+        let n = all.len().min(self.most).min(buf.len());
+        self.note(Event::Read(n))?;
+        buf[..n].copy_from_slice(&all[..n]);
+        self.rest = &all[n..];
+        self.reads_left -= 1;
+        Ok(n)
+    }
+}
