@@ -1,7 +1,7 @@
 //! Output to any writer.
 //!
 //! Everything that these crates write goes through [`put`]. Contracts say what was written by one word, `Writes`: at `Ok`
-//! the writer's known bytes have grown by the whole text, and at `Err` by a front of it.
+//! the writer's known bytes have grown by the whole text, and at `Err` by a prefix of it.
 //!
 //! What is written takes no memory: no function here, or above it, is given an allocator for it.
 #![tactic(auto)]
@@ -14,13 +14,13 @@ use std::io::{ErrorKind, Write};
 
 /// Writes all the bytes. It goes on after a short write and after an interruption (`ErrorKind::Interrupted`), and gives
 /// up at any other error of the writer, which it hands on, at a write of nothing (`ErrorKind::WriteZero`), and after
-/// 2^64 - 1 writes (`ErrorKind::TimedOut`). After an error a front of the bytes was written.
+/// 2^64 - 1 writes (`ErrorKind::TimedOut`). After an error a prefix of the bytes was written.
 ///
 /// That it fails only where the writer failed can't be said of an unknown writer, since nothing in `Write` tells that one
 /// has failed: the tests show it of a writer that takes one byte at a time and is interrupted at every second write, and
 /// of one that fails at some write.
 pub fn put<W: Write>(writer: &mut W, bytes: &[u8]) -> io::Result<()>
-    ensures { Writes (W.contents writer.old) (W.contents writer.new) result bytes.now }
+    ensures { Writes W.contents writer.old writer.new result bytes.now }
 {
     let mut sent = 0;
     'writes: for _ in 0..u64::MAX {
