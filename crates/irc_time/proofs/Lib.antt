@@ -1,4 +1,4 @@
-pub mod Decoding
-pub mod Days
-pub mod TimeText
-pub mod ReadLaws
+mod DayLemmas
+mod PartsLemmas
+mod ReadingLemmas
+mod TextLemmas

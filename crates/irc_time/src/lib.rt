@@ -9,15 +9,16 @@
 #![tactic(auto)]
 
 ghost use Rattle.std.specs.Prelude.{◌≡◌, ◌↔◌, ℕ, ◌≤◌, IsSome, IfSome};
+ghost use Rattle.irc_time.specs.Time.{greatest};
 
 pub mod laws;
 mod parts;
 mod reading;
-mod writing;
+mod text;
 
 pub use reading::read_time;
 use std::marker::Model;
-pub use writing::write_time;
+pub use text::write_time;
 
 /// The greatest moment, in milliseconds since 1970 began: the last one of the year 9999.
 pub const GREATEST: u64 = 253_402_300_799_999;
@@ -34,7 +35,7 @@ impl Model for Moment {
 
     ghost view = { λ m. m.ms };
 
-    ghost invariant = { λ m. m.ms ≤ 253402300799999 };
+    ghost invariant = { λ m. m.ms ≤ greatest };
 
     ghost inverse = { λ n. record { ms = n } };
 }
@@ -42,7 +43,7 @@ impl Model for Moment {
 impl Moment {
     /// The moment so many milliseconds after 1970 began. None above [`GREATEST`].
     pub fn from_ms(ms: u64) -> Option<Moment>
-        ensures some { IsSome result ↔ (ms ≤ 253402300799999) }
+        ensures some { IsSome result ↔ (ms ≤ greatest) }
         ensures value { IfSome result (λ m. m ≡ ms) }
     {
         if ms <= GREATEST {
@@ -55,7 +56,7 @@ impl Moment {
     /// The milliseconds from the beginning of 1970 to the moment.
     pub fn ms(&self) -> u64
         ensures value { result ≡ self.now }
-        ensures bound { result ≤ 253402300799999 }
+        ensures bound { result ≤ greatest }
     {
         self.ms
     }

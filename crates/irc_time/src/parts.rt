@@ -1,7 +1,7 @@
 //! The fields of a date and a time of day, and their text.
 ghost use Rattle.std.specs.Prelude.{◌≡◌, ◌+◌, ◌%◌};
 ghost use Rattle.irc_time.specs.Time.{text};
-ghost use Rattle.irc_time.specs.PartsView.{fields_of};
+ghost use Rattle.irc_time.specs.Parts.{value_of};
 
 /// The fields of a date and a time of day in UTC. There need be no such date or time.
 #[derive(Clone, Copy)]
@@ -24,7 +24,7 @@ fn digit(n: u64) -> u8
 
 /// The text `YYYY-MM-DDThh:mm:ss.sssZ` of the fields.
 pub(crate) fn text_of(parts: Parts) -> [u8; 24]
-    ensures { result ≡ text (fields_of parts) }
+    ensures { result ≡ text (value_of parts) }
 {
     [
         digit(parts.year / 1000),

@@ -1,8 +1,8 @@
 //! Reading the text of a moment: the fields are decoded without a check, written again and compared.
 ghost use Rattle.std.specs.Prelude.{◌≡◌, ℕ, ◌+◌, ◌-◌, ◌<◌, ◌≤◌, length, slice_index, IfSome, IfNone};
-ghost use Rattle.irc_time.specs.Time.{IsTime, IsDateTime, IsMomentOf};
+ghost use Rattle.irc_time.specs.Time.{IsTime, IsDateTime, HasMoment};
 ghost use Rattle.irc_time.specs.Reading.{two_at, fields_at, time_of};
-ghost use Rattle.irc_time.specs.PartsView.{fields_of};
+ghost use Rattle.irc_time.specs.Parts.{value_of};
 
 use super::Moment;
 use super::parts::{Parts, text_of};
@@ -29,7 +29,7 @@ fn two_at(bytes: &[u8], at: usize) -> u64
 /// What stands in the places of the fields; nothing is asked of the bytes.
 fn parts_at(bytes: &[u8]) -> Parts
     requires { length bytes.now ≡ 24 }
-    ensures { fields_of result ≡ fields_at bytes.now }
+    ensures { value_of result ≡ fields_at bytes.now }
 {
     let year = two_at(bytes, 0) * 100 + two_at(bytes, 2);
     let month = two_at(bytes, 5);
@@ -51,8 +51,8 @@ fn parts_at(bytes: &[u8]) -> Parts
 
 /// The moment of the fields, if there is such a date and time.
 fn moment_of(parts: Parts) -> Option<Moment>
-    ensures some { IfSome result (λ t. IsDateTime (fields_of parts) × IsMomentOf (fields_of parts) t) }
-    ensures none { IfNone result (IsDateTime (fields_of parts) → ⊥) }
+    ensures some { IfSome result (λ t. IsDateTime (value_of parts) × HasMoment (value_of parts) t) }
+    ensures none { IfNone result (IsDateTime (value_of parts) → ⊥) }
 {
     if parts.year < 1970 || parts.year > 9999 || parts.month > 12 || parts.day > 31 {
         return None;

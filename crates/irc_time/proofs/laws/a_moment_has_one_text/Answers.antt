@@ -1,5 +1,5 @@
 use Rattle.std.proofs.Common.{sym, ◌∙◌}
-use Rattle.irc_time.proofs.TimeText.{text_once}
+use Rattle.irc_time.proofs.TextLemmas.{text_once}
 use Rattle.irc_time.proofs.laws.a_moment_has_one_text.Goals as goal
 
 pub returns : goal.returns

@@ -2,10 +2,10 @@ use Rattle.std.proofs.Common.{◌≡◌, None, sym, ◌∙◌, ap, subst, length
 use Rattle.std.proofs.lemmas.Bool.{not-false}
 use Rattle.std.proofs.lemmas.Grind.{common_steps}
 use Rattle.irc_time.specs.Time.{IsDateTime, text}
-use Rattle.irc_time.specs.PartsView.{fields_of}
-use Rattle.irc_time.proofs.Decoding.{spelled_once, same_from}
-use Rattle.irc_time.proofs.Days.{some_weaker, none_weaker}
-use Rattle.irc_time.proofs.ReadLaws.{read-is}
+use Rattle.irc_time.specs.Parts.{value_of}
+use Rattle.irc_time.proofs.PartsLemmas.{spelled_once, same_from}
+use Rattle.irc_time.proofs.DayLemmas.{some_weaker, none_weaker}
+use Rattle.irc_time.proofs.ReadingLemmas.{read-is}
 use Rattle.irc_time.proofs.reading.read_time.Goals as goal
 
 pub returns-then-bytes-ne24-clause-value : goal.returns-then-bytes-ne24-clause-value
@@ -19,9 +19,9 @@ returns-then-ne-clause-value c = read-is c.args.bytes.now None tt (returns-then-
 
 pub returns-clause-some : goal.returns-clause-some
 returns-clause-some c =
-    let spelled : c.args.bytes.now ≡ text (fields_of c.parts_at-parts.result) =
+    let spelled : c.args.bytes.now ≡ text (value_of c.parts_at-parts.result) =
     sym (same_from _ _ (not-false _ (sym c.ne.ensures ∙ c.if-ne.false))) ∙ c.as_slice.ensures ∙ c.text_of-text.ensures in
-    some_weaker c.moment_of.result _ _ (λ t p. record { fields = fields_of c.parts_at-parts.result; exists = p.0; spelled = spelled; moment = p.1 }) c.moment_of.ensures.some
+    some_weaker c.moment_of.result _ _ (λ t p. record { fields = value_of c.parts_at-parts.result; exists = p.0; spelled = spelled; moment = p.1 }) c.moment_of.ensures.some
 
 pub returns-clause-none : goal.returns-clause-none
 returns-clause-none c =

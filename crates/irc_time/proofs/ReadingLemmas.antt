@@ -7,10 +7,10 @@ use Rattle.std.proofs.lemmas.Option.{cond_some}
 use Rattle.jiff_core.specs.declared.civil.date.Date.{Date}
 use Rattle.jiff_core.specs.Calendar.{days_from_civil, days_in_month}
 use Rattle.jiff_core.proofs.SignedLemmas.{signed_arith}
-use Rattle.irc_time.specs.Time.{Fields, IsDateTime, IsMomentOf, IsTime, since_midnight, text}
+use Rattle.irc_time.specs.Time.{Fields, IsDateTime, HasMoment, IsTime, since_midnight, text}
 use Rattle.irc_time.specs.Reading.{fields_at, is_from, is_date, is_time_of_day, is_text, moment_of, time_of}
-use Rattle.irc_time.proofs.Decoding.{spelled_once}
-use Rattle.irc_time.proofs.Days.{days_from_1970}
+use Rattle.irc_time.proofs.PartsLemmas.{spelled_once}
+use Rattle.irc_time.proofs.DayLemmas.{days_from_1970}
 
 both : (a b : Bool) → a ≡ true → b ≡ true → (a && b) ≡ true
 both a b p q = (λ i. p i && q i)
@@ -83,7 +83,7 @@ time_of-is bytes t e =
       fields = f;
       exists = ok;
       spelled = (bytes_decides bytes (text f)).0 p.0;
-      moment = subst (λ n. IsMomentOf f n) w.1 (numbered (days_from_civil (pos f.year) f.month f.day) (since_midnight f) (days_since f ok));
+      moment = subst (λ n. HasMoment f n) w.1 (numbered (days_from_civil (pos f.year) f.month f.day) (since_midnight f) (days_since f ok));
     }
 
 pub is-time_of : (bytes : List ℕ) (t : ℕ) → IsTime bytes t → time_of bytes ≡ Some t

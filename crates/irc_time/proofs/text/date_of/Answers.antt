@@ -5,7 +5,7 @@ use Rattle.jiff_core.specs.Date.{epoch_day}
 use Rattle.jiff_core.proofs.SignedLemmas.{signed_arith}
 use Rattle.jiff_core.proofs.DateLemmas.{epoch_day-lt}
 use Rattle.jiff_core.proofs.StandardFacts.{known_days}
-use Rattle.irc_time.proofs.writing.date_of.Goals as goal
+use Rattle.irc_time.proofs.text.date_of.Goals as goal
 
 first_day : Date
 first_day = record { year = pos 1970; month = 1; day = 1; year_in = search rules; month_in = search rules; day_in = search rules }

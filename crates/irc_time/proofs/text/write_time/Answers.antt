@@ -3,8 +3,8 @@ use Rattle.std.proofs.lemmas.Bool.{cond-false, ne_eqb}
 use Rattle.jiff_core.specs.Calendar.{days_from_civil, days_in_month}
 use Rattle.jiff_core.proofs.SignedLemmas.{signed_arith}
 use Rattle.irc_time.specs.Time.{Fields, IsFrom, since_midnight}
-use Rattle.irc_time.proofs.TimeText.{text_once}
-use Rattle.irc_time.proofs.writing.write_time.Goals as goal
+use Rattle.irc_time.proofs.TextLemmas.{text_once}
+use Rattle.irc_time.proofs.text.write_time.Goals as goal
 
 -- the parts of a day
 of_day : (in_day : ℕ) → (in_day / 60000 / 60 * 60 + in_day / 60000 % 60) * 60000 + (in_day % 60000 / 1000 * 1000 + in_day % 60000 % 1000) ≡ in_day

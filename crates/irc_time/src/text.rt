@@ -2,7 +2,7 @@
 ghost use Rattle.std.specs.Prelude.{◌≡◌, pos, ◌≤◌, ◌≤ℤ◌};
 ghost use Rattle.jiff_core.specs.Date.{epoch_day};
 ghost use Rattle.irc_time.specs.Time.{IsTextOf};
-ghost use Rattle.irc_time.specs.Written.{time_text};
+ghost use Rattle.irc_time.specs.Text.{time_text};
 
 use super::Moment;
 use super::parts::{Parts, text_of};

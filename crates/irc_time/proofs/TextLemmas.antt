@@ -14,23 +14,23 @@ use Rattle.jiff_core.specs.Calendar.{days_from_civil, days_in_month}
 use Rattle.jiff_core.proofs.SignedLemmas.{signed_arith}
 use Rattle.jiff_core.proofs.DateLemmas.{epoch_day_injective}
 use Rattle.irc_time.specs.Time.{Fields, since_midnight, text, IsTextOf}
-use Rattle.irc_time.specs.Written.{first_given, Day, if_day, date_of, fields_on, time_text}
+use Rattle.irc_time.specs.Text.{first_some, Day, if_day, date_of, fields_on, time_text}
 
 -- ---- what the first number gives that gives something
 
 module _ {A : Type 0} (give : ℕ → Option A) where
-  given_by : (n : ℕ) (z : A) → first_given give n ≡ Some z → (j : ℕ) × (j < n) × (give j ≡ Some z)
+  given_by : (n : ℕ) (z : A) → first_some give n ≡ Some z → (j : ℕ) × (j < n) × (give j ≡ Some z)
   given_by zero z e = cc
-  given_by (suc n) z e = go (λ y f. given_by n y f) (first_given give n) refl e where
-    go : ((y : A) → first_given give n ≡ Some y → (j : ℕ) × (j < n) × (give j ≡ Some y)) → (o : Option A) → first_given give n ≡ o → option_or o (give n) ≡ Some z
+  given_by (suc n) z e = go (λ y f. given_by n y f) (first_some give n) refl e where
+    go : ((y : A) → first_some give n ≡ Some y → (j : ℕ) × (j < n) × (give j ≡ Some y)) → (o : Option A) → first_some give n ≡ o → option_or o (give n) ≡ Some z
         → (j : ℕ) × (j < suc n) × (give j ≡ Some z)
     go again None f g = (n, omega arith, g)
     go again (Some y) f g = (let w = again y f in (w.0, (let l = w.1 in omega arith), w.2 ∙ g))
 
-  found : (x : A) (n k : ℕ) → ((j : ℕ) (z : A) → j < n → give j ≡ Some z → z ≡ x) → k < n → give k ≡ Some x → first_given give n ≡ Some x
+  found : (x : A) (n k : ℕ) → ((j : ℕ) (z : A) → j < n → give j ≡ Some z → z ≡ x) → k < n → give k ≡ Some x → first_some give n ≡ Some x
   found x zero k only h e = absurd (omega arith)
-  found x (suc n) k only h e = go (λ lt. found x n k (λ j w i m. only j w (omega arith) m) lt e) (first_given give n) refl (cases_lt k n) where
-    go : ((k < n) → first_given give n ≡ Some x) → (o : Option A) → first_given give n ≡ o → ((k < n) ⊎ (n ≤ k)) → option_or o (give n) ≡ Some x
+  found x (suc n) k only h e = go (λ lt. found x n k (λ j w i m. only j w (omega arith) m) lt e) (first_some give n) refl (cases_lt k n) where
+    go : ((k < n) → first_some give n ≡ Some x) → (o : Option A) → first_some give n ≡ o → ((k < n) ⊎ (n ≤ k)) → option_or o (give n) ≡ Some x
     go again (Some y) f c = (let w = given_by n y f in ap Some (only w.0 y (let l = w.1 in omega arith) w.2))
     go again None f (inl lt) = (let there = again lt in cc)
     go again None f (inr le) = (let same : k ≡ n = omega arith in ap give (sym same) ∙ e)
@@ -80,14 +80,14 @@ module _ (n y m d : ℕ) (hy : y < 8030) (hm : m < 12) (hd : d < days_in_month (
   in_month v l k = if_day n (1970 + v) (l + 1) (k + 1)
 
   abbrev in_year : ℕ → ℕ → Option Day
-  in_year v l = first_given (in_month v l) (days_in_month (pos (1970 + v)) (l + 1))
+  in_year v l = first_some (in_month v l) (days_in_month (pos (1970 + v)) (l + 1))
 
   date_is : date_of n ≡ Some it
   unfolding date_of
   date_is =
-      found (λ v. first_given (λ l. first_given (λ k. if_day n (1970 + v) (l + 1) (k + 1)) (days_in_month (pos (1970 + v)) (l + 1))) 12) it 8030 y
+      found (λ v. first_some (λ l. first_some (λ k. if_day n (1970 + v) (l + 1) (k + 1)) (days_in_month (pos (1970 + v)) (l + 1))) 12) it 8030 y
       (λ v z hv e. let a = given_by (in_year v) 12 z e in let b = given_by (in_month v a.0) (days_in_month (pos (1970 + v)) (a.0 + 1)) z a.2 in only_day z v a.0 b.0 hv a.1 b.1 b.2) hy
-      (found (λ l. first_given (λ k. if_day n (1970 + y) (l + 1) (k + 1)) (days_in_month (pos (1970 + y)) (l + 1))) it 12 m
+      (found (λ l. first_some (λ k. if_day n (1970 + y) (l + 1) (k + 1)) (days_in_month (pos (1970 + y)) (l + 1))) it 12 m
       (λ l z hl e. let b = given_by (in_month y l) (days_in_month (pos (1970 + y)) (l + 1)) z e in only_day z y l b.0 hy hl b.1 b.2) hm
       (found (λ k. if_day n (1970 + y) (m + 1) (k + 1)) it (days_in_month (pos (1970 + y)) (m + 1)) d
       (λ k z hk e. only_day z y m k hy hm hk e) hd (if_day_is n (1970 + y) (m + 1) (d + 1) is)))

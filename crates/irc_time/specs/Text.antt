@@ -6,9 +6,9 @@ use Rattle.jiff_core.specs.Calendar.{days_from_civil, days_in_month}
 use Rattle.irc_time.specs.Time.{Fields, text}
 
 -- what the first of the numbers below n gives that gives something
-abbrev pub first_given : {A : Type 0} → (ℕ → Option A) → ℕ → Option A
-first_given give zero = None
-first_given give (suc n) = option_or (first_given give n) (give n)
+abbrev pub first_some : {A : Type 0} → (ℕ → Option A) → ℕ → Option A
+first_some give zero = None
+first_some give (suc n) = option_or (first_some give n) (give n)
 
 pub record Day : Type 0 where
   pub year : ℕ
@@ -23,7 +23,7 @@ if_day n year month day =
 -- the date from 1970 to 9999 whose day number is n
 unfoldable pub date_of : ℕ → Option Day
 date_of n =
-    first_given (λ y. first_given (λ m. first_given (λ d. if_day n (1970 + y) (m + 1) (d + 1)) (days_in_month (pos (1970 + y)) (m + 1))) 12) 8030
+    first_some (λ y. first_some (λ m. first_some (λ d. if_day n (1970 + y) (m + 1) (d + 1)) (days_in_month (pos (1970 + y)) (m + 1))) 12) 8030
 
 -- the fields of a moment on that date
 abbrev pub fields_on : ℕ → Day → Fields
