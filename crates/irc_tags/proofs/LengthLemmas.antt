@@ -1,23 +1,25 @@
 -- What is written of tag data is no longer than the data.
-use Rattle.std.proofs.Common.{◌≡◌, ℕ, ◌+◌, ◌-◌, ◌≤◌, Bool, true, false, cond, List, [], ◌∷◌, ◌++◌, length, map, take, drop, get_or, refl, ap, arith, length-append, length-take, length-drop, inl, inr, ◌==◌}
+use Rattle.std.proofs.Common.{◌≡◌, ℕ, ◌+◌, ◌-◌, ◌≤◌, Bool, true, false, cond, List, [], ◌∷◌, ◌++◌, length, map, take, drop, get_or, refl, ap, ◌∙◌, arith, length-append, length-take, length-drop, inl, inr, ◌==◌}
 use Rattle.std.specs.List.{All, AllByRecursion, slice_split, onto_first, position_or_len}
 use Rattle.std.proofs.lemmas.Bool.{or_parts, cases_lt}
 use Rattle.std.proofs.lemmas.List.{drop_all}
 use Rattle.std.proofs.lemmas.List.Elements.{All-nil, All-cons, All-head, All-tail, All-drop, All-from_recursion, recursion_from_All}
 use Rattle.indexmap.specs.IndexMap.{insert_entry}
 use Rattle.std.proofs.lemmas.Slice.Eq.{bytes_eq-Decides}
-use Rattle.irc_tags.specs.Escape.{unescape, escape, escaped, value_behind, value_of}
-use Rattle.irc_tags.specs.Tags.{Tag, is_semicolon, is_equals, has_key, same_bytes, tag_of, tag_list, value_part, tag_text, tags_text}
+use Rattle.irc_tags.specs.Value.{escaped_byte, byte_text, value_text, value_in}
+use Rattle.irc_tags.specs.TagList.{Tag, is_semicolon, is_equals, has_key, same_bytes, tag_of, tag_list}
+use Rattle.irc_tags.specs.Text.{value_part, tag_text, tags_text}
 use Rattle.irc_tags.specs.Standing.{ends_tag_data, is_nul}
 use Rattle.irc_tags.specs.Entries.{with_tags}
-use Rattle.irc_tags.proofs.Merging.{with_tags-all}
+use Rattle.irc_tags.proofs.ValueLemmas.{value_in-nil, value_in-plain, value_in-pair, value_in-last}
+use Rattle.irc_tags.proofs.MergingLemmas.{with_tags-all}
 use Rattle.irc_tags.proofs.StandingLemmas.{parts_all, parts_fail}
 
 -- a byte that is written as it is, unless it is a backslash
 abbrev is_plain : ℕ → Type 0
 is_plain b = ((b == 59) ≡ false) × ((b == 32) ≡ false) × ((b == 13) ≡ false) × ((b == 10) ≡ false)
 
-escape_short : (b : ℕ) → length (escape b) ≤ 2
+escape_short : (b : ℕ) → length (byte_text b) ≤ 2
 escape_short b = at_semicolon (b == 59) where
   at_lf : (t : Bool) → length (cond t (92 ∷ 110 ∷ []) (b ∷ [])) ≤ 2
   at_lf true = omega arith
@@ -39,54 +41,54 @@ escape_short b = at_semicolon (b == 59) where
   at_semicolon true = omega arith
   at_semicolon false = at_space (b == 32)
 
-escape_plain : (b : ℕ) → is_plain b → (b == 92) ≡ false → escape b ≡ b ∷ []
+escape_plain : (b : ℕ) → is_plain b → (b == 92) ≡ false → byte_text b ≡ b ∷ []
 escape_plain b plain other =
     (λ i. cond (plain.0 i) (92 ∷ 58 ∷ []) (cond (plain.1 i) (92 ∷ 115 ∷ []) (cond (other i) (92 ∷ 92 ∷ []) (cond (plain.2 i) (92 ∷ 114 ∷ []) (cond (plain.3 i) (92 ∷ 110 ∷ []) (b ∷ []))))))
 
--- the room that a backslash before the bytes has taken
-abbrev room_of : Bool → ℕ
-room_of true = 1
-room_of false = 0
+-- one byte more
+plain_length : (b : ℕ) (bytes : List ℕ) → is_plain b → (b == 92) ≡ false → length (value_text (value_in bytes)) ≤ length bytes → length (value_text (value_in (b ∷ bytes))) ≤ length (b ∷ bytes)
+plain_length b bytes plain e rest =
+    let value : value_text (value_in (b ∷ bytes)) ≡ (b ∷ []) ++ value_text (value_in bytes) =
+    ap value_text (value_in-plain b bytes e) ∙ ap (λ l. l ++ value_text (value_in bytes)) (escape_plain b plain e) in
+    omega (arith, ap length value)
 
-value_length : (behind : Bool) (bytes : List ℕ) → All is_plain bytes → length (escaped (value_behind behind bytes)) ≤ length bytes + room_of behind
-value_length true [] all = omega arith
-value_length false [] all = omega arith
-value_length true (b ∷ bytes) all =
-    let rest = value_length false bytes (All-tail is_plain b bytes all) in
-    let short = escape_short (unescape b) in
-    let sum = length-append (escape (unescape b)) (escaped (value_behind false bytes)) in
-    omega arith
-value_length false (b ∷ bytes) all = go (b == 92) refl (value_length true bytes (All-tail is_plain b bytes all)) (value_length false bytes (All-tail is_plain b bytes all)) where
-  go : (t : Bool) → (b == 92) ≡ t → length (escaped (value_behind true bytes)) ≤ length bytes + 1 → length (escaped (value_behind false bytes)) ≤ length bytes + 0
-      → length (escaped (cond t (value_behind true bytes) (b ∷ value_behind false bytes))) ≤ length (b ∷ bytes) + 0
-  go true e escape_first plain = omega arith
-  go false e escape_first plain =
-      let same = escape_plain b (All-head is_plain b bytes all) e in
-      let size : length (escape b ++ escaped (value_behind false bytes)) ≡ length ((b ∷ []) ++ escaped (value_behind false bytes)) =
-      ap (λ l. length (l ++ escaped (value_behind false bytes))) same in
-      omega arith
+value_length : (bytes : List ℕ) → All is_plain bytes → length (value_text (value_in bytes)) ≤ length bytes
+value_length [] all = omega (arith, ap (λ l. length (value_text l)) value_in-nil)
+value_length (b ∷ []) all = go (b == 92) refl where
+  go : (t : Bool) → (b == 92) ≡ t → length (value_text (value_in (b ∷ []))) ≤ 1
+  go true e = omega (arith, ap (λ l. length (value_text l)) (value_in-last b e))
+  go false e = plain_length b [] (All-head is_plain b [] all) e (omega (arith, ap (λ l. length (value_text l)) value_in-nil))
+value_length (b ∷ next ∷ bytes) all =
+    let tail = All-tail is_plain b (next ∷ bytes) all in
+    go (b == 92) refl (value_length bytes (All-tail is_plain next bytes tail)) (value_length (next ∷ bytes) tail) where
+      go : (t : Bool) → (b == 92) ≡ t → length (value_text (value_in bytes)) ≤ length bytes → length (value_text (value_in (next ∷ bytes))) ≤ length (next ∷ bytes)
+          → length (value_text (value_in (b ∷ next ∷ bytes))) ≤ length (b ∷ next ∷ bytes)
+      go true e behind_pair behind =
+          let short = escape_short (escaped_byte next) in
+          let sum = length-append (byte_text (escaped_byte next)) (value_text (value_in bytes)) in
+          omega (arith, ap (λ l. length (value_text l)) (value_in-pair b next bytes e))
+      go false e behind_pair behind = plain_length b (next ∷ bytes) (All-head is_plain b (next ∷ bytes) all) e behind
 
-value_part_length : (value : List ℕ) → length (value_part value) ≤ length (escaped value) + 1
+value_part_length : (value : List ℕ) → length (value_part value) ≤ length (value_text value) + 1
 value_part_length [] = omega arith
 value_part_length (b ∷ value) = omega arith
 
 -- a tag's text is no longer than the bytes that it was read from
 tag_length : (part : List ℕ) → All is_plain part → length (tag_text (tag_of part)) ≤ length part
-unfolding value_of
 tag_length part all =
     let n = position_or_len is_equals part in
     let key = length-take n part in
-    let sum = length-append (take n part) (value_part (value_behind false (drop (n + 1) part))) in
+    let sum = length-append (take n part) (value_part (value_in (drop (n + 1) part))) in
     elim (cases_lt n (length part)) [
       | inl within ↦ (
-          let rest = value_length false (drop (n + 1) part) (All-drop is_plain (n + 1) part all) in
-          let value = value_part_length (value_behind false (drop (n + 1) part)) in
+          let rest = value_length (drop (n + 1) part) (All-drop is_plain (n + 1) part all) in
+          let value = value_part_length (value_in (drop (n + 1) part)) in
           let left = length-drop (n + 1) part in
           omega arith
           )
       | inr past ↦ (
-          let none : length (value_part (value_behind false (drop (n + 1) part))) ≡ 0 =
-          ap (λ l. length (value_part (value_behind false l))) (drop_all (n + 1) part (omega arith)) in
+          let none : length (value_part (value_in (drop (n + 1) part))) ≡ 0 =
+          ap (λ l. length (value_part (value_in l))) (drop_all (n + 1) part (omega arith)) ∙ ap (λ l. length (value_part l)) value_in-nil in
           omega arith
           )
     ]

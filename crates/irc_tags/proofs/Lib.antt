@@ -1,8 +1,8 @@
-pub mod Cutting
-pub mod Entries
-pub mod Joining
-pub mod LengthLemmas
-pub mod Merging
-pub mod ReadBack
-pub mod Round
-pub mod StandingLemmas
+mod CuttingLemmas
+mod EntriesLemmas
+mod LengthLemmas
+mod MergingLemmas
+mod ReadBackLemmas
+mod StandingLemmas
+mod TextLemmas
+mod ValueLemmas

@@ -6,10 +6,11 @@ use Rattle.std.proofs.lemmas.List.{get_or-take, length-take}
 use Rattle.std.proofs.lemmas.List.Elements.{All-from_recursion, recursion_from_All, All-nil, All-cons, All-head, All-tail, All-filter, All-take, All-drop, All-weaker, filter_passes}
 use Rattle.std.proofs.lemmas.List.Sums.{fails_before_first}
 use Rattle.std.proofs.lemmas.Map.Made.{IsDistinct-keys_filter}
-use Rattle.irc_tags.specs.Tags.{Tag, is_semicolon, is_equals, has_key, same_bytes, merged, tag_of, tags_of, tag_list, last_value}
+use Rattle.irc_tags.specs.TagList.{Tag, is_semicolon, is_equals, has_key, same_bytes, tags_by_key, tag_of, tags_of, tag_list, last_value}
 use Rattle.irc_tags.specs.Standing.{ends_key, IsKey, CanStand, is_nul, ends_tag_data, CanStandInLine}
-use Rattle.irc_tags.specs.Escape.{backslash, unescape, value_behind, value_of}
-use Rattle.irc_tags.proofs.Merging.{without, merged-nil, merged-cons}
+use Rattle.irc_tags.specs.Value.{backslash, escaped_byte, value_in}
+use Rattle.irc_tags.proofs.ValueLemmas.{value_in-nil, value_in-plain, value_in-pair, value_in-last}
+use Rattle.irc_tags.proofs.MergingLemmas.{without, tags_by_key-nil, tags_by_key-cons}
 
 -- what is left without a key has other keys
 other_keys : (key : List ℕ) (ts : List Tag) → AllByRecursion (λ y. same_bytes key y ≡ false) (map (λ t. t.0) (without key ts))
@@ -20,20 +21,20 @@ other_keys key (t ∷ ts) = go (same_bytes key t.0) refl (other_keys key ts) whe
   go true e rest = subst (λ b. AllByRecursion (λ y. same_bytes key y ≡ false) (map (λ t. t.0) (cond (not b) (t ∷ without key ts) (without key ts)))) (sym e) rest
   go false e rest = subst (λ b. AllByRecursion (λ y. same_bytes key y ≡ false) (map (λ t. t.0) (cond (not b) (t ∷ without key ts) (without key ts)))) (sym e) (e, rest)
 
-merged_distinct : (ts : List Tag) → IsDistinct same_bytes (map (λ t. t.0) (merged ts))
+merged_distinct : (ts : List Tag) → IsDistinct same_bytes (map (λ t. t.0) (tags_by_key ts))
 unfolding IsDistinct
-merged_distinct [] = subst (λ l. IsDistinct same_bytes (map (λ t. t.0) l)) (sym merged-nil) tt
+merged_distinct [] = subst (λ l. IsDistinct same_bytes (map (λ t. t.0) l)) (sym tags_by_key-nil) tt
 merged_distinct (t ∷ ts) =
-    subst (λ l. IsDistinct same_bytes (map (λ t. t.0) l)) (sym (merged-cons t ts))
-    (other_keys t.0 (merged ts), IsDistinct-keys_filter same_bytes (λ e. not (same_bytes t.0 e.0)) (merged ts) (merged_distinct ts))
+    subst (λ l. IsDistinct same_bytes (map (λ t. t.0) l)) (sym (tags_by_key-cons t ts))
+    (other_keys t.0 (tags_by_key ts), IsDistinct-keys_filter same_bytes (λ e. not (same_bytes t.0 e.0)) (tags_by_key ts) (merged_distinct ts))
 
--- the keys of the merged list are keys of the list
-merged_keys : (P : List ℕ → Type 0) (ts : List Tag) → All (λ t. P t.0) ts → All (λ t. P t.0) (merged ts)
-merged_keys P [] all = subst (λ l. All (λ t. P t.0) l) (sym merged-nil) (All-nil (λ t. P t.0))
+-- the keys of the tags_by_key list are keys of the list
+merged_keys : (P : List ℕ → Type 0) (ts : List Tag) → All (λ t. P t.0) ts → All (λ t. P t.0) (tags_by_key ts)
+merged_keys P [] all = subst (λ l. All (λ t. P t.0) l) (sym tags_by_key-nil) (All-nil (λ t. P t.0))
 merged_keys P (t ∷ ts) all =
-    subst (λ l. All (λ t. P t.0) l) (sym (merged-cons t ts))
-    (All-cons (λ t. P t.0) (t.0, last_value t.0 t.1 ts) (without t.0 (merged ts)) (All-head (λ t. P t.0) t ts all)
-    (All-filter (λ e. not (same_bytes t.0 e.0)) (λ t. P t.0) (merged ts) (merged_keys P ts (All-tail (λ t. P t.0) t ts all))))
+    subst (λ l. All (λ t. P t.0) l) (sym (tags_by_key-cons t ts))
+    (All-cons (λ t. P t.0) (t.0, last_value t.0 t.1 ts) (without t.0 (tags_by_key ts)) (All-head (λ t. P t.0) t ts all)
+    (All-filter (λ e. not (same_bytes t.0 e.0)) (λ t. P t.0) (tags_by_key ts) (merged_keys P ts (All-tail (λ t. P t.0) t ts all))))
 
 onto_first_all : (P : ℕ → Type 0) (x : ℕ) (parts : List (List ℕ)) → P x → AllByRecursion (AllByRecursion P) parts → AllByRecursion (AllByRecursion P) (onto_first x parts)
 onto_first_all P x [] h all = ((h, tt), tt)
@@ -92,8 +93,8 @@ parts_all P p (x ∷ xs) all = go (p x) (parts_all P p xs all.1) where
   go true rest = (tt, rest)
   go false rest = onto_first_all P x (slice_split p xs) all.0 rest
 
--- no escape spells a NUL
-unescaped : (b : ℕ) → is_nul b ≡ false → is_nul (unescape b) ≡ false
+-- no byte_text spells a NUL
+unescaped : (b : ℕ) → is_nul b ≡ false → is_nul (escaped_byte b) ≡ false
 unescaped b e = at_colon (b == 58) where
   at_n : (t : Bool) → is_nul (cond t 10 b) ≡ false
   at_n true = refl
@@ -111,27 +112,30 @@ unescaped b e = at_colon (b == 58) where
   at_colon true = refl
   at_colon false = at_s (b == 115)
 
-value_without_nul : (behind : Bool) (bytes : List ℕ) → AllByRecursion (λ b. is_nul b ≡ false) bytes → AllByRecursion (λ b. is_nul b ≡ false) (value_behind behind bytes)
-value_without_nul true [] all = tt
-value_without_nul false [] all = tt
-value_without_nul true (b ∷ bytes) all = (unescaped b all.0, value_without_nul false bytes all.1)
-value_without_nul false (b ∷ bytes) all = go (b == backslash) (value_without_nul true bytes all.1) (value_without_nul false bytes all.1) where
-  go : (t : Bool) → AllByRecursion (λ b. is_nul b ≡ false) (value_behind true bytes) → AllByRecursion (λ b. is_nul b ≡ false) (value_behind false bytes)
-      → AllByRecursion (λ b. is_nul b ≡ false) (cond t (value_behind true bytes) (b ∷ value_behind false bytes))
-  go true escape plain = escape
-  go false escape plain = (all.0, plain)
+abbrev HasNoNul : List ℕ → Type 0
+HasNoNul bytes = AllByRecursion (λ b. is_nul b ≡ false) bytes
+
+value_without_nul : (bytes : List ℕ) → HasNoNul bytes → HasNoNul (value_in bytes)
+value_without_nul [] all = subst HasNoNul (sym value_in-nil) tt
+value_without_nul (b ∷ []) all = go (b == backslash) refl where
+  go : (t : Bool) → (b == backslash) ≡ t → HasNoNul (value_in (b ∷ []))
+  go true e = subst HasNoNul (sym (value_in-last b e)) tt
+  go false e = subst HasNoNul (sym (value_in-plain b [] e ∙ ap (λ l. b ∷ l) value_in-nil)) all
+value_without_nul (b ∷ next ∷ bytes) all = go (b == backslash) refl (value_without_nul bytes all.1.1) (value_without_nul (next ∷ bytes) all.1) where
+  go : (t : Bool) → (b == backslash) ≡ t → HasNoNul (value_in bytes) → HasNoNul (value_in (next ∷ bytes)) → HasNoNul (value_in (b ∷ next ∷ bytes))
+  go true e behind_pair behind = subst HasNoNul (sym (value_in-pair b next bytes e)) (unescaped next all.1.0, behind_pair)
+  go false e behind_pair behind = subst HasNoNul (sym (value_in-plain b (next ∷ bytes) e)) (all.0, behind)
 
 -- a tag that may stand in a line
 abbrev StandsInLine : Tag → Type 0
 StandsInLine tag = All (λ b. ends_tag_data b ≡ false) tag.0 × All (λ b. is_nul b ≡ false) tag.1
 
 tag_in_line : (part : List ℕ) → All (λ b. ends_tag_data b ≡ false) part → StandsInLine (tag_of part)
-unfolding value_of
 tag_in_line part all =
     let n = position_or_len is_equals part in
     let rest = All-drop (λ b. is_nul b ≡ false) (n + 1) part (All-weaker (λ b. ends_tag_data b ≡ false) (λ b. is_nul b ≡ false) (λ b e. (or_parts (is_nul b) _ e).0) part all) in (
       All-take (λ b. ends_tag_data b ≡ false) n part all,
-      All-from_recursion (λ b. is_nul b ≡ false) (value_behind false (drop (n + 1) part)) (value_without_nul false (drop (n + 1) part) (recursion_from_All (λ b. is_nul b ≡ false) (drop (n + 1) part) rest)),
+      All-from_recursion (λ b. is_nul b ≡ false) (value_in (drop (n + 1) part)) (value_without_nul (drop (n + 1) part) (recursion_from_All (λ b. is_nul b ≡ false) (drop (n + 1) part) rest)),
     )
 
 tags_in_line : (parts : List (List ℕ)) → AllByRecursion (AllByRecursion (λ b. ends_tag_data b ≡ false)) parts → All StandsInLine (map tag_of parts)
@@ -147,15 +151,15 @@ last_value_of Q key value (t ∷ ts) h all =
       one_of true = All-head (λ t. Q t.1) t ts all
       one_of false = h
 
-merged_in_line : (ts : List Tag) → All StandsInLine ts → All StandsInLine (merged ts)
-merged_in_line [] all = subst (λ l. All StandsInLine l) (sym merged-nil) (All-nil StandsInLine)
+merged_in_line : (ts : List Tag) → All StandsInLine ts → All StandsInLine (tags_by_key ts)
+merged_in_line [] all = subst (λ l. All StandsInLine l) (sym tags_by_key-nil) (All-nil StandsInLine)
 merged_in_line (t ∷ ts) all =
     let here = All-head StandsInLine t ts all in
     let rest = All-tail StandsInLine t ts all in
-    subst (λ l. All StandsInLine l) (sym (merged-cons t ts))
-    (All-cons StandsInLine (t.0, last_value t.0 t.1 ts) (without t.0 (merged ts))
+    subst (λ l. All StandsInLine l) (sym (tags_by_key-cons t ts))
+    (All-cons StandsInLine (t.0, last_value t.0 t.1 ts) (without t.0 (tags_by_key ts))
     (here.0, last_value_of (λ v. All (λ b. is_nul b ≡ false) v) t.0 t.1 ts here.1 (λ k d h. (rest k d h).1))
-    (All-filter (λ e. not (same_bytes t.0 e.0)) StandsInLine (merged ts) (merged_in_line ts rest)))
+    (All-filter (λ e. not (same_bytes t.0 e.0)) StandsInLine (tags_by_key ts) (merged_in_line ts rest)))
 
 pub CanStandInLine-tag_list : (bytes : List ℕ) → All (λ b. ends_tag_data b ≡ false) bytes → CanStandInLine (tag_list bytes)
 unfolding tag_list

@@ -1,12 +1,12 @@
 -- A list of tags that is made tag by tag.
-use Rattle.std.specs.Prelude.{ℕ, List, [], ◌∷◌, Vec, map, if◌then◌else◌}
+use Rattle.std.specs.Prelude.{◌≡◌, ℕ, List, [], ◌∷◌, Vec, map, if◌then◌else◌}
 use Rattle.std.specs.declared.alloc.Global.{Global}
 use Rattle.indexmap.specs.IndexMap.{insert_entry}
-use Rattle.irc_tags.specs.Tags.{Tag, has_key, same_bytes}
+use Rattle.irc_tags.specs.TagList.{Tag, tag_of, has_key, same_bytes}
 
 -- the bytes of the keys and the values of a map
-abbrev pub tags_in : List (Vec ℕ Global × Vec ℕ Global) → List Tag
-tags_in entries = map (λ e. (e.0.items, e.1.items)) entries
+abbrev pub value_of : List (Vec ℕ Global × Vec ℕ Global) → List Tag
+value_of entries = map (λ e. (e.0.items, e.1.items)) entries
 
 -- the tags with one more: its key keeps its place where it is there and takes the value, and a new key goes last. A tag
 -- with an empty key is skipped.
@@ -17,3 +17,7 @@ with_tag tags tag = if has_key tag then insert_entry same_bytes tags tag.0 tag.1
 abbrev pub with_tags : List Tag → List Tag → List Tag
 with_tags tags [] = tags
 with_tags tags (tag ∷ more) = with_tags (with_tag tags tag) more
+
+-- the map takes the tag that these bytes spell
+abbrev pub PutsTag : List (Vec ℕ Global × Vec ℕ Global) → List (Vec ℕ Global × Vec ℕ Global) → List ℕ → Type 0
+PutsTag old new bytes = value_of new ≡ with_tag (value_of old) (tag_of bytes)

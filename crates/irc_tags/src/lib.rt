@@ -2,13 +2,13 @@
 #![tactic(auto)]
 
 pub mod laws;
-mod list;
+mod tag_list;
+mod text;
 mod value;
-mod writing;
 
-pub use list::{MAX_TAG_DATA, TagFault, Tags, read_tags};
+pub use tag_list::{MAX_TAG_DATA, TagFault, Tags, read_tags};
+pub use text::{write_tag, write_tags};
 pub use value::{read_value, write_value};
-pub use writing::{write_tag, write_tags};
 
 #[cfg(test)]
 mod tests;

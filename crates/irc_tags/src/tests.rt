@@ -1,45 +1,15 @@
-//! Tags as the specifications show them, and writers that fail or take a byte at a time.
-ghost use Rattle.std.specs.Prelude.{Some};
-
+//! Tags as the specifications show them, tags at the documented limits, and writers that fail or take a byte at a time.
 use super::*;
-use std::io;
-use std::io::{ErrorKind, Write};
+use std::alloc::Global;
 use std::test::Fail;
+use test_devices::Sink;
 
-/// Takes one byte a write, and fails at each write once it has taken so many. Every second write is interrupted.
-#[derive(Drop)]
-struct OneByte {
-    bytes: Vec<u8>,
-    writes_left: usize,
-    interrupts: bool,
-}
-
-impl Write for OneByte {
-    ghost contents = { λ w. Some w.bytes.items };
-
-    fn write(&mut self, buf: &[u8]) -> io::Result<usize> {
-        if self.writes_left == 0 {
-            return Err(io::Error::from(ErrorKind::BrokenPipe));
-        }
-        self.interrupts = !self.interrupts;
-        if self.interrupts {
-            return Err(io::Error::from(ErrorKind::Interrupted));
-        }
-        if buf.is_empty() {
-            return Ok(0);
-        }
-        match self.bytes.push(buf[0]) {
-            Ok(()) => {
-                self.writes_left -= 1;
-                Ok(1)
-            }
-            Err(_) => Err(io::Error::from(ErrorKind::OutOfMemory)),
-        }
-    }
-
-    fn flush(&mut self) -> io::Result<()> {
-        Ok(())
-    }
+/// Takes one byte a write, is interrupted at every second one, and fails once it has taken so many bytes.
+fn failing_sink<'a>(alloc: Global, bytes: usize) -> Sink<'a> {
+    Sink::new(alloc)
+        .at_most(1)
+        .interrupted()
+        .failing_after(bytes)
 }
 
 /// Each key has its value. The first rows are of the parser tests of ircdocs, the others of the rules for equal and
@@ -121,17 +91,13 @@ fn writes_tags(rt: HostRuntime) -> Result<(), Fail> {
     let tags = read_tags(rt.alloc(), br"msgid=a\:b;k;+x=\s\\\r\n=\;k=")?;
     let text = br"msgid=a\:b;k;+x=\s\\\r\n=";
     for k in 0..text.len() + 1 {
-        let mut writer = OneByte {
-            bytes: Vec::new(rt.alloc()),
-            writes_left: k,
-            interrupts: k % 2 == 0,
-        };
+        let mut writer = failing_sink(rt.alloc(), k);
         assert_eq!(rt;
             write_tags(&tags, &mut writer).is_ok(),
             k == text.len(),
             "at {k}"
         );
-        assert!(rt; writer.bytes.as_slice() == &text[..k], "at {k}");
+        assert!(rt; writer.bytes() == &text[..k], "at {k}");
     }
     Ok(())
 }
@@ -141,11 +107,7 @@ fn writes_tags(rt: HostRuntime) -> Result<(), Fail> {
 fn writes_values(rt: HostRuntime) -> Result<(), Fail> {
     let text = br"+a=\:b\s\\\r\n";
     for k in 0..text.len() + 1 {
-        let mut writer = OneByte {
-            bytes: Vec::new(rt.alloc()),
-            writes_left: k,
-            interrupts: k % 2 == 0,
-        };
+        let mut writer = failing_sink(rt.alloc(), k);
         assert_eq!(rt;
             write_tag(b"+a", b";", &mut writer).is_ok(),
             k >= 5,
@@ -157,8 +119,61 @@ fn writes_values(rt: HostRuntime) -> Result<(), Fail> {
             k == 14,
             "at {k}"
         );
-        assert!(rt; writer.bytes.as_slice() == &text[..k], "at {k}");
+        assert!(rt; writer.bytes() == &text[..k], "at {k}");
     }
     assert!(rt; read_value(rt.alloc(), br"\s\\\r\n")?.as_slice() == b" \\\r\n".as_slice());
+    Ok(())
+}
+
+/// Some hundred tags are read in their order, and written as they were sent.
+#[test]
+fn reads_many_tags(rt: HostRuntime) -> Result<(), Fail> {
+    let mut data: Vec<u8> = Vec::new(rt.alloc());
+    for i in 0..400u16 {
+        if i > 0 {
+            data.push(b';')?;
+        }
+        data.extend_from_slice(format!(in rt.alloc(); "k{i}=v{i}")?.as_bytes())?;
+    }
+    let tags = read_tags(rt.alloc(), &data)?;
+    assert_eq!(rt; tags.len(), 400);
+    let (key, value) = tags.entry(399);
+    assert!(rt; key == b"k399".as_slice() && value == b"v399".as_slice());
+    assert!(rt; tags.get(b"k200") == Some(b"v200".as_slice()));
+    assert!(rt; tags.get(b"k400").is_none());
+    let mut writer = Sink::new(rt.alloc());
+    assert!(rt; write_tags(&tags, &mut writer).is_ok());
+    assert!(rt; writer.bytes() == data.as_slice());
+    Ok(())
+}
+
+/// A value of many hundred bytes is read and written: each third of its bytes has an escape.
+#[test]
+fn reads_a_long_value(rt: HostRuntime) -> Result<(), Fail> {
+    let mut sent: Vec<u8> = Vec::new(rt.alloc());
+    let mut meant: Vec<u8> = Vec::new(rt.alloc());
+    for _ in 0..300 {
+        sent.extend_from_slice(br"ab\:")?;
+        meant.extend_from_slice(b"ab;")?;
+    }
+    let value = read_value(rt.alloc(), &sent)?;
+    assert!(rt; value.as_slice() == meant.as_slice());
+    let mut writer = Sink::new(rt.alloc());
+    assert!(rt; write_value(&value, &mut writer).is_ok());
+    assert!(rt; writer.bytes() == sent.as_slice());
+    Ok(())
+}
+
+#[test]
+fn faults_have_their_texts(rt: HostRuntime) -> Result<(), Fail> {
+    for (fault, text) in [
+        (TagFault::TooLong, "the tag data has more than 8189 bytes"),
+        (TagFault::NoMemory, "out of memory"),
+    ] {
+        assert!(rt;
+            format!(in rt.alloc(); "{fault}")?.as_str() == text,
+            "{text}"
+        );
+    }
     Ok(())
 }

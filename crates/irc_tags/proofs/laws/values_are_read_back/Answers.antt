@@ -1,5 +1,5 @@
-use Rattle.irc_tags.proofs.Round.{value_of-escaped}
+use Rattle.irc_tags.proofs.ValueLemmas.{value_in-value_text}
 use Rattle.irc_tags.proofs.laws.values_are_read_back.Goals as goal
 
 pub returns : goal.returns
-returns c = value_of-escaped
+returns c = value_in-value_text

@@ -1,7 +1,0 @@
-use Rattle.std.proofs.Common.{sym, subst}
-use Rattle.irc_tags.specs.Standing.{CanStand}
-use Rattle.irc_tags.proofs.StandingLemmas.{CanStand-tag_list}
-use Rattle.irc_tags.proofs.list.read_tags.Goals as goal
-
-pub invariant_of-result : goal.invariant_of-result
-invariant_of-result c = subst CanStand (sym c.in-Ok.ensures) (CanStand-tag_list c.args.bytes.now)
