@@ -1,8 +1,9 @@
-pub mod Cutting
-pub mod Searched
-pub mod Spelling
-pub mod Refusals
-pub mod CallsLemmas
-pub mod ReadLaws
-pub mod Commands
-pub mod WriteLaws
+mod CommandLemmas
+mod LineLemmas
+mod FaultsLemmas
+mod ReadLemmas
+mod StreamLemmas
+mod SearchLemmas
+mod CallsLemmas
+mod TextLemmas
+pub mod CallerLemmas

@@ -1,11 +1,13 @@
 -- Which parts may stand in their places in a line (RFC 2812 section 2.3.1; IRCv3 message-tags), and what a line of
 -- them says.
-use Rattle.std.specs.Prelude.{◌≡◌, ℕ, ◌<◌, ◌≤◌, true, false, List, ◌++◌, length, IfSome}
+use Rattle.std.specs.Prelude.{◌≡◌, ℕ, ◌<◌, ◌≤◌, true, false, List, ◌∷◌, ◌++◌, length, IfSome, Ok}
 use Rattle.std.specs.List.{AllByRecursion, list_any}
 use Rattle.std.specs.Option.{option_to_list}
 use Rattle.irc_line.specs.declared.line.TagLimit.{TagLimit}
-use Rattle.irc_line.specs.Syntax.{Reading, colon, begins_with, is_bad, is_command, HasNoSpace, tag_limit, rest_limit}
-use Rattle.irc_line.specs.Text.{Parts, source_text, middles_text, trailing_text}
+use Rattle.irc_line.specs.Line.{Reading, Reads, colon, begins_with, is_bad, is_command, HasNoSpace, most_parameters, tag_limit, rest_limit}
+use Rattle.irc_line.specs.Text.{Parts, source_text, middles_text, trailing_text, text_of, line_text}
+use Rattle.irc_line.specs.Stream.{items, line}
+use Rattle.irc_line.specs.Read.{read}
 
 -- no NUL, CR or LF
 abbrev pub HasNoBadByte : List ℕ → Type 0
@@ -21,16 +23,16 @@ CanBeSource source = (0 < length source) × HasNoSpace source × HasNoBadByte so
 abbrev pub CanBeMiddle : List ℕ → Type 0
 CanBeMiddle middle = (0 < length middle) × (begins_with colon middle ≡ false) × HasNoSpace middle × HasNoBadByte middle
 
-abbrev pub said_parameters : Parts → List (List ℕ)
-said_parameters parts = parts.middles ++ option_to_list parts.trailing
+abbrev pub parameters_of : Parts → List (List ℕ)
+parameters_of parts = parts.middles ++ option_to_list parts.trailing
 
 -- what a line of these parts says
-abbrev pub said_by : Parts → Reading
-said_by parts = record { tags = parts.tags; source = parts.source; command = parts.command; parameters = said_parameters parts }
+abbrev pub meaning_of : Parts → Reading
+meaning_of parts = record { tags = parts.tags; source = parts.source; command = parts.command; parameters = parameters_of parts }
 
 -- what stands behind the tags
-abbrev pub spelled_behind_tags : Parts → List ℕ
-spelled_behind_tags parts = source_text parts.source ++ (parts.command ++ (middles_text parts.middles ++ trailing_text parts.trailing))
+abbrev pub text_behind_tags : Parts → List ℕ
+text_behind_tags parts = source_text parts.source ++ (parts.command ++ (middles_text parts.middles ++ trailing_text parts.trailing))
 
 -- Each part may stand in its place, and the line is within the limits: at most 15 parameters, and 510 bytes behind
 -- the tags.
@@ -40,5 +42,17 @@ pub record CanStand (limit : TagLimit) (parts : Parts) : Type 0 where
   pub command : is_command parts.command ≡ true
   pub middles : AllByRecursion CanBeMiddle parts.middles
   pub trailing : IfSome parts.trailing HasNoBadByte
-  pub count : length (said_parameters parts) ≤ 15
-  pub size : length (spelled_behind_tags parts) ≤ rest_limit
+  pub count : length (parameters_of parts) ≤ most_parameters
+  pub size : length (text_behind_tags parts) ≤ rest_limit
+
+-- the line of these parts is cut out of any stream that it begins
+abbrev pub IsCutOut : Parts → Type 0
+IsCutOut parts = (rest : List ℕ) → items (line_text parts ++ rest) ≡ line (text_of parts) ∷ items rest
+
+-- the line of these parts has their meaning
+abbrev pub HasMeaning : TagLimit → Parts → Type 0
+HasMeaning limit parts = Reads limit (text_of parts) (meaning_of parts)
+
+-- the line of these parts reads back as that
+abbrev pub ReadsBack : TagLimit → Parts → Type 0
+ReadsBack limit parts = read limit (text_of parts) ≡ Ok (meaning_of parts)

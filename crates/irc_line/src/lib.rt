@@ -2,14 +2,15 @@
 //! reading a line, and writing one.
 #![tactic(auto)]
 
-mod feeder;
 pub mod laws;
 mod line;
-mod writing;
+mod stream;
+mod text;
 
-pub use feeder::{Feeder, Next, NoMemory};
 pub use line::{Line, LineFault, TagLimit, read_line};
-pub use writing::{OutLine, write_line};
+pub use memory::NoMemory;
+pub use stream::{Feeder, Next};
+pub use text::{OutLine, write_line};
 
 #[cfg(test)]
 mod tests;

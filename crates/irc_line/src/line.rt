@@ -4,10 +4,24 @@ ghost use Rattle.std.specs.List.{list_any, list_all};
 ghost use Rattle.std.specs.Option.{option_copied};
 ghost use Rattle.irc_line.specs.Faults.{shows, first_fault, is_empty_source};
 ghost use Rattle.irc_line.specs.Read.{read};
-ghost use Rattle.irc_line.specs.Syntax.{Reading, tag_limit, space, colon, begins_with, is_bad, is_letter, is_digit, is_command, SkipsSpaces, SplitsWord, SplitsTags, SplitsSource, HasParameters, IsRefused, Reads};
+ghost use Rattle.irc_line.specs.Line.{Reading, most_parameters, tag_limit, space, colon, begins_with, is_bad, is_letter, is_digit, is_command, SkipsSpaces, SplitsWord, SplitsTags, SplitsSource, HasParameters, IsRefused, Reads};
 
+use byte_search::find_byte;
 use std::marker::Model;
 use thiserror::Error;
+
+/// The most bytes of tag data in a line of a client, and in one of a server (IRCv3 message-tags).
+const MAX_CLIENT_TAG_DATA: usize = 4094;
+
+const MAX_SERVER_TAG_DATA: usize = 8189;
+
+/// The most bytes behind the tags, without CR LF (RFC 1459 section 2.3).
+const MAX_REST: usize = 510;
+
+/// The most parameters of a line, and the most before its last (RFC 2812 section 2.3.1).
+const MAX_PARAMETERS: usize = 15;
+
+const MAX_MIDDLES: usize = 14;
 
 /// Whose lines are read, which says how long their tag data may be (IRCv3 message-tags).
 #[derive(Clone, Copy, Debug, PartialEq, Eq)]
@@ -45,7 +59,7 @@ pub struct Line<'a> {
     tags: Option<&'a [u8]>,
     source: Option<&'a [u8]>,
     command: &'a [u8],
-    parameters: [&'a [u8]; 15],
+    parameters: [&'a [u8]; MAX_PARAMETERS],
     count: usize,
 }
 
@@ -59,7 +73,7 @@ impl<'a> Model for Line<'a> {
       parameters = map (λ p. p.now) (take l.count l.parameters);
     } };
 
-    ghost invariant = { λ l. l.count ≤ 15 };
+    ghost invariant = { λ l. l.count ≤ most_parameters };
 }
 
 impl<'a> Line<'a> {
@@ -111,7 +125,7 @@ fn skip_spaces(bytes: &[u8]) -> &[u8]
 fn split_word(bytes: &[u8]) -> (&[u8], &[u8])
     ensures { SplitsWord bytes.now result.0.now result.1.now }
 {
-    match bytes.iter().position(|b| *b == b' ') {
+    match find_byte(bytes, b' ') {
         Some(at) => bytes.split_at(at),
         None => bytes.split_at(bytes.len()),
     }
@@ -178,7 +192,7 @@ fn is_command(text: &[u8]) -> bool
     (!text.is_empty() && has_letters_only(text)) || (text.len() == 3 && has_digits_only(text))
 }
 
-/// The text without a colon at its front.
+/// The text without a colon at its beginning.
 fn without_colon(text: &[u8]) -> &[u8]
     ensures { result.now ≡ (if begins_with colon text.now then drop 1 text.now else text.now) }
 {
@@ -190,13 +204,13 @@ fn without_colon(text: &[u8]) -> &[u8]
 }
 
 /// The parameters behind a command, and how many there are.
-fn read_parameters<'a>(bytes: &'a [u8]) -> ([&'a [u8]; 15], usize)
-    ensures count { result.1 ≤ 15 }
+fn read_parameters<'a>(bytes: &'a [u8]) -> ([&'a [u8]; MAX_PARAMETERS], usize)
+    ensures count { result.1 ≤ most_parameters }
     ensures parameters { HasParameters 0 bytes.now (map (λ p. p.now) (take result.1 result.0)) }
 {
-    let mut parameters: [&'a [u8]; 15] = [bytes; 15];
+    let mut parameters: [&'a [u8]; MAX_PARAMETERS] = [bytes; MAX_PARAMETERS];
     let mut rest = bytes;
-    for count in 0..14 {
+    for count in 0..MAX_MIDDLES {
         let text = skip_spaces(rest);
         if text.is_empty() {
             return (parameters, count);
@@ -211,15 +225,15 @@ fn read_parameters<'a>(bytes: &'a [u8]) -> ([&'a [u8]; 15], usize)
     }
     let text = skip_spaces(rest);
     if text.is_empty() {
-        return (parameters, 14);
+        return (parameters, MAX_MIDDLES);
     }
-    parameters[14] = without_colon(text);
-    (parameters, 15)
+    parameters[MAX_MIDDLES] = without_colon(text);
+    (parameters, MAX_PARAMETERS)
 }
 
-/// The parts of a line that tell whether it is refused.
+/// The head of a line: its parts before the parameters, which tell whether it is refused.
 #[derive(Drop)]
-struct Front<'a> {
+struct Head<'a> {
     bytes: &'a [u8],
     tags: Option<&'a [u8]>,
     after_tags: &'a [u8],
@@ -231,8 +245,8 @@ fn has_long_tags(tags: Option<&[u8]>, limit: TagLimit) -> bool
     ensures { result ≡ nat_lt (tag_limit limit) (length (unwrap_or (option_copied tags.entry) [])) }
 {
     let most = match limit {
-        TagLimit::Client => 4094,
-        TagLimit::Server => 8189,
+        TagLimit::Client => MAX_CLIENT_TAG_DATA,
+        TagLimit::Server => MAX_SERVER_TAG_DATA,
     };
     match tags {
         None => false,
@@ -249,17 +263,17 @@ fn has_empty_source(source: Option<&[u8]>) -> bool
     }
 }
 
-impl<'a> Front<'a> {
-    ghost use Rattle.irc_line.specs.FrontView.{front_of};
+impl<'a> Head<'a> {
+    ghost use Rattle.irc_line.specs.Head.{value_of};
 
     fn first_fault(&self, limit: TagLimit) -> Option<LineFault>
-        ensures { result ≡ first_fault (shows limit (front_of self.now)) }
+        ensures { result ≡ first_fault (shows limit (value_of self.now)) }
     {
         if find_other(self.bytes).is_none() {
             Some(LineFault::Empty)
         } else if has_long_tags(self.tags, limit) {
             Some(LineFault::TagsTooLong)
-        } else if self.after_tags.len() > 510 {
+        } else if self.after_tags.len() > MAX_REST {
             Some(LineFault::TooLong)
         } else if has_bad_byte(self.bytes) {
             Some(LineFault::BadByte)
@@ -287,14 +301,14 @@ pub fn read_line(bytes: &[u8], limit: TagLimit) -> Result<Line<'_>, LineFault>
     let (tags, after_tags) = split_tags(bytes);
     let (source, after_source) = split_source(after_tags);
     let (command, after_command) = split_word(after_source);
-    let front = Front {
+    let head = Head {
         bytes,
         tags,
         after_tags,
         source,
         command,
     };
-    if let Some(fault) = front.first_fault(limit) {
+    if let Some(fault) = head.first_fault(limit) {
         return Err(fault);
     }
     let (parameters, count) = read_parameters(after_command);

@@ -1,12 +1,11 @@
 //! Lines that are read, refused, cut out of a stream and written.
-ghost use Rattle.std.specs.Prelude.{Some};
+ghost use Rattle.std.specs.Prelude.{◌<◌};
 
 use super::{Feeder, LineFault, Next, OutLine, TagLimit, read_line, write_line};
 use std::alloc::Global;
-use std::io;
-use std::io::{ErrorKind, Write};
 use std::process::Abort;
 use std::test::Fail;
+use test_devices::Sink;
 
 /// Tags with two escapes, a source, a command and two parameters.
 const TAGGED: &[u8] = b"@msgid=a\\:b\\;time=1970-01-01T00:00:01.000Z :bob!b@h PRIVMSG #a :hi";
@@ -14,19 +13,19 @@ const TAGGED: &[u8] = b"@msgid=a\\:b\\;time=1970-01-01T00:00:01.000Z :bob!b@h PR
 /// What stands of it before the command.
 const TAGGED_HEAD: &[u8] = b"@msgid=a\\:b\\;time=1970-01-01T00:00:01.000Z :bob!b@h ";
 
-/// The front, so many times the byte, and the back.
+/// The bytes before, so many times the byte, and the bytes after.
 fn with_filler(
     alloc: Global,
-    front: &[u8],
+    before: &[u8],
     byte: u8,
     count: usize,
-    back: &[u8],
+    after: &[u8],
 ) -> Result<Vec<u8>, Fail> {
-    let mut bytes = Vec::from_slice(alloc, front)?;
+    let mut bytes = Vec::from_slice(alloc, before)?;
     for _ in 0..count {
         bytes.push(byte)?;
     }
-    bytes.extend_from_slice(back)?;
+    bytes.extend_from_slice(after)?;
     Ok(bytes)
 }
 
@@ -141,8 +140,8 @@ fn long_lines_are_read_or_refused(rt: HostRuntime) -> Result<(), Fail> {
             Some(LineFault::TagsTooLong),
         ),
     ];
-    for (front, count, back, limit, fault) in table {
-        let text = with_filler(rt.alloc(), front, b'a', count, back)?;
+    for (before, count, after, limit, fault) in table {
+        let text = with_filler(rt.alloc(), before, b'a', count, after)?;
         assert_eq!(rt; fault_of(&text, limit), fault, "at {count}");
     }
     let spaces = with_filler(rt.alloc(), b"", b' ', 600, b"")?;
@@ -263,6 +262,37 @@ fn cutting_does_not_matter(rt: HostRuntime) -> Result<(), Fail> {
     Ok(())
 }
 
+/// Feeds the text in such pieces: its line has that many bytes of `a`, or it is too long. What follows is read.
+fn check_size(
+    rt: &impl Abort,
+    alloc: Global,
+    text: &[u8],
+    piece: usize,
+    size: Option<usize>,
+) -> Result<(), Fail>
+    requires { 0 < piece }
+{
+    let mut feeder = Feeder::new(alloc)?;
+    let mut out = Vec::new(alloc);
+    for part in text.chunks(piece) {
+        feed_all(&mut feeder, part, &mut out)?;
+    }
+    match size {
+        Some(size) => assert!(rt;
+            out.len().checked_sub(1) == Some(size) && out.as_slice().ends_with(b"a\n"),
+            "{size} in pieces of {piece}"
+        ),
+        None => assert!(rt; out.as_slice() == b"!".as_slice(), "in pieces of {piece}"),
+    }
+    let mut next = Vec::new(alloc);
+    feed_all(&mut feeder, b"\nPING\r\r\n", &mut next)?;
+    assert!(rt;
+        next.as_slice().ends_with(b"PING\r\n"),
+        "in pieces of {piece}"
+    );
+    Ok(())
+}
+
 #[test]
 fn lines_end_at_lf_within_the_room(rt: HostRuntime) -> Result<(), Fail> {
     // How many bytes of `a` come, what follows them, and how many bytes of it a line has, if it is one.
@@ -278,19 +308,9 @@ fn lines_end_at_lf_within_the_room(rt: HostRuntime) -> Result<(), Fail> {
     ];
     for (count, end, size) in table {
         let text = with_filler(rt.alloc(), b"", b'a', count, end)?;
-        let mut feeder = Feeder::new(rt.alloc())?;
-        let mut out = Vec::new(rt.alloc());
-        feed_all(&mut feeder, &text, &mut out)?;
-        match size {
-            Some(size) => assert!(rt;
-                out.len() == size + 1 && out.as_slice().ends_with(b"a\n"),
-                "at {count}"
-            ),
-            None => assert!(rt; out.as_slice() == b"!".as_slice(), "at {count}"),
+        for piece in [1, 7, 512, 8_703, 8_704, 30_000] {
+            check_size(&rt, rt.alloc(), &text, piece, size)?;
         }
-        let mut next = Vec::new(rt.alloc());
-        feed_all(&mut feeder, b"\nPING\r\r\n", &mut next)?;
-        assert!(rt; next.as_slice().ends_with(b"PING\r\n"), "at {count}");
     }
     let short = with_filler(rt.alloc(), b"", b'a', 8702, b"")?;
     let mut feeder = Feeder::new(rt.alloc())?;
@@ -379,42 +399,6 @@ fn hostile_bytes_are_answered(rt: HostRuntime) -> Result<(), Fail> {
     Ok(())
 }
 
-/// Takes one byte a write, and fails at each write once it has made so many. Every second write is interrupted.
-#[derive(Drop)]
-struct OneByte {
-    bytes: Vec<u8>,
-    writes_left: usize,
-    interrupts: bool,
-}
-
-impl Write for OneByte {
-    ghost contents = { λ w. Some w.bytes.items };
-
-    fn write(&mut self, buf: &[u8]) -> io::Result<usize> {
-        if self.writes_left == 0 {
-            return Err(io::Error::from(ErrorKind::BrokenPipe));
-        }
-        self.interrupts = !self.interrupts;
-        if self.interrupts {
-            return Err(io::Error::from(ErrorKind::Interrupted));
-        }
-        if buf.is_empty() {
-            return Ok(0);
-        }
-        match self.bytes.push(buf[0]) {
-            Ok(()) => {
-                self.writes_left -= 1;
-                Ok(1)
-            }
-            Err(_) => Err(io::Error::from(ErrorKind::OutOfMemory)),
-        }
-    }
-
-    fn flush(&mut self) -> io::Result<()> {
-        Ok(())
-    }
-}
-
 #[test]
 fn lines_are_written(rt: HostRuntime) {
     let tagged = OutLine {
@@ -440,17 +424,30 @@ fn lines_are_written(rt: HostRuntime) {
     ];
     for (line, text) in table {
         for writes_left in 0..=text.len() {
-            let mut writer = OneByte {
-                bytes: Vec::new(rt.alloc()),
-                writes_left,
-                interrupts: false,
-            };
+            let mut writer = Sink::new(rt.alloc())
+                .at_most(1)
+                .interrupted()
+                .failing_after(writes_left);
             let written = write_line(&line, &mut writer);
             assert_eq!(rt; written.is_ok(), writes_left == text.len());
-            assert!(rt;
-                writer.bytes.as_slice() == &text[..writes_left],
-                "at {writes_left}"
-            );
+            assert!(rt; writer.bytes() == &text[..writes_left], "at {writes_left}");
         }
     }
+}
+
+#[test]
+fn faults_have_their_texts(rt: HostRuntime) -> Result<(), Fail> {
+    for (fault, text) in [
+        (LineFault::Empty, "the line is empty"),
+        (LineFault::TagsTooLong, "the tags are too long"),
+        (LineFault::TooLong, "the line is too long"),
+        (LineFault::BadByte, "the line has a NUL, CR or LF"),
+        (LineFault::NoCommand, "the line has no command"),
+    ] {
+        assert!(rt;
+            format!(in rt.alloc(); "{fault}")?.as_str() == text,
+            "{text}"
+        );
+    }
+    Ok(())
 }

@@ -1,8 +1,8 @@
--- The first LF of a part whose front was searched before.
+-- The first LF of a part whose head was searched before.
 use Rattle.std.proofs.Common.{◌≡◌, ℕ, ◌+◌, ◌-◌, ◌≤◌, List, ◌++◌, length, take, drop, None, Some, position, sym, ap, ◌∙◌, arith, take-append-drop}
 use Rattle.std.proofs.lemmas.List.{drop-drop, length-drop, length-take-le, take_all}
 use Rattle.irc_line.specs.Stream.{is_lf}
-use Rattle.irc_line.proofs.Cutting.{position-append_some, position-append_none}
+use Rattle.irc_line.proofs.StreamLemmas.{position-append_some, position-append_none}
 
 module _ (bytes : List ℕ) (start searched : ℕ) (in_order : start ≤ searched) (within : searched ≤ length bytes) (none : position is_lf (take (searched - start) (drop start bytes)) ≡ None) where
   parts : take (searched - start) (drop start bytes) ++ drop searched bytes ≡ drop start bytes

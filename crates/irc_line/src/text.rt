@@ -1,17 +1,17 @@
 //! Writing a line (RFC 1459 and RFC 2812, section 2.3; IRCv3 message-tags).
-ghost use Rattle.std.specs.Prelude.{[], ◌∷◌, ◌++◌, map};
-ghost use Rattle.std.specs.Option.{option_copied};
+ghost use Rattle.std.specs.Prelude.{◌++◌};
+ghost use Rattle.std.specs.Option.{option_copied as copied};
 ghost use Rattle.output.specs.Writes.{Writes};
-ghost use Rattle.irc_line.specs.Text.{tags_text, source_text, middles_text, trailing_text, line_text};
-ghost use Rattle.irc_line.specs.OutLine.{parts_of};
+ghost use Rattle.irc_line.specs.Text.{tags_text, source_text, middles_text, end_text, line_text};
+ghost use Rattle.irc_line.specs.OutLine.{bytes_of, value_of};
 
 use output::put;
 use std::io;
 use std::io::Write;
 
 /// A line to be written. Each part is written as it is, so it has to be one that may stand in its place: no NUL, CR or
-/// LF anywhere; tags without a space; a source and middle parameters that are not empty and have no space; no colon at
-/// the front of a middle parameter.
+/// LF anywhere; tags without a space; a source and middle parameters that are not empty and have no space; no middle
+/// parameter begins with a colon.
 #[derive(Clone, Copy)]
 pub struct OutLine<'a> {
     /// The tag data, without its `@`.
@@ -27,16 +27,16 @@ pub struct OutLine<'a> {
 }
 
 /// Writes the text between two others.
-fn put_between<W: Write>(writer: &mut W, front: &[u8], text: &[u8], back: &[u8]) -> io::Result<()>
-    ensures { Writes (W.contents writer.old) (W.contents writer.new) result (front.now ++ (text.now ++ back.now)) }
+fn put_between<W: Write>(writer: &mut W, first: &[u8], text: &[u8], last: &[u8]) -> io::Result<()>
+    ensures { Writes W.contents writer.old writer.new result (first.now ++ (text.now ++ last.now)) }
 {
-    put(writer, front)?;
+    put(writer, first)?;
     put(writer, text)?;
-    put(writer, back)
+    put(writer, last)
 }
 
 fn put_tags<W: Write>(writer: &mut W, tags: Option<&[u8]>) -> io::Result<()>
-    ensures { Writes (W.contents writer.old) (W.contents writer.new) result (tags_text (option_copied tags.entry)) }
+    ensures { Writes W.contents writer.old writer.new result (tags_text (copied tags.entry)) }
 {
     match tags {
         None => Ok(()),
@@ -45,7 +45,7 @@ fn put_tags<W: Write>(writer: &mut W, tags: Option<&[u8]>) -> io::Result<()>
 }
 
 fn put_source<W: Write>(writer: &mut W, source: Option<&[u8]>) -> io::Result<()>
-    ensures { Writes (W.contents writer.old) (W.contents writer.new) result (source_text (option_copied source.entry)) }
+    ensures { Writes W.contents writer.old writer.new result (source_text (copied source.entry)) }
 {
     match source {
         None => Ok(()),
@@ -54,7 +54,7 @@ fn put_source<W: Write>(writer: &mut W, source: Option<&[u8]>) -> io::Result<()>
 }
 
 fn put_middles<W: Write>(writer: &mut W, middles: &[&[u8]]) -> io::Result<()>
-    ensures { Writes (W.contents writer.old) (W.contents writer.new) result (middles_text (map (λ p. p.now) middles.now)) }
+    ensures { Writes W.contents writer.old writer.new result (middles_text (bytes_of middles.now)) }
 {
     for middle in middles {
         put_between(writer, b" ", middle, b"")?;
@@ -64,7 +64,7 @@ fn put_middles<W: Write>(writer: &mut W, middles: &[&[u8]]) -> io::Result<()>
 
 /// Writes the last parameter, and the ending of the line.
 fn put_end<W: Write>(writer: &mut W, trailing: Option<&[u8]>) -> io::Result<()>
-    ensures { Writes (W.contents writer.old) (W.contents writer.new) result (trailing_text (option_copied trailing.entry) ++ 13 ∷ 10 ∷ []) }
+    ensures { Writes W.contents writer.old writer.new result (end_text (copied trailing.entry)) }
 {
     match trailing {
         None => put(writer, b"\r\n"),
@@ -72,11 +72,11 @@ fn put_end<W: Write>(writer: &mut W, trailing: Option<&[u8]>) -> io::Result<()>
     }
 }
 
-/// Writes the line with CR LF behind it: all of it at `Ok`, and a front of it where the writer failed. It takes no
+/// Writes the line with CR LF behind it: all of it at `Ok`, and a prefix of it where the writer failed. It takes no
 /// memory. Where the parts may stand in their places, what is written reads back as those parts
 /// ([`written_lines_read_back`](crate::laws::written_lines_read_back)).
 pub fn write_line<W: Write>(line: &OutLine<'_>, writer: &mut W) -> io::Result<()>
-    ensures { Writes (W.contents writer.old) (W.contents writer.new) result (line_text (parts_of line.now)) }
+    ensures { Writes W.contents writer.old writer.new result (line_text (value_of line.now)) }
 {
     put_tags(writer, line.tags)?;
     put_source(writer, line.source)?;

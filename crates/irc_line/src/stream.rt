@@ -1,20 +1,16 @@
 //! Lines out of a stream that comes in any pieces.
-ghost use Rattle.std.specs.Prelude.{◌≡◌, ◌+◌, ◌-◌, ◌<◌, ◌≤◌, true, None, Some, IfOk, [], length, take, drop, vec_len, vec_capacity, position, if◌then◌else◌};
+ghost use Rattle.std.specs.Prelude.{◌≡◌, ◌+◌, ◌-◌, ◌<◌, ◌≤◌, true, None, IfOk, [], length, take, drop, vec_len, vec_capacity, position, if◌then◌else◌};
 ghost use Rattle.std.specs.Io.BufRead.{strip_last};
-ghost use Rattle.irc_line.specs.Stream.{Held, holding, skipping, bytes_of, is_lf, taken, next_item, left_after};
+ghost use Rattle.irc_line.specs.Stream.{Held, HasRoom, max_line, cr, holding, skipping, bytes_of, is_lf, held_with, next_item};
 
+use byte_search::find_byte;
+use memory::NoMemory;
 use std::alloc::Global;
 use std::marker::Model;
-use thiserror::Error;
 
 /// The greatest length of a line in bytes, with its LF: 8191 of tags (IRCv3 message-tags) and 512 of the rest
 /// (RFC 1459 section 2.3).
-const ROOM: usize = 8703;
-
-/// There is no memory for the room of a feeder.
-#[derive(Clone, Copy, Debug, PartialEq, Eq, Error)]
-#[error("out of memory")]
-pub struct NoMemory;
+const MAX_LINE: usize = 8703;
 
 /// The bytes of a stream of which no line was made yet: at most 8703 of them, or none while the rest of a line
 /// that was too long is skipped. Only [`Feeder::new`] takes memory.
@@ -40,8 +36,8 @@ impl Model for Feeder {
     ghost invariant = { λ f. record {
       in_order : f.start ≤ f.searched;
       in_buffer : f.searched ≤ vec_len f.buffer;
-      room : vec_len f.buffer ≤ 8703;
-      capacity : 8703 ≤ vec_capacity f.buffer;
+      room : vec_len f.buffer ≤ max_line;
+      capacity : max_line ≤ vec_capacity f.buffer;
       no_lf : position is_lf (take (f.searched - f.start) (drop f.start f.buffer.items)) ≡ None;
       none_held : f.in_long_line ≡ true → f.start ≡ vec_len f.buffer;
     } };
@@ -58,16 +54,9 @@ pub enum Next<'a> {
     More,
 }
 
-/// The place of the first LF.
-fn find_lf(bytes: &[u8]) -> Option<usize>
-    ensures { result ≡ position is_lf bytes.now }
-{
-    bytes.iter().position(|b| *b == b'\n')
-}
-
 /// The bytes without one CR at their end.
 fn without_cr(bytes: &[u8]) -> &[u8]
-    ensures { result.now ≡ strip_last 13 bytes.now }
+    ensures { result.now ≡ strip_last cr bytes.now }
 {
     let n = bytes.len();
     if n > 0 && bytes[n - 1] == b'\r' {
@@ -81,14 +70,14 @@ fn without_cr(bytes: &[u8]) -> &[u8]
 /// dropped. It says how many bytes were dropped.
 fn make_room(buffer: &mut Vec<u8>, start: usize, n: usize) -> usize
     requires in_buffer { start ≤ vec_len buffer.old }
-    requires in_room { vec_len buffer.old ≤ 8703 }
-    requires fits { vec_len buffer.old - start + n ≤ 8703 }
+    requires in_room { vec_len buffer.old ≤ max_line }
+    requires fits { vec_len buffer.old - start + n ≤ max_line }
     ensures dropped { result ≤ start }
     ensures items { buffer.new.items ≡ drop result buffer.old.items }
-    ensures room { vec_len buffer.new + n ≤ 8703 }
+    ensures room { vec_len buffer.new + n ≤ max_line }
     ensures capacity { vec_capacity buffer.new ≡ vec_capacity buffer.old }
 {
-    if n <= ROOM - buffer.len() {
+    if n <= MAX_LINE - buffer.len() {
         return 0;
     }
     let rest = buffer.len() - start;
@@ -98,17 +87,17 @@ fn make_room(buffer: &mut Vec<u8>, start: usize, n: usize) -> usize
 }
 
 impl Feeder {
-    ghost use Rattle.irc_line.specs.contracts.feeder.Feeder.{the_row};
+    ghost use Rattle.irc_line.specs.contracts.stream.Feeder.{the_row};
     ghost use Rattle.std.specs.Borrow.{sem};
     ghost use Rattle.std.specs.Io.BufRead.{Rests};
-    ghost use Rattle.irc_line.specs.Next.{given};
+    ghost use Rattle.irc_line.specs.Next.{value_of, rest_of};
 
     /// A feeder that holds nothing, with room for 8703 bytes: 8191 of tags (IRCv3 message-tags) and 512 of the rest
     /// (RFC 1459 section 2.3).
     pub fn new(alloc: Global) -> Result<Feeder, NoMemory>
         ensures { IfOk result (λ f. f ≡ holding []) }
     {
-        let buffer = Vec::with_capacity(alloc, ROOM).map_err(|_| NoMemory)?;
+        let buffer = Vec::with_capacity(alloc, MAX_LINE).map_err(|_| NoMemory)?;
         Ok(Feeder {
             buffer,
             start: 0,
@@ -117,27 +106,27 @@ impl Feeder {
         })
     }
 
-    /// Takes as much of the front of the piece as there is room for, and says how many bytes that is. It takes at
+    /// Takes as long a prefix of the piece as there is room for, and says how many bytes that is. It takes at
     /// least one byte of a piece that has one where [`Feeder::next_line`] answered [`Next::More`] last.
     pub fn feed(&mut self, piece: &[u8]) -> usize
         ensures within { result ≤ length piece.now }
-        ensures taken { self.new ≡ taken self.old (take result piece.now) }
+        ensures taken { self.new ≡ held_with self.old (take result piece.now) }
         // It stops before the end of the piece only where no room is left,
-        ensures full { result < length piece.now → length (bytes_of self.new) ≡ 8703 }
+        ensures full { result < length piece.now → length (bytes_of self.new) ≡ max_line }
         // and there is room where fewer bytes were held, and so after `More`.
-        ensures progress { length (bytes_of self.old) < 8703 → 0 < length piece.now → 0 < result }
+        ensures progress { HasRoom self.old → 0 < length piece.now → 0 < result }
         ensures after_more { next_item self.old ≡ None → 0 < length piece.now → 0 < result }
     {
         let mut skipped = 0;
         if self.in_long_line {
-            let Some(at) = find_lf(piece) else {
+            let Some(at) = find_byte(piece, b'\n') else {
                 return piece.len();
             };
             skipped = at + 1;
         }
         self.in_long_line = false;
         let rest = &piece[skipped..];
-        let n = rest.len().min(ROOM - (self.buffer.len() - self.start));
+        let n = rest.len().min(MAX_LINE - (self.buffer.len() - self.start));
         let dropped = make_room(&mut self.buffer, self.start, n);
         self.start -= dropped;
         self.searched -= dropped;
@@ -148,13 +137,13 @@ impl Feeder {
     /// Takes out the next line: LF ends a line, and one CR directly before it is dropped (RFC 1459 and RFC 2812,
     /// section 2.3).
     pub fn next_line(&mut self) -> Next<'_>
-        ensures item { given result ≡ next_item self.old }
-        ensures* left { sem 𝓛 (Rests the_row self.entry (λ new. new ≡ left_after (given result) self.old)) }
+        ensures item { value_of result ≡ next_item self.old }
+        ensures* left { sem 𝓛 (Rests the_row self.entry (λ new. new ≡ rest_of result self.old)) }
     {
         if self.in_long_line {
             return Next::More;
         }
-        match find_lf(&self.buffer[self.searched..]) {
+        match find_byte(&self.buffer[self.searched..], b'\n') {
             Some(at) => {
                 let from = self.start;
                 let end = self.searched + at;
@@ -162,7 +151,7 @@ impl Feeder {
                 self.searched = end + 1;
                 Next::Line(without_cr(&self.buffer[from..end]))
             }
-            None if self.buffer.len() - self.start >= ROOM => {
+            None if self.buffer.len() - self.start >= MAX_LINE => {
                 self.buffer.clear();
                 self.start = 0;
                 self.searched = 0;

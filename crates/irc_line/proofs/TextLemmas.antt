@@ -11,15 +11,15 @@ use Rattle.irc_line.specs.declared.line.LineFault.{LineFault}
 use Rattle.irc_line.specs.declared.line.LineFault.TheVariants.{Empty, TagsTooLong, TooLong, BadByte, NoCommand}
 use Rattle.irc_line.specs.declared.line.TagLimit.{TagLimit}
 use Rattle.irc_line.specs.declared.line.TagLimit.TheVariants.{Client, Server}
-use Rattle.irc_line.specs.Syntax.{space, colon, at_sign, begins_with, ends_word, is_bad, is_command, IsSpaces, SplitsWord, SplitsTags, SplitsSource, HasParameters, HasFront, HasFault, Reads, tag_limit}
+use Rattle.irc_line.specs.Line.{space, colon, at_sign, begins_with, ends_word, is_bad, is_command, IsSpaces, SplitsWord, SplitsTags, SplitsSource, HasParameters, HasHead, HasFault, Reads, tag_limit}
 use Rattle.irc_line.specs.Read.{read}
 use Rattle.irc_line.specs.Stream.{is_lf, item_of, items, line, too_long}
-use Rattle.irc_line.specs.Text.{Parts, tags_text, source_text, middles_text, trailing_text, spelled, line_text}
-use Rattle.irc_line.specs.CanStand.{CanBeTags, CanBeSource, CanBeMiddle, HasNoBadByte, said_by, spelled_behind_tags, CanStand}
-use Rattle.irc_line.proofs.Spelling.{match_false, tags_once, front_once}
-use Rattle.irc_line.proofs.Commands.{IsPlainText, command_plain, plain_no_space, plain_no_bad, plain_begins}
-use Rattle.irc_line.proofs.ReadLaws.{is_the_read}
-use Rattle.irc_line.proofs.Cutting.{position_from, none_from, position-append_some, position-append_none, items_line}
+use Rattle.irc_line.specs.Text.{Parts, tags_text, source_text, middles_text, trailing_text, text_of, line_text}
+use Rattle.irc_line.specs.CanStand.{CanBeTags, CanBeSource, CanBeMiddle, HasNoBadByte, meaning_of, text_behind_tags, CanStand}
+use Rattle.irc_line.proofs.LineLemmas.{match_false, tags_once, head_once}
+use Rattle.irc_line.proofs.CommandLemmas.{IsPlainText, command_plain, plain_no_space, plain_no_bad, plain_begins}
+use Rattle.irc_line.proofs.ReadLemmas.{is_the_read}
+use Rattle.irc_line.proofs.StreamLemmas.{position_from, none_from, position-append_some, position-append_none, items_line}
 use Rattle.irc_line.proofs.CallsLemmas.{drop_past}
 
 -- ---- the parts, one after another
@@ -106,55 +106,55 @@ tags_size Server (Some tags) p = (let most = p.2 in omega (arith, length-append 
 -- ---- the line
 
 module _ (limit : TagLimit) (parts : Parts) (can : CanStand limit parts) where
-  front : HasFront (spelled parts) parts.tags parts.source parts.command
-  front =
+  head : HasHead (text_of parts) parts.tags parts.source parts.command
+  head =
       let plain = command_plain parts.command can.command in
       let begins = plain_begins parts.command (ending parts.middles parts.trailing) plain in
       record {
-        after_tags = spelled_behind_tags parts;
+        after_tags = text_behind_tags parts;
         after_source = parts.command ++ ending parts.middles parts.trailing;
         after_command = ending parts.middles parts.trailing;
-        tags_split = tags_written limit parts.tags (spelled_behind_tags parts) can.tags (no_at parts.source (parts.command ++ ending parts.middles parts.trailing) begins.2);
+        tags_split = tags_written limit parts.tags (text_behind_tags parts) can.tags (no_at parts.source (parts.command ++ ending parts.middles parts.trailing) begins.2);
         source_split = source_written parts.source (parts.command ++ ending parts.middles parts.trailing) can.source begins.0 begins.1;
         command_split = (plain_no_space parts.command plain.plain, refl, ends parts.middles parts.trailing);
       }
 
-  pub good : HasNoBadByte (spelled parts)
+  pub good : HasNoBadByte (text_of parts)
   good =
       let end = good_append (middles_text parts.middles) (trailing_text parts.trailing) (good_middles parts.middles can.middles) (good_trailing parts.trailing can.trailing) in
       let command = good_append parts.command (ending parts.middles parts.trailing) (plain_no_bad parts.command (command_plain parts.command can.command).plain) end in
-      good_append (tags_text parts.tags) (spelled_behind_tags parts) (good_tags limit parts.tags can.tags)
+      good_append (tags_text parts.tags) (text_behind_tags parts) (good_tags limit parts.tags can.tags)
       (good_append (source_text parts.source) (parts.command ++ ending parts.middles parts.trailing) (good_source parts.source can.source) command)
 
-  no_fault : (fault : LineFault) → HasFault limit (spelled parts) fault → ⊥
-  unfolding front
+  no_fault : (fault : LineFault) → HasFault limit (text_of parts) fault → ⊥
+  unfolding head
   no_fault Empty spaces = no_spaces parts.tags parts.source parts.command (ending parts.middles parts.trailing) (command_plain parts.command can.command) spaces
   no_fault TagsTooLong long =
-      let same = tags_once (spelled parts) parts.tags (Some long.0) (spelled_behind_tags parts) long.1 front.tags_split long.2 in
+      let same = tags_once (text_of parts) parts.tags (Some long.0) (text_behind_tags parts) long.1 head.tags_split long.2 in
       let tags : CanBeTags limit long.0 = subst (λ t. IfSome t (CanBeTags limit)) same.0 can.tags in
       let most = tags.2 in
       let over = long.3 in
       omega arith
   no_fault TooLong long =
-      let same = tags_once (spelled parts) parts.tags long.0 (spelled_behind_tags parts) long.1 front.tags_split long.2 in
+      let same = tags_once (text_of parts) parts.tags long.0 (text_behind_tags parts) long.1 head.tags_split long.2 in
       let over = long.3 in
       let most = can.size in
       omega (arith, ap length same.1)
-  no_fault BadByte bad = both_ways (list_any is_bad (spelled parts)) good bad
+  no_fault BadByte bad = both_ways (list_any is_bad (text_of parts)) good bad
   no_fault NoCommand lacks =
-      let same = front_once (spelled parts) parts.tags lacks.0 parts.source lacks.1 parts.command lacks.2 front lacks.3 in
+      let same = head_once (text_of parts) parts.tags lacks.0 parts.source lacks.1 parts.command lacks.2 head lacks.3 in
       ⊎_elim (λ h. (let source : CanBeSource [] = subst (λ s. IfSome s CanBeSource) (same.same_source ∙ h) can.source in let some = source.0 in omega arith))
       (λ h. both_ways (is_command parts.command) (ap is_command same.same_command ∙ h) can.command) lacks.4
 
-  pub reads : Reads limit (spelled parts) (said_by parts)
-  unfolding front
+  pub reads : Reads limit (text_of parts) (meaning_of parts)
+  unfolding head
   reads = record {
-    parts = record { front = front; parameters = parameters_written 0 parts.middles parts.trailing can.middles (omega (arith, can.count)) };
+    parts = record { head = head; parameters = parameters_written 0 parts.middles parts.trailing can.middles (omega (arith, can.count)) };
     sound = no_fault;
   }
 
-  pub reads_back : read limit (spelled parts) ≡ Ok (said_by parts)
-  reads_back = sym (is_the_read limit (spelled parts) (Ok (said_by parts)) reads tt)
+  pub reads_back : read limit (text_of parts) ≡ Ok (meaning_of parts)
+  reads_back = sym (is_the_read limit (text_of parts) (Ok (meaning_of parts)) reads tt)
 
 -- ---- the line in a stream
 
@@ -177,24 +177,24 @@ strip_pushed xs =
     let is : ends_with_byte 13 (xs ++ 13 ∷ []) ≡ true = ap (λ b. b && (slice_index (xs ++ 13 ∷ []) (length (xs ++ 13 ∷ []) - 1) == 13)) some ∙ eq-eqb _ 13 last in
     cond-true (ends_with_byte 13 (xs ++ 13 ∷ [])) (take (length (xs ++ 13 ∷ []) - 1) (xs ++ 13 ∷ [])) (xs ++ 13 ∷ []) is ∙ take_at xs (13 ∷ []) (length (xs ++ 13 ∷ []) - 1) (sym less)
 
-line_spelled : (parts : Parts) (rest : List ℕ) → line_text parts ++ rest ≡ (spelled parts ++ 13 ∷ []) ++ 10 ∷ rest
+line_spelled : (parts : Parts) (rest : List ℕ) → line_text parts ++ rest ≡ (text_of parts ++ 13 ∷ []) ++ 10 ∷ rest
 line_spelled parts rest = simp append_assoc
 
-pub cut : (limit : TagLimit) (parts : Parts) (rest : List ℕ) → CanStand limit parts → items (line_text parts ++ rest) ≡ line (spelled parts) ∷ items rest
+pub cut : (limit : TagLimit) (parts : Parts) (rest : List ℕ) → CanStand limit parts → items (line_text parts ++ rest) ≡ line (text_of parts) ∷ items rest
 cut limit parts rest can =
-    let text = spelled parts ++ 13 ∷ [] in
-    let none = position-append_none (spelled parts) (13 ∷ []) (none_from (spelled parts) (no_lf_in (spelled parts) (good limit parts can))) refl in
+    let text = text_of parts ++ 13 ∷ [] in
+    let none = position-append_none (text_of parts) (13 ∷ []) (none_from (text_of parts) (no_lf_in (text_of parts) (good limit parts can))) refl in
     let first : position is_lf (10 ∷ rest) ≡ Some 0 = position_from (10 ∷ rest) 0 refl (omega arith) in
     let place = position-append_some text (10 ∷ rest) 0 none first in
     let taken : take (length text + 0) (text ++ 10 ∷ rest) ≡ text = take_at text (10 ∷ rest) (length text + 0) (omega arith) in
-    let size = length-append (spelled parts) (13 ∷ []) in
-    let whole = length-append (tags_text parts.tags) (spelled_behind_tags parts) in
+    let size = length-append (text_of parts) (13 ∷ []) in
+    let whole = length-append (tags_text parts.tags) (text_behind_tags parts) in
     let of_tags = tags_size limit parts.tags can.tags in
     let fits : nat_lt (length text) 8703 ≡ true = lt-ltb (length text) 8703 (omega (arith, can.size)) in
-    let item : item_of text ≡ line (spelled parts) = cond-true (nat_lt (length text) 8703) (line (strip_last 13 text)) too_long fits ∙ ap line (strip_pushed (spelled parts)) in
+    let item : item_of text ≡ line (text_of parts) = cond-true (nat_lt (length text) 8703) (line (strip_last 13 text)) too_long fits ∙ ap line (strip_pushed (text_of parts)) in
     ap items (line_spelled parts rest) ∙ items_line (text ++ 10 ∷ rest) (length text + 0) place
     ∙ ap (λ l. item_of l ∷ items (drop (length text + 0 + 1) (text ++ 10 ∷ rest))) taken ∙ ap (λ i. i ∷ items (drop (length text + 0 + 1) (text ++ 10 ∷ rest))) item
-    ∙ ap (λ l. line (spelled parts) ∷ items l) (drop_past text (10 ∷ rest) 0)
+    ∙ ap (λ l. line (text_of parts) ∷ items l) (drop_past text (10 ∷ rest) 0)
 
 -- ---- some parts: `@a :s P m :` and a space
 

@@ -2,9 +2,9 @@ use Rattle.std.proofs.Common.{◌≡◌, ℕ, ◌+◌, ◌-◌, ◌≤◌, cond,
 use Rattle.std.specs.Io.BufRead.{strip_last}
 use Rattle.std.proofs.lemmas.List.{take_rest, length-drop}
 use Rattle.irc_line.specs.Stream.{is_lf, line, holding, skipping}
-use Rattle.irc_line.proofs.Cutting.{next_of_line, next_of_long, next_of_rest, next_of_skipping}
-use Rattle.irc_line.proofs.Searched.{lf_behind, none_behind, all_searched}
-use Rattle.irc_line.proofs.feeder.Feeder.next_line.Goals as goal
+use Rattle.irc_line.proofs.StreamLemmas.{next_of_line, next_of_long, next_of_rest, next_of_skipping}
+use Rattle.irc_line.proofs.SearchLemmas.{lf_behind, none_behind, all_searched}
+use Rattle.irc_line.proofs.stream.Feeder.next_line.Goals as goal
 
 -- the slice from a place on, where the code names it by its length
 from_place : (shown bytes : List ℕ) (place : ℕ) → shown ≡ bytes → take (length shown - place) (drop place shown) ≡ drop place bytes
@@ -21,7 +21,7 @@ returns-in-Some c =
     let bytes = c.self.inside.buffer.items in
     let at = searched - start + c.in-Some.at in
     let in_order : start ≤ searched = c.self.invariant.in_order in
-    let behind : position is_lf (drop searched bytes) ≡ Some c.in-Some.at = ap (position is_lf) (sym (from_place c.deref.result.now bytes searched c.deref.ensures.value)) ∙ sym c.find_lf.ensures ∙ c.in-Some.is in
+    let behind : position is_lf (drop searched bytes) ≡ Some c.in-Some.at = ap (position is_lf) (sym (from_place c.deref.result.now bytes searched c.deref.ensures.value)) ∙ sym c.find_byte.ensures.place ∙ c.in-Some.is in
     let place = lf_behind bytes start searched in_order (omega (arith, c.self.inside.buffer.ok.0)) c.self.invariant.no_lf c.in-Some.at behind in
     let size = length-drop start bytes in
     let found = next_of_line c.self.inside.in_long_line start bytes _ c.self.view_is c.if-self.false at place (omega (arith, c.self.inside.buffer.ok.0)) in
@@ -38,7 +38,7 @@ invariant_of-self-in-None-2 c =
     let searched = c.self.inside.searched in
     let bytes = c.self.inside.buffer.items in
     let inside : searched ≤ length bytes = omega (arith, c.self.inside.buffer.ok.0) in
-    let behind : position is_lf (drop searched bytes) ≡ None = ap (position is_lf) (sym (from_place c.deref.result.now bytes searched c.deref.ensures.value)) ∙ sym c.find_lf.ensures ∙ c.in-None-2.is in
+    let behind : position is_lf (drop searched bytes) ≡ None = ap (position is_lf) (sym (from_place c.deref.result.now bytes searched c.deref.ensures.value)) ∙ sym c.find_byte.ensures.place ∙ c.in-None-2.is in
     let none = none_behind bytes start searched c.self.invariant.in_order inside c.self.invariant.no_lf behind in
     record {
       in_order = omega (arith, c.self.invariant.in_order, c.self.invariant.in_buffer);
@@ -55,7 +55,7 @@ returns-in-None c =
     let searched = c.self.inside.searched in
     let bytes = c.self.inside.buffer.items in
     let inside : searched ≤ length bytes = omega (arith, c.self.inside.buffer.ok.0) in
-    let behind : position is_lf (drop searched bytes) ≡ None = ap (position is_lf) (sym (from_place c.deref.result.now bytes searched c.deref.ensures.value)) ∙ sym c.find_lf.ensures ∙ c.in-None.is in
+    let behind : position is_lf (drop searched bytes) ≡ None = ap (position is_lf) (sym (from_place c.deref.result.now bytes searched c.deref.ensures.value)) ∙ sym c.find_byte.ensures.place ∙ c.in-None.is in
     let none = none_behind bytes start searched c.self.invariant.in_order inside c.self.invariant.no_lf behind in
     let size = length-drop start bytes in
     let found = next_of_long c.self.inside.in_long_line start bytes _ c.self.view_is c.if-self.false none (omega (arith, c.self.inside.buffer.ok.0)) in
@@ -67,7 +67,7 @@ returns-in-None-2 c =
     let searched = c.self.inside.searched in
     let bytes = c.self.inside.buffer.items in
     let inside : searched ≤ length bytes = omega (arith, c.self.inside.buffer.ok.0) in
-    let behind : position is_lf (drop searched bytes) ≡ None = ap (position is_lf) (sym (from_place c.deref.result.now bytes searched c.deref.ensures.value)) ∙ sym c.find_lf.ensures ∙ c.in-None-2.is in
+    let behind : position is_lf (drop searched bytes) ≡ None = ap (position is_lf) (sym (from_place c.deref.result.now bytes searched c.deref.ensures.value)) ∙ sym c.find_byte.ensures.place ∙ c.in-None-2.is in
     let none = none_behind bytes start searched c.self.invariant.in_order inside c.self.invariant.no_lf behind in
     let size = length-drop start bytes in
     let found = next_of_rest c.self.inside.in_long_line start bytes _ c.self.view_is c.if-self.false none (omega (arith, c.self.inside.buffer.ok.0)) in

@@ -8,7 +8,7 @@ use Rattle.std.proofs.lemmas.Option.{cond_some}
 use Rattle.std.proofs.lemmas.Bool.{ltb-true, ltb-false, lt-ltb, le-ltb, cases_Bool, cond-true, cond-false, cases_lt}
 use Rattle.std.proofs.Common.{cond, lit<}
 use Rattle.std.specs.Io.BufRead.{strip_last}
-use Rattle.irc_line.specs.Stream.{is_lf, item_of, items_of_rest, items_of_parts, items, line, too_long, Held, holding, skipping, bytes_of, behind, skipped, taken, first_item, next_item}
+use Rattle.irc_line.specs.Stream.{is_lf, item_of, items_of_rest, items_of_parts, items, line, too_long, Held, holding, skipping, bytes_of, held_behind, held_past, held_with, first_item, next_item}
 
 pub record FirstLf (xs : List ℕ) (n : ℕ) : Type 0 where
   pub place : position_or_len is_lf xs ≡ n
@@ -126,18 +126,18 @@ module _ (flag : Bool) (start : ℕ) (bytes : List ℕ) (held : Held) (view_is :
   opened closed = sym view_is ∙ cond-false flag skipping (holding (drop start bytes)) closed
 
   pub next_of_line : flag ≡ false → (at : ℕ) → position is_lf (drop start bytes) ≡ Some at → length (drop start bytes) ≤ 8703 →
-      (cond flag skipping (holding (drop (start + at + 1) bytes)) ≡ skipped (bytes_of held)) × (Some (line (strip_last 13 (take at (drop start bytes)))) ≡ next_item held)
+      (cond flag skipping (holding (drop (start + at + 1) bytes)) ≡ held_past (bytes_of held)) × (Some (line (strip_last 13 (take at (drop start bytes)))) ≡ next_item held)
   next_of_line closed at place fits =
       let same = opened closed in
       let rest : drop (start + at + 1) bytes ≡ drop (at + 1) (drop start bytes) = ap (λ n. drop n bytes) (omega arith) ∙ sym (drop-drop (at + 1) start bytes) in (
-        cond-false flag skipping _ closed ∙ ap holding rest ∙ ap (λ o. behind o (drop start bytes)) (sym place) ∙ ap (λ h. skipped (bytes_of h)) (sym same),
+        cond-false flag skipping _ closed ∙ ap holding rest ∙ ap (λ o. held_behind o (drop start bytes)) (sym place) ∙ ap (λ h. held_past (bytes_of h)) (sym same),
         sym (ap next_item same ∙ line_first (drop start bytes) at place fits),
       )
 
-  pub next_of_long : flag ≡ false → position is_lf (drop start bytes) ≡ None → 8703 ≤ length (drop start bytes) → (skipping ≡ skipped (bytes_of held)) × (Some too_long ≡ next_item held)
+  pub next_of_long : flag ≡ false → position is_lf (drop start bytes) ≡ None → 8703 ≤ length (drop start bytes) → (skipping ≡ held_past (bytes_of held)) × (Some too_long ≡ next_item held)
   next_of_long closed place long =
       let same = opened closed in
-      (ap (λ o. behind o (drop start bytes)) (sym place) ∙ ap (λ h. skipped (bytes_of h)) (sym same), sym (ap next_item same ∙ long_first (drop start bytes) place long))
+      (ap (λ o. held_behind o (drop start bytes)) (sym place) ∙ ap (λ h. held_past (bytes_of h)) (sym same), sym (ap next_item same ∙ long_first (drop start bytes) place long))
 
   pub next_of_rest : flag ≡ false → position is_lf (drop start bytes) ≡ None → length (drop start bytes) < 8703 → None ≡ next_item held
   next_of_rest closed place short = sym (ap next_item (opened closed) ∙ none_first (drop start bytes) place short)
@@ -145,18 +145,18 @@ module _ (flag : Bool) (start : ℕ) (bytes : List ℕ) (held : Held) (view_is :
   pub next_of_skipping : flag ≡ true → None ≡ next_item held
   next_of_skipping is = sym (ap next_item (sym view_is ∙ cond-true flag skipping (holding (drop start bytes)) is) ∙ none_first [] refl (lit< tt))
 
-  pub taken_on : flag ≡ false → (skip n : ℕ) (piece : List ℕ) → skip ≡ 0 → holding (drop start bytes ++ take n (drop skip piece)) ≡ taken held (take (skip + n) piece)
+  pub taken_on : flag ≡ false → (skip n : ℕ) (piece : List ℕ) → skip ≡ 0 → holding (drop start bytes ++ take n (drop skip piece)) ≡ held_with held (take (skip + n) piece)
   taken_on closed skip n piece e =
-      let P : ℕ → Type 0 = λ k. holding (drop start bytes ++ take n (drop k piece)) ≡ taken held (take (k + n) piece) in
+      let P : ℕ → Type 0 = λ k. holding (drop start bytes ++ take n (drop k piece)) ≡ held_with held (take (k + n) piece) in
       let more : take n piece ≡ take (0 + n) piece = ap (λ k. take k piece) (omega arith) in
-      subst P (sym e) (ap (λ l. holding (drop start bytes ++ l)) more ∙ ap (λ h. taken h (take (0 + n) piece)) (sym (opened closed)))
+      subst P (sym e) (ap (λ l. holding (drop start bytes ++ l)) more ∙ ap (λ h. held_with h (take (0 + n) piece)) (sym (opened closed)))
 
   pub taken_behind : flag ≡ true → (at skip n : ℕ) (piece : List ℕ) → position is_lf piece ≡ Some at → skip ≡ at + 1 → start ≡ length bytes
-      → holding (drop start bytes ++ take n (drop skip piece)) ≡ taken held (take (skip + n) piece)
+      → holding (drop start bytes ++ take n (drop skip piece)) ≡ held_with held (take (skip + n) piece)
   taken_behind is at skip n piece place e empty =
-      let P : ℕ → Type 0 = λ k. holding (drop start bytes ++ take n (drop k piece)) ≡ taken held (take (k + n) piece) in
+      let P : ℕ → Type 0 = λ k. holding (drop start bytes ++ take n (drop k piece)) ≡ held_with held (take (k + n) piece) in
       let same : held ≡ skipping = sym view_is ∙ cond-true flag skipping (holding (drop start bytes)) is in
       let there = position-take piece at (at + 1 + n) place (omega arith) in
       let gone : drop start bytes ≡ [] = drop_all start bytes (omega arith) in
       subst P (sym e) (ap (λ l. holding (l ++ take n (drop (at + 1) piece))) gone ∙ ap holding (sym (drop-take (at + 1) n piece))
-      ∙ ap (λ o. behind o (take (at + 1 + n) piece)) (sym there) ∙ ap (λ h. taken h (take (at + 1 + n) piece)) (sym same))
+      ∙ ap (λ o. held_behind o (take (at + 1 + n) piece)) (sym there) ∙ ap (λ h. held_with h (take (at + 1 + n) piece)) (sym same))

@@ -1,34 +1,21 @@
 -- `read` gives the reading that a line has, and else the first of its faults.
-use Rattle.std.proofs.Common.{◌≡◌, ℕ, zero, suc, ◌+◌, ◌<◌, Bool, true, false, not, cond, List, [], ◌∷◌, drop, take, None, Some, Option, Result, Ok, Err, refl, sym, ap, ◌∙◌, subst, arith, inl, inr}
+use Rattle.std.proofs.Common.{◌≡◌, ℕ, zero, suc, ◌+◌, ◌<◌, Bool, true, false, cond, List, [], ◌∷◌, drop, None, Some, Option, Result, Ok, Err, refl, sym, ap, ◌∙◌, subst, arith, inl, inr}
 use Rattle.std.specs.Prelude.{◌==◌, IfOk, IfErr, MatchResult, ◌⊎◌, ◌≤◌}
-use Rattle.std.specs.List.{position_or_len}
 use Rattle.std.proofs.lemmas.Bool.{eqb-true, eq-eqb, ne_eqb, cases_lt}
 use Rattle.irc_line.specs.declared.line.LineFault.{LineFault}
 use Rattle.irc_line.specs.declared.line.LineFault.TheVariants.{Empty, TagsTooLong, TooLong, BadByte, NoCommand}
 use Rattle.irc_line.specs.declared.line.TagLimit.{TagLimit}
-use Rattle.irc_line.specs.Syntax.{Reading, space, colon, at_sign, rank, SkipsSpaces, SplitsWord, SplitsTags, SplitsSource, HasParameters, HasFront, IsRefused, Reads}
+use Rattle.irc_line.specs.Line.{Reading, colon, at_sign, rank, SkipsSpaces, SplitsWord, SplitsTags, SplitsSource, HasParameters, HasHead, IsRefused, Reads}
 use Rattle.irc_line.specs.Faults.{shows, first_fault}
-use Rattle.irc_line.specs.Read.{after_spaces, word, after_word, tags_of, after_tags, source_of, after_source, last_parameter, next_parameter, parameters, front_of_line, reading_of, refused_or, read}
-use Rattle.irc_line.proofs.Spelling.{skips_at_first, spelled_once, match_true, match_false}
-use Rattle.irc_line.proofs.Refusals.{refused, sound}
+use Rattle.irc_line.specs.Read.{after_spaces, word, after_word, tags_of, after_tags, source_of, after_source, last_parameter, next_parameter, parameters, head_of, reading_of, fault_or, read}
+use Rattle.irc_line.proofs.LineLemmas.{skips_at_first, splits_at_first, spelled_once, match_true, match_false}
+use Rattle.irc_line.proofs.FaultsLemmas.{refused, sound}
 
 skips : (xs : List ℕ) → SkipsSpaces xs (after_spaces xs)
 skips xs = skips_at_first xs
 
-is_space : ℕ → Bool
-is_space b = b == space
-
 splits : (xs : List ℕ) → SplitsWord xs (word xs) (after_word xs)
-splits [] = (tt, refl, refl)
-splits (x ∷ xs) = go (splits xs) (x == space) refl where
-  go : SplitsWord xs (word xs) (after_word xs) → (b : Bool) → (x == space) ≡ b → SplitsWord (x ∷ xs) (word (x ∷ xs)) (after_word (x ∷ xs))
-  go rest true e =
-      let none : position_or_len (λ b. b == space) (x ∷ xs) ≡ 0 = ap (λ b. cond (not b) (1 + position_or_len (λ b. b == space) xs) 0) e in
-      subst (λ n. SplitsWord (x ∷ xs) (take n (x ∷ xs)) (drop n (x ∷ xs))) (sym none) (tt, refl, e)
-  go rest false e =
-      let some : position_or_len (λ b. b == space) (x ∷ xs) ≡ suc (position_or_len (λ b. b == space) xs) =
-      ap (λ b. cond (not b) (1 + position_or_len (λ b. b == space) xs) 0) e ∙ omega arith in
-      subst (λ n. SplitsWord (x ∷ xs) (take n (x ∷ xs)) (drop n (x ∷ xs))) (sym some) ((e, rest.0), ap (λ l. x ∷ l) rest.1, rest.2)
+splits xs = splits_at_first xs
 
 tags_split : (xs : List ℕ) → SplitsTags xs (tags_of xs) (after_tags xs)
 tags_split [] = (refl, refl)
@@ -88,8 +75,8 @@ module _ (limit : TagLimit) (bytes : List ℕ) where
   abbrev text : List ℕ
   text = after_source (after_spaces (after_tags bytes))
 
-  front : HasFront bytes (tags_of bytes) (source_of (after_spaces (after_tags bytes))) (word text)
-  front = record {
+  head : HasHead bytes (tags_of bytes) (source_of (after_spaces (after_tags bytes))) (word text)
+  head = record {
     after_tags = after_tags bytes;
     after_source = text;
     after_command = after_word text;
@@ -102,14 +89,14 @@ module _ (limit : TagLimit) (bytes : List ℕ) where
   IsRead r = MatchResult r (Reads limit bytes) (IsRefused limit bytes)
 
   pub read_reads : IsRead (read limit bytes)
-  unfolding read front
-  read_reads = go (first_fault (shows limit (front_of_line bytes))) refl where
-    go : (o : Option LineFault) → first_fault (shows limit (front_of_line bytes)) ≡ o → IsRead (refused_or o (reading_of bytes))
+  unfolding read head
+  read_reads = go (first_fault (shows limit (head_of bytes))) refl where
+    go : (o : Option LineFault) → first_fault (shows limit (head_of bytes)) ≡ o → IsRead (fault_or o (reading_of bytes))
     go None e = record {
-      parts = record { front = front; parameters = has_parameters 14 0 (after_word text) refl };
-      sound = sound limit bytes _ _ _ front e;
+      parts = record { head = head; parameters = has_parameters 14 0 (after_word text) refl };
+      sound = sound limit bytes _ _ _ head e;
     }
-    go (Some f) e = refused limit bytes _ _ _ front f e
+    go (Some f) e = refused limit bytes _ _ _ head f e
 
   same_rank : (f g : LineFault) → IsRefused limit bytes f → IsRefused limit bytes g → rank f ≡ rank g
   same_rank f g p q = by_cases (cases_lt (rank f) (rank g)) (cases_lt (rank g) (rank f)) where

@@ -2,10 +2,10 @@ use Rattle.std.proofs.Common.{◌≡◌, ◌-◌, ◌++◌, IsOk, length, take, 
 use Rattle.std.proofs.lemmas.List.{take_rest, length-take, length-drop, drop-drop, drop-append-le}
 use Rattle.std.proofs.lemmas.Bool.{cond-true}
 use Rattle.irc_line.specs.Stream.{holding}
-use Rattle.irc_line.proofs.Cutting.{taken_on, taken_behind}
+use Rattle.irc_line.proofs.StreamLemmas.{taken_on, taken_behind}
 use Rattle.irc_line.proofs.CallsLemmas.{room_where_none}
-use Rattle.irc_line.proofs.feeder.Feeder.feed.Goals as goal
-use Rattle.irc_line.proofs.feeder.Feeder.feed.Goals.{then-self+in-Some, else-self}
+use Rattle.irc_line.proofs.stream.Feeder.feed.Goals as goal
+use Rattle.irc_line.proofs.stream.Feeder.feed.Goals.{then-self+in-Some, else-self}
 
 pub returns-clause-taken : goal.returns-clause-taken
 returns-clause-taken c =
@@ -26,7 +26,7 @@ returns-clause-taken c =
     ∙ ap (λ l. l ++ take n (drop skip piece)) kept in
     elim c.if-self.branch [
       | then-self+in-Some w ↦ ap holding held ∙ taken_behind c.self.inside.in_long_line start bytes c.args.self.now c.self.view_is
-          w.if-self.true w.in-Some.at skip n piece (sym w.find_lf.ensures ∙ w.in-Some.is) w.skipped-is (omega (arith, c.self.invariant.none_held w.if-self.true, c.self.inside.buffer.ok.0))
+          w.if-self.true w.in-Some.at skip n piece (sym w.find_byte.ensures.place ∙ w.in-Some.is) w.skipped-is (omega (arith, c.self.invariant.none_held w.if-self.true, c.self.inside.buffer.ok.0))
       | else-self w ↦ ap holding held ∙ taken_on c.self.inside.in_long_line start bytes c.args.self.now c.self.view_is
           w.if-self.false skip n piece w.skipped-is
     ]
