@@ -1,0 +1,2 @@
+-- what a reader must believe: the lines of the cluster
+pub mod Reply
