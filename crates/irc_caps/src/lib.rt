@@ -2,8 +2,25 @@
 //!
 //! A session asks for capabilities by name (`CAP REQ`, IRCv3 capability negotiation, section "The CAP REQ subcommand").
 //! The seven names are `batch`, `draft/chathistory`, `draft/message-redaction`, `draft/read-marker`, `echo-message`,
-//! `message-tags` and `server-time`, and a [`CapSet`] says which of them a session holds.
+//! `message-tags` and `server-time`, and a [`CapSet`] says which of them a session holds. A [`Negotiation`] takes the lines of
+//! a session, answers each CAP, and knows what is held and whether registration waits for `CAP END`.
 #![tactic(auto)]
+
+mod capability;
+pub mod laws;
+mod negotiation;
+mod registration;
+mod replies;
+mod words;
+
+pub use capability::Capability;
+pub use memory::{NoMemory, Text};
+pub use negotiation::{CapReply, Negotiation};
+pub use registration::Registration;
+pub use replies::{echoed, need_more_params, reply};
+
+#[cfg(test)]
+mod tests;
 
 /// A set of capabilities: for each of the seven names whether it is held. The fields stand in the byte order of the
 /// names.
@@ -27,6 +44,7 @@ pub struct CapSet {
 
 impl CapSet {
     ghost use Rattle.std.specs.Prelude.{◌≡◌};
+    ghost use Rattle.irc_caps.specs.CapSet as spec;
     ghost use Rattle.irc_caps.specs.CapSet.{no_capabilities, all_capabilities};
 
     /// The empty set, which a session holds at first.
@@ -57,5 +75,37 @@ impl CapSet {
             message_tags: true,
             server_time: true,
         }
+    }
+
+    /// Whether that capability is held.
+    pub fn holds(&self, capability: Capability) -> bool
+        ensures { result ≡ spec.holds self.now capability }
+    {
+        match capability {
+            Capability::Batch => self.batch,
+            Capability::Chathistory => self.chathistory,
+            Capability::MessageRedaction => self.message_redaction,
+            Capability::ReadMarker => self.read_marker,
+            Capability::EchoMessage => self.echo_message,
+            Capability::MessageTags => self.message_tags,
+            Capability::ServerTime => self.server_time,
+        }
+    }
+
+    /// The set in which that capability is held, or isn't, and all others are as they were.
+    pub fn with(self, capability: Capability, is_held: bool) -> CapSet
+        ensures { result ≡ spec.with_held self capability is_held }
+    {
+        let mut caps = self;
+        match capability {
+            Capability::Batch => caps.batch = is_held,
+            Capability::Chathistory => caps.chathistory = is_held,
+            Capability::MessageRedaction => caps.message_redaction = is_held,
+            Capability::ReadMarker => caps.read_marker = is_held,
+            Capability::EchoMessage => caps.echo_message = is_held,
+            Capability::MessageTags => caps.message_tags = is_held,
+            Capability::ServerTime => caps.server_time = is_held,
+        }
+        caps
     }
 }
