@@ -1,6 +1,6 @@
-pub mod OrderLaws
-pub mod FoldLaws
-pub mod MakingLaws
-pub mod KeptLaws
-pub mod NameLaws
-pub mod FaultLaws
+mod WordsLemmas
+mod TextsLemmas
+mod OrderLemmas
+mod KeyLemmas
+mod FaultsLemmas
+pub mod CallerLemmas

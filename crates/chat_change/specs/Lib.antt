@@ -1,6 +1,10 @@
+-- ---- what a reader must believe: texts and their limits, buffers, messages, records, keys, orders and refusals
 pub mod Words
 pub mod Buffer
+pub mod Message
 pub mod Record
 pub mod Order
-pub mod Making
-pub mod Change
+pub mod Key
+pub mod Faults
+-- ---- what only the proofs use of the code: how texts lie in memory
+pub mod Texts

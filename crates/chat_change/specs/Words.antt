@@ -1,7 +1,9 @@
 -- The words that changes are made of: names of accounts and networks, targets, message ids, sources and bodies
 -- (RFC 1459 and RFC 2812, section 2.3; IRCv3 message-ids), and how letters are folded.
-use Rattle.std.specs.Prelude.{ℕ, ◌+◌, Bool, false, not, ◌&&◌, ◌||◌, ◌==◌, nat_lt, nat_le, List, [], ◌∷◌, length, map, if◌then◌else◌}
+use Rattle.std.specs.Prelude.{ℕ, Bool, false, not, ◌&&◌, ◌||◌, ◌==◌, nat_lt, nat_le, List, [], ◌∷◌, length, map}
 use Rattle.std.specs.List.{list_any, list_all}
+use Rattle.std.specs.Char.{to_ascii_lowercase}
+use Rattle.chat_change.specs.declared.words.TheConstants.{NAME_LIMIT, TARGET_LIMIT, ID_LIMIT}
 
 -- the text has at least one byte and at most so many
 abbrev pub has_length_to : ℕ → List ℕ → Bool
@@ -32,7 +34,7 @@ is_name_byte b = (nat_le 97 b && nat_le b 122) || (nat_le 48 b && nat_le b 57) |
 
 -- the name of an account or of a network
 abbrev pub is_name : List ℕ → Bool
-is_name text = has_length_to 32 text && list_all is_name_byte text
+is_name text = has_length_to NAME_LIMIT text && list_all is_name_byte text
 
 -- the text is `*`
 abbrev pub is_star : List ℕ → Bool
@@ -40,11 +42,12 @@ is_star text = (length text == 1) && begins_with 42 text
 
 -- a channel or a nick
 abbrev pub is_target : List ℕ → Bool
-is_target text = has_length_to 200 text && not (list_any ends_target text) && not (begins_with_colon text) && not (is_star text)
+is_target text =
+    has_length_to TARGET_LIMIT text && not (list_any ends_target text) && not (begins_with_colon text) && not (is_star text)
 
 -- a message id
 abbrev pub is_id : List ℕ → Bool
-is_id text = has_length_to 255 text && not (list_any ends_word text) && not (begins_with_colon text)
+is_id text = has_length_to ID_LIMIT text && not (list_any ends_word text) && not (begins_with_colon text)
 
 -- who sent a message: the rule of an id
 abbrev pub is_source : List ℕ → Bool
@@ -56,9 +59,6 @@ is_body text = not (list_any ends_line text)
 
 -- ---- folding
 
--- letters are folded from `A`..`Z` to `a`..`z` alone
-abbrev pub fold_byte : ℕ → ℕ
-fold_byte b = if nat_le 65 b && nat_le b 90 then b + 32 else b
-
-abbrev pub folded : List ℕ → List ℕ
-folded text = map fold_byte text
+-- the text with its ASCII letters in lower case: `A` to `Z` become `a` to `z`, and nothing else changes
+abbrev pub lower_case_of : List ℕ → List ℕ
+lower_case_of text = map to_ascii_lowercase text

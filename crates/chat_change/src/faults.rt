@@ -2,6 +2,8 @@
 //!
 //! What goes into a line has the shape that the grammar of messages gives it (RFC 1459 and RFC 2812, section 2.3).
 
+ghost use Rattle.std.specs.Prelude.{◌≡◌, ◌↔◌, IsTrue};
+
 use thiserror::Error;
 
 /// Why a part of a change is refused. Of several faults the first of this list is answered.
@@ -28,4 +30,16 @@ pub enum ChangeFault {
     /// There was no memory.
     #[error("no memory")]
     NoMemory,
+}
+
+impl ChangeFault {
+    /// Whether it was memory that was wanted, and not a lawful part.
+    pub fn is_no_memory(self) -> bool
+        ensures { IsTrue result ↔ (self ≡ ChangeFault.NoMemory) }
+    {
+        match self {
+            ChangeFault::NoMemory => true,
+            _ => false,
+        }
+    }
 }

@@ -1,17 +1,19 @@
 //! Laws of the definitions. Their contracts are the laws, and their bodies are empty.
-ghost use Rattle.std.specs.Prelude.{◌≡◌, ◌<◌, ◌↔◌, ◌⊎◌, ◌&&◌, IsTrue, true, false, ℕ, List, length, None, Some};
+ghost use Rattle.std.specs.Prelude.{◌≡◌, ◌<◌, ◌↔◌, ◌⊎◌, ◌&&◌, IsTrue, true, false};
+ghost use Rattle.std.specs.Prelude.{ℕ, List, length, None, Some};
 ghost use Rattle.std.specs.declared.cmp.Ordering.TheVariants.{Less, Equal};
 ghost use Rattle.std.specs.Ordering.{ordering_then, eq_by_cmp};
 ghost use Rattle.std.specs.Cmp.{IsTotalOrder};
-ghost use Rattle.chat_change.specs.Words.{is_name, is_target, is_id, is_source, is_body, folded};
-ghost use Rattle.chat_change.specs.Buffer as spec;
-ghost use Rattle.chat_change.specs.Record as spec_record;
-ghost use Rattle.chat_change.specs.Record.{line_of, line_limit};
-ghost use Rattle.chat_change.specs.Making.{buffer_fault, buffer_of, id_fault, record_fault};
+ghost use Rattle.chat_change.specs.Words.{is_name, is_target, is_id, is_source, is_body};
+ghost use Rattle.chat_change.specs.Words.{lower_case_of};
+ghost use Rattle.chat_change.specs.Buffer.{Buffer, buffer_of, IsLawfulBuffer};
+ghost use Rattle.chat_change.specs.Message.{Message, line_of, IsLawfulMessage};
+ghost use Rattle.chat_change.specs.Record.{Record};
+ghost use Rattle.chat_change.specs.Faults.{buffer_fault, id_fault, record_fault};
 ghost use Rattle.chat_change.specs.Order.{text_cmp, buffer_cmp, record_cmp, GoesBefore};
-ghost use Rattle.chat_change.specs.declared.records.Kind.{Kind};
-ghost use Rattle.chat_change.specs.declared.faults.ChangeFault.TheVariants.{BadName, BadTarget, BadId};
-ghost use Rattle.chat_change.specs.declared.faults.ChangeFault.TheVariants.{BadSource, BadBody, LineTooLong};
+ghost use Rattle.chat_change.specs.declared.faults.ChangeFault.TheVariants as fault;
+
+use crate::message::LINE_LIMIT;
 
 /// Of the records of one message one is kept, whatever the order in which they are compared.
 ///
@@ -19,21 +21,22 @@ ghost use Rattle.chat_change.specs.declared.faults.ChangeFault.TheVariants.{BadS
 /// source, target, body) is the smaller one, compared in this order by bytes. No record goes before itself, and of two
 /// different records of one message one goes before the other.
 pub fn records_of_a_message_are_ordered()
-    ensures comparison { (r s : spec_record.Record) → r.buffer ≡ s.buffer → r.id ≡ s.id →
+    ensures comparison { (r s : Record) → r.buffer ≡ s.buffer → r.id ≡ s.id →
         (record_cmp r s ≡ Less) ↔ GoesBefore r s }
-    ensures irreflexive { (r : spec_record.Record) → ¬ GoesBefore r r }
-    ensures transitive { (r s t : spec_record.Record) → GoesBefore r s → GoesBefore s t → GoesBefore r t }
-    ensures total { (r s : spec_record.Record) → r.buffer ≡ s.buffer → r.id ≡ s.id → ¬ (r ≡ s) →
+    ensures irreflexive { (r : Record) → ¬ GoesBefore r r }
+    ensures transitive { (r s t : Record) → GoesBefore r s → GoesBefore s t → GoesBefore r t }
+    ensures total { (r s : Record) → r.buffer ≡ s.buffer → r.id ≡ s.id → ¬ (r ≡ s) →
         GoesBefore r s ⊎ GoesBefore s r }
 {}
 
 /// Buffers are ordered by account, then network, then target, each byte by byte, and only equal buffers tie.
 pub fn buffers_are_ordered_by_their_names()
-    ensures by_names { (a b : spec.Buffer) → buffer_cmp a b ≡ ordering_then (text_cmp a.account b.account)
+    ensures by_names { (a b : Buffer) →
+        buffer_cmp a b ≡ ordering_then (text_cmp a.account b.account)
         (ordering_then (text_cmp a.network b.network) (text_cmp a.target b.target)) }
     ensures total { IsTotalOrder buffer_cmp }
-    ensures exact { (a b : spec.Buffer) → buffer_cmp a b ≡ Equal → a ≡ b }
-    ensures equality { (a b : spec.Buffer) → IsTrue (eq_by_cmp buffer_cmp a b) ↔ (a ≡ b) }
+    ensures exact { (a b : Buffer) → buffer_cmp a b ≡ Equal → a ≡ b }
+    ensures equality { (a b : Buffer) → IsTrue (eq_by_cmp buffer_cmp a b) ↔ (a ≡ b) }
 {}
 
 /// Message ids are ordered byte by byte, and only equal ids tie.
@@ -45,42 +48,42 @@ pub fn ids_are_ordered_by_their_bytes()
 
 /// The makers refuse exactly what has no lawful parts, and what they make is lawful.
 pub fn makers_give_lawful_fields()
-    ensures buffer_parts { (account network target : List ℕ) → (buffer_fault account network target ≡ None)
+    ensures buffer_parts { (account network target : List ℕ) →
+        (buffer_fault account network target ≡ None)
         ↔ ((is_name account ≡ true) × (is_name network ≡ true) × (is_target target ≡ true)) }
-    ensures buffers { (account network target : List ℕ) → buffer_fault account network target ≡ None →
-        spec.IsLawfulBuffer (buffer_of account network target) }
+    ensures buffers { (account network target : List ℕ) →
+        buffer_fault account network target ≡ None →
+        IsLawfulBuffer (buffer_of account network target) }
     ensures ids { (text : List ℕ) → (id_fault text ≡ None) ↔ (is_id text ≡ true) }
-    ensures messages { (kind : Kind) (source target body : List ℕ) →
-        (record_fault kind source target body ≡ None) ↔ spec_record.IsLawfulMessage kind source target body }
+    ensures messages { (m : Message) → (record_fault m ≡ None) ↔ IsLawfulMessage m }
 {}
 
 /// Why the makers of buffers and ids refuse: of a buffer a bad name is told before a bad target.
 pub fn makers_of_keys_tell_the_first_fault()
-    ensures bad_name { (account network target : List ℕ) → (buffer_fault account network target ≡ Some BadName)
+    ensures bad_name { (account network target : List ℕ) →
+        (buffer_fault account network target ≡ Some fault.BadName)
         ↔ ((is_name account && is_name network) ≡ false) }
-    ensures bad_target { (account network target : List ℕ) → (buffer_fault account network target ≡ Some BadTarget)
+    ensures bad_target { (account network target : List ℕ) →
+        (buffer_fault account network target ≡ Some fault.BadTarget)
         ↔ (((is_name account && is_name network) ≡ true) × (is_target target ≡ false)) }
-    ensures bad_id { (text : List ℕ) → (id_fault text ≡ Some BadId) ↔ (is_id text ≡ false) }
+    ensures bad_id { (text : List ℕ) → (id_fault text ≡ Some fault.BadId) ↔ (is_id text ≡ false) }
 {}
 
 /// Why the maker of records refuses: its faults are told in the order target, source, body, line.
 pub fn maker_of_records_tells_the_first_fault()
-    ensures bad_target { (kind : Kind) (source target body : List ℕ) →
-        (record_fault kind source target body ≡ Some BadTarget) ↔ (is_target target ≡ false) }
-    ensures bad_source { (kind : Kind) (source target body : List ℕ) →
-        (record_fault kind source target body ≡ Some BadSource)
-        ↔ ((is_target target ≡ true) × (is_source source ≡ false)) }
-    ensures bad_body { (kind : Kind) (source target body : List ℕ) →
-        (record_fault kind source target body ≡ Some BadBody)
-        ↔ ((is_target target ≡ true) × (is_source source ≡ true) × (is_body body ≡ false)) }
-    ensures line_too_long { (kind : Kind) (source target body : List ℕ) →
-        (record_fault kind source target body ≡ Some LineTooLong)
-        ↔ ((is_target target ≡ true) × (is_source source ≡ true) × (is_body body ≡ true)
-        × (line_limit < length (line_of kind source target body))) }
+    ensures bad_target { (m : Message) → (record_fault m ≡ Some fault.BadTarget)
+        ↔ (is_target m.target ≡ false) }
+    ensures bad_source { (m : Message) → (record_fault m ≡ Some fault.BadSource)
+        ↔ ((is_target m.target ≡ true) × (is_source m.source ≡ false)) }
+    ensures bad_body { (m : Message) → (record_fault m ≡ Some fault.BadBody)
+        ↔ ((is_target m.target ≡ true) × (is_source m.source ≡ true) × (is_body m.body ≡ false)) }
+    ensures line_too_long { (m : Message) → (record_fault m ≡ Some fault.LineTooLong)
+        ↔ ((is_target m.target ≡ true) × (is_source m.source ≡ true)
+        × (is_body m.body ≡ true) × (LINE_LIMIT < length (line_of m))) }
 {}
 
 /// Folding changes nothing that is folded. What is folded is a target exactly where the text was one.
 pub fn folding_keeps_targets()
-    ensures idempotent { (text : List ℕ) → folded (folded text) ≡ folded text }
-    ensures targets { (text : List ℕ) → is_target (folded text) ≡ is_target text }
+    ensures idempotent { (text : List ℕ) → lower_case_of (lower_case_of text) ≡ lower_case_of text }
+    ensures targets { (text : List ℕ) → is_target (lower_case_of text) ≡ is_target text }
 {}

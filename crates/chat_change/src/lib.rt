@@ -1,28 +1,41 @@
 //! The changes that a chat history is made of, and the order between the records of one message.
 //!
 //! A [`Change`] posts a message (a [`Record`]), redacts one, sets a read marker, or sets a floor below which nothing is
-//! kept. Each speaks of one [`Buffer`], the conversation of an account on a network with a target. The makers
-//! [`Buffer::new`], [`MsgId::new`] and [`Record::new`] refuse what can't stand in a line (RFC 1459 and RFC 2812, section
-//! 2.3), each with the first [`ChangeFault`] that there is, so that every value of these types has lawful parts.
-//! [`goes_before`] says which of two records of one message is kept.
+//! kept. What it speaks of is its [`Key`]: the floor or the marker of a [`Buffer`], the conversation of an account on a
+//! network with a target, or one message of a buffer. [`goes_before`] says which of two records of one message is kept.
 //!
-//! The makers and every `try_clone` take memory. Where there is none, a maker answers [`ChangeFault::NoMemory`] and leaves
-//! nothing behind.
+//! The makers [`Buffer::new`], [`MsgId::new`] and [`Record::new`] refuse what can't stand in a line (RFC 1459 and RFC
+//! 2812, section 2.3), each with the first [`ChangeFault`] that there is, so that every value of these types has lawful
+//! parts. Their tests are functions of their own, as [`is_target`] and [`is_message`], which take no memory.
+//!
+//! The makers take memory. Where there is none, a maker answers [`ChangeFault::NoMemory`] and leaves nothing behind. What
+//! they make lies in blocks that nobody writes to, which clones share: a `try_clone` takes no memory and copies no text, and
+//! fails only where a block has 2^63 - 1 owners.
 #![tactic(auto)]
 
-mod buffers;
-mod changes;
+mod buffer;
+mod change;
 mod faults;
-mod ids;
+mod key;
 pub mod laws;
-mod records;
+mod message;
+mod msg_id;
+mod order;
+mod record;
 #[cfg(test)]
 mod tests;
+mod texts;
 mod words;
 
-pub use buffers::Buffer;
-pub use changes::Change;
+pub use buffer::Buffer;
+pub use change::Change;
 pub use faults::ChangeFault;
-pub use ids::MsgId;
 pub use irc_time::Moment;
-pub use records::{Kind, Record, goes_before};
+pub use key::Key;
+pub use message::{Kind, LINE_LIMIT, Message, is_message};
+pub use msg_id::MsgId;
+pub use order::goes_before;
+pub use record::Record;
+pub use words::{
+    ID_LIMIT, NAME_LIMIT, TARGET_LIMIT, is_body, is_id, is_name, is_source, is_target,
+};

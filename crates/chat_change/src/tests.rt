@@ -3,8 +3,16 @@ use std::alloc::Global;
 use std::cmp::Ordering;
 use std::test::Fail;
 
-// As many letters as the longest part may have, and one more.
+// As many letters as the longest part may have, and more: each part has a letter of its own.
 static LETTERS: [u8; 512] = [b'a'; 512];
+
+static NETWORKS: [u8; 33] = [b'w'; 33];
+
+static TARGETS: [u8; 201] = [b'T'; 201];
+
+static FOLDED_TARGETS: [u8; 201] = [b't'; 201];
+
+static SOURCES: [u8; 256] = [b'S'; 256];
 
 static NULS: [u8; 512] = [0; 512];
 
@@ -24,23 +32,42 @@ fn refused_record(
     target: &[u8],
     body: &[u8],
 ) -> Option<ChangeFault> {
-    message(alloc, b"m1", 1000, kind, source, target, body).err()
+    let message = Message {
+        kind,
+        source,
+        target,
+        body,
+    };
+    record_of(alloc, b"m1", 1000, message).err()
 }
 
 // A message in the buffer of the channel `#a`.
-fn message(
+fn record_of(
     alloc: Global,
     id: &[u8],
     ms: u64,
-    kind: Kind,
-    source: &[u8],
-    target: &[u8],
-    body: &[u8],
+    message: Message<'_>,
 ) -> Result<Record, ChangeFault> {
     let buffer = Buffer::new(alloc, b"demo", b"net", b"#a")?;
     let id = MsgId::new(alloc, id)?;
     let at = Moment::from_ms(ms).ok_or(ChangeFault::NoMemory)?;
-    Record::new(alloc, buffer, id, at, kind, source, target, body)
+    Record::new(alloc, buffer, id, at, message)
+}
+
+fn privmsg<'a>(source: &'a [u8], target: &'a [u8], body: &'a [u8]) -> Message<'a> {
+    Message {
+        kind: Kind::Privmsg,
+        source,
+        target,
+        body,
+    }
+}
+
+fn is_equal(one: Message<'_>, other: Message<'_>) -> bool {
+    one.kind == other.kind
+        && one.source == other.source
+        && one.target == other.target
+        && one.body == other.body
 }
 
 #[test]
@@ -52,8 +79,18 @@ fn a_buffer_has_a_folded_target(rt: HostRuntime) -> Result<(), Fail> {
     let spelled = Buffer::new(rt.alloc(), b"demo", b"net-1_x", b"#a[z")?;
     assert!(rt; buffer.is_same(&spelled) && buffer == spelled);
     assert!(rt; buffer.is_same(&buffer.try_clone()?));
-    assert!(rt; buffer.is_of(b"demo", b"net-1_x"));
-    assert!(rt; !buffer.is_of(b"demo", b"net") && !buffer.is_of(b"dem", b"net-1_x"));
+    Ok(())
+}
+
+#[test]
+fn the_longest_buffer_is_kept(rt: HostRuntime) -> Result<(), Fail> {
+    let (account, network, target) = (&LETTERS[..32], &NETWORKS[..32], &TARGETS[..200]);
+    let buffer = Buffer::new(rt.alloc(), account, network, target)?;
+    for buffer in [&buffer, &buffer.try_clone()?] {
+        assert_eq!(rt; buffer.account(), account);
+        assert_eq!(rt; buffer.network(), network);
+        assert_eq!(rt; buffer.target(), &FOLDED_TARGETS[..200]);
+    }
     Ok(())
 }
 
@@ -76,16 +113,7 @@ fn buffers_are_ordered_by_account_network_and_target(rt: HostRuntime) -> Result<
 #[test]
 fn names_have_1_to_32_bytes_of_a_few(rt: HostRuntime) {
     for name in [b"a".as_slice(), b"az09-_".as_slice(), &LETTERS[..32]] {
-        assert_eq!(rt;
-            refused_buffer(rt.alloc(), name, b"net", b"#a"),
-            None,
-            "{name:?}"
-        );
-        assert_eq!(rt;
-            refused_buffer(rt.alloc(), b"demo", name, b"#a"),
-            None,
-            "{name:?}"
-        );
+        assert!(rt; is_name(name), "{name:?}");
     }
     for name in [
         b"".as_slice(),
@@ -95,6 +123,7 @@ fn names_have_1_to_32_bytes_of_a_few(rt: HostRuntime) {
         &LETTERS[..33],
     ] {
         let fault = Some(ChangeFault::BadName);
+        assert!(rt; !is_name(name), "{name:?}");
         assert_eq!(rt;
             refused_buffer(rt.alloc(), name, b"net", b"#a"),
             fault,
@@ -116,13 +145,9 @@ fn targets_have_1_to_200_bytes_of_a_middle_parameter(rt: HostRuntime) {
         b"x:".as_slice(),
         &LETTERS[..200],
     ] {
+        assert!(rt; is_target(target), "{target:?}");
         assert_eq!(rt;
             refused_buffer(rt.alloc(), b"demo", b"net", target),
-            None,
-            "{target:?}"
-        );
-        assert_eq!(rt;
-            refused_record(rt.alloc(), Kind::Privmsg, b"bob", target, b"hi"),
             None,
             "{target:?}"
         );
@@ -139,6 +164,7 @@ fn targets_have_1_to_200_bytes_of_a_middle_parameter(rt: HostRuntime) {
         &LETTERS[..201],
     ] {
         let fault = Some(ChangeFault::BadTarget);
+        assert!(rt; !is_target(target), "{target:?}");
         assert_eq!(rt;
             refused_buffer(rt.alloc(), b"demo", b"net", target),
             fault,
@@ -161,7 +187,7 @@ fn ids_and_sources_have_1_to_255_bytes_of_a_word(rt: HostRuntime) {
         b"*".as_slice(),
         &LETTERS[..255],
     ] {
-        assert_eq!(rt; MsgId::new(rt.alloc(), text).err(), None, "{text:?}");
+        assert!(rt; is_id(text) && is_source(text), "{text:?}");
         assert_eq!(rt;
             refused_record(rt.alloc(), Kind::Privmsg, text, b"#a", b"hi"),
             None,
@@ -178,6 +204,7 @@ fn ids_and_sources_have_1_to_255_bytes_of_a_word(rt: HostRuntime) {
         &LETTERS[..256],
     ] {
         let fault = Some(ChangeFault::BadSource);
+        assert!(rt; !is_id(text) && !is_source(text), "{text:?}");
         assert_eq!(rt;
             MsgId::new(rt.alloc(), text).err(),
             Some(ChangeFault::BadId),
@@ -192,12 +219,22 @@ fn ids_and_sources_have_1_to_255_bytes_of_a_word(rt: HostRuntime) {
 }
 
 #[test]
+fn the_longest_id_is_kept(rt: HostRuntime) -> Result<(), Fail> {
+    let id = MsgId::new(rt.alloc(), &SOURCES[..255])?;
+    for id in [&id, &id.try_clone()?] {
+        assert_eq!(rt; id.as_bytes(), &SOURCES[..255]);
+    }
+    Ok(())
+}
+
+#[test]
 fn a_body_ends_no_line(rt: HostRuntime) {
     for body in [
         b"".as_slice(),
         b" :*,".as_slice(),
         b"\x01ACTION waves\x01".as_slice(),
     ] {
+        assert!(rt; is_body(body), "{body:?}");
         assert_eq!(rt;
             refused_record(rt.alloc(), Kind::Privmsg, b"bob", b"#a", body),
             None,
@@ -211,6 +248,7 @@ fn a_body_ends_no_line(rt: HostRuntime) {
         &NULS,
     ] {
         let fault = Some(ChangeFault::BadBody);
+        assert!(rt; !is_body(body), "{body:?}");
         assert_eq!(rt;
             refused_record(rt.alloc(), Kind::Privmsg, b"bob", b"#a", body),
             fault,
@@ -239,17 +277,36 @@ fn a_line_has_at_most_510_bytes(rt: HostRuntime) {
     }
 }
 
+// `: PRIVMSG  :` has 12 bytes: 255 of a source, 200 of a target and 43 of a body make 510, and so do 1, 1 and 496.
+#[test]
+fn the_longest_messages_are_kept(rt: HostRuntime) -> Result<(), Fail> {
+    let (source, target) = (&SOURCES[..255], &TARGETS[..200]);
+    for message in [
+        privmsg(source, target, &LETTERS[..43]),
+        privmsg(b"b", b"a", &LETTERS[..496]),
+    ] {
+        let record = record_of(rt.alloc(), b"m1", 1000, message)?;
+        assert!(rt; is_message(message) && is_equal(record.message(), message));
+        assert!(rt; is_equal(record.try_clone()?.message(), message));
+    }
+    for message in [
+        privmsg(source, target, &LETTERS[..44]),
+        privmsg(b"b", b"a", &LETTERS[..497]),
+    ] {
+        assert!(rt; !is_message(message));
+    }
+    Ok(())
+}
+
 #[test]
 fn a_record_has_the_parts_that_it_was_made_of(rt: HostRuntime) -> Result<(), Fail> {
-    let record = message(
-        rt.alloc(),
-        b"M1",
-        1000,
-        Kind::Notice,
-        b"bob!b@h",
-        b"#A",
-        b"hi you",
-    )?;
+    let message = Message {
+        kind: Kind::Notice,
+        source: b"bob!b@h",
+        target: b"#A",
+        body: b"hi you",
+    };
+    let record = record_of(rt.alloc(), b"M1", 1000, message)?;
     for record in [&record, &record.try_clone()?] {
         let buffer = Buffer::new(rt.alloc(), b"demo", b"net", b"#A")?;
         assert!(rt; record.buffer().is_same(&buffer));
@@ -259,9 +316,8 @@ fn a_record_has_the_parts_that_it_was_made_of(rt: HostRuntime) -> Result<(), Fai
         assert_eq!(rt; record.source(), b"bob!b@h".as_slice());
         assert_eq!(rt; record.target(), b"#A".as_slice());
         assert_eq!(rt; record.body(), b"hi you".as_slice());
+        assert!(rt; is_equal(record.message(), message));
     }
-    assert!(rt; record.is_of(record.buffer(), &MsgId::new(rt.alloc(), b"M1")?));
-    assert!(rt; !record.is_of(record.buffer(), &MsgId::new(rt.alloc(), b"m1")?));
     Ok(())
 }
 
@@ -273,6 +329,24 @@ fn kinds_have_letters_and_words(rt: HostRuntime) {
     );
     assert_eq!(rt; Kind::Privmsg.word(), b"PRIVMSG".as_slice());
     assert_eq!(rt; Kind::Notice.word(), b"NOTICE".as_slice());
+}
+
+#[test]
+fn faults_are_told_in_words(rt: HostRuntime) -> Result<(), Fail> {
+    for (fault, words) in [
+        (ChangeFault::BadName, "not a name"),
+        (ChangeFault::BadTarget, "not a target"),
+        (ChangeFault::BadId, "not a message id"),
+        (ChangeFault::BadSource, "not a source"),
+        (ChangeFault::BadBody, "not a body"),
+        (ChangeFault::LineTooLong, "the line is too long"),
+        (ChangeFault::NoMemory, "no memory"),
+    ] {
+        let text = format!(in rt.alloc(); "{fault}")?;
+        assert_eq!(rt; text.as_str(), words);
+        assert_eq!(rt; fault.is_no_memory(), words == "no memory");
+    }
+    Ok(())
 }
 
 #[test]
@@ -288,45 +362,8 @@ fn ids_are_compared_byte_for_byte(rt: HostRuntime) -> Result<(), Fail> {
     Ok(())
 }
 
-// What one post of a message says.
-#[derive(Clone, Copy)]
-struct Row {
-    ms: u64,
-    kind: Kind,
-    source: &'static [u8],
-    target: &'static [u8],
-    body: &'static [u8],
-}
-
-impl Row {
-    fn new(
-        ms: u64,
-        kind: Kind,
-        source: &'static [u8],
-        target: &'static [u8],
-        body: &'static [u8],
-    ) -> Row {
-        Row {
-            ms,
-            kind,
-            source,
-            target,
-            body,
-        }
-    }
-
-    fn record(&self, alloc: Global, id: &[u8]) -> Result<Record, ChangeFault> {
-        message(
-            alloc,
-            id,
-            self.ms,
-            self.kind,
-            self.source,
-            self.target,
-            self.body,
-        )
-    }
-}
+// What one post of a message says, and when.
+type Row = (u64, Message<'static>);
 
 // Whether the one goes before the other, as records of these ids. None where they are of two messages.
 fn order_of(
@@ -336,9 +373,9 @@ fn order_of(
     other: &Row,
     other_id: &[u8],
 ) -> Result<Option<bool>, ChangeFault> {
-    let one = one.record(alloc, id)?;
-    let other = other.record(alloc, other_id)?;
-    if one.has_same_key(&other) {
+    let one = record_of(alloc, id, one.0, one.1)?;
+    let other = record_of(alloc, other_id, other.0, other.1)?;
+    if one.key().is_same(&other.key()) {
         Ok(Some(goes_before(&one, &other)))
     } else {
         Ok(None)
@@ -347,14 +384,20 @@ fn order_of(
 
 #[test]
 fn the_later_record_goes_before_then_the_smaller(rt: HostRuntime) -> Result<(), Fail> {
+    let notice = Message {
+        kind: Kind::Notice,
+        source: b"z",
+        target: b"#z",
+        body: b"z",
+    };
     let rows = [
-        Row::new(1001, Kind::Privmsg, b"z", b"#z", b"z"),
-        Row::new(1000, Kind::Notice, b"z", b"#z", b"z"),
-        Row::new(1000, Kind::Privmsg, b"al", b"#z", b"z"),
-        Row::new(1000, Kind::Privmsg, b"bob", b"#A", b"z"),
-        Row::new(1000, Kind::Privmsg, b"bob", b"#a", b""),
-        Row::new(1000, Kind::Privmsg, b"bob", b"#a", b"a"),
-        Row::new(1000, Kind::Privmsg, b"bob", b"#a", b"ab"),
+        (1001u64, privmsg(b"z", b"#z", b"z")),
+        (1000, notice),
+        (1000, privmsg(b"al", b"#z", b"z")),
+        (1000, privmsg(b"bob", b"#A", b"z")),
+        (1000, privmsg(b"bob", b"#a", b"")),
+        (1000, privmsg(b"bob", b"#a", b"a")),
+        (1000, privmsg(b"bob", b"#a", b"ab")),
     ];
     for (i, one) in rows.iter().enumerate() {
         for (j, other) in rows.iter().enumerate() {
@@ -372,46 +415,89 @@ fn the_later_record_goes_before_then_the_smaller(rt: HostRuntime) -> Result<(), 
     Ok(())
 }
 
-// Whether the change has a copy, of the buffer of `#b`.
-fn has_copy(alloc: Global, change: &Change) -> Result<bool, ChangeFault> {
-    let buffer = Buffer::new(alloc, b"demo", b"net", b"#b")?;
-    match change.try_clone() {
-        Ok(copy) => Ok(copy.buffer().is_same(&buffer) && change.buffer().is_same(&buffer)),
-        Err(_) => Ok(false),
-    }
-}
-
-fn posted(alloc: Global) -> Result<Change, ChangeFault> {
-    let buffer = Buffer::new(alloc, b"demo", b"net", b"#b")?;
+fn post(alloc: Global, target: &[u8]) -> Result<Change, ChangeFault> {
+    let buffer = Buffer::new(alloc, b"demo", b"net", target)?;
     let id = MsgId::new(alloc, b"m1")?;
     let at = Moment::from_ms(1000).ok_or(ChangeFault::NoMemory)?;
-    let record = Record::new(alloc, buffer, id, at, Kind::Privmsg, b"bob", b"#a", b"hi")?;
+    let message = privmsg(b"bob", b"#a", b"hi");
+    let record = Record::new(alloc, buffer, id, at, message)?;
     Ok(Change::Post(record))
 }
 
-fn redacted(alloc: Global, at: Option<Moment>) -> Result<Change, ChangeFault> {
+fn redaction(alloc: Global, id: &[u8], at: Option<Moment>) -> Result<Change, ChangeFault> {
     let buffer = Buffer::new(alloc, b"demo", b"net", b"#b")?;
-    let id = MsgId::new(alloc, b"m1")?;
+    let id = MsgId::new(alloc, id)?;
     Ok(Change::Redact { buffer, id, at })
 }
 
-fn marked(alloc: Global, at: Moment) -> Result<Change, ChangeFault> {
+fn marker(alloc: Global, at: Moment) -> Result<Change, ChangeFault> {
     let buffer = Buffer::new(alloc, b"demo", b"net", b"#b")?;
     Ok(Change::Mark { buffer, at })
 }
 
-fn floored(alloc: Global, at: Moment) -> Result<Change, ChangeFault> {
+fn floor(alloc: Global, at: Moment) -> Result<Change, ChangeFault> {
     let buffer = Buffer::new(alloc, b"demo", b"net", b"#b")?;
     Ok(Change::Floor { buffer, at })
 }
 
+// Whether the change has a copy with its key.
+fn has_copy(change: &Change) -> bool {
+    match change.try_clone() {
+        Ok(copy) => copy.key().is_same(&change.key()),
+        Err(_) => false,
+    }
+}
+
+fn is_made_or_no_memory(fault: Option<ChangeFault>) -> bool {
+    match fault {
+        None => true,
+        Some(fault) => fault.is_no_memory(),
+    }
+}
+
+// Each maker twice: where one request for memory is refused (`rt try --test --fail-alloc N`), the maker says so, and the
+// next call isn't touched by it. A clone takes no memory.
 #[test]
-fn changes_have_copies_and_a_buffer(rt: HostRuntime) -> Result<(), Fail> {
+fn makers_say_that_there_was_no_memory(rt: HostRuntime) {
+    for _ in 0..2 {
+        let buffer = Buffer::new(rt.alloc(), b"demo", b"net", b"#A");
+        assert!(rt; is_made_or_no_memory(buffer.err()));
+        let id = MsgId::new(rt.alloc(), b"m1");
+        assert!(rt; is_made_or_no_memory(id.err()));
+        match record_of(rt.alloc(), b"m1", 1000, privmsg(b"bob", b"#a", b"hi")) {
+            Ok(record) => assert!(rt; record.try_clone().is_ok()),
+            Err(fault) => assert!(rt; fault.is_no_memory()),
+        }
+    }
+}
+
+#[test]
+fn changes_have_copies(rt: HostRuntime) -> Result<(), Fail> {
     let at = Moment::from_ms(2000).ok_or("no moment")?;
-    assert!(rt; has_copy(rt.alloc(), &posted(rt.alloc())?)?);
-    assert!(rt; has_copy(rt.alloc(), &redacted(rt.alloc(), Some(at))?)?);
-    assert!(rt; has_copy(rt.alloc(), &redacted(rt.alloc(), None)?)?);
-    assert!(rt; has_copy(rt.alloc(), &marked(rt.alloc(), at)?)?);
-    assert!(rt; has_copy(rt.alloc(), &floored(rt.alloc(), at)?)?);
+    assert!(rt; has_copy(&post(rt.alloc(), b"#b")?));
+    assert!(rt; has_copy(&redaction(rt.alloc(), b"m1", Some(at))?));
+    assert!(rt; has_copy(&redaction(rt.alloc(), b"m1", None)?));
+    assert!(rt; has_copy(&marker(rt.alloc(), at)?));
+    assert!(rt; has_copy(&floor(rt.alloc(), at)?));
+    Ok(())
+}
+
+#[test]
+fn keys_tell_changes_apart(rt: HostRuntime) -> Result<(), Fail> {
+    let at = Moment::from_ms(2000).ok_or("no moment")?;
+    let post_in_b = post(rt.alloc(), b"#B")?;
+    let post_in_c = post(rt.alloc(), b"#c")?;
+    let redaction_in_b = redaction(rt.alloc(), b"m1", Some(at))?;
+    let other_redaction = redaction(rt.alloc(), b"M1", None)?;
+    let marker_in_b = marker(rt.alloc(), at)?;
+    let floor_in_b = floor(rt.alloc(), at)?;
+    let key = post_in_b.key();
+    assert_eq!(rt; key.buffer().target(), b"#b".as_slice());
+    assert!(rt; key.is_same(&redaction_in_b.key()));
+    assert!(rt; !key.is_same(&post_in_c.key()));
+    assert!(rt; !key.is_same(&other_redaction.key()));
+    assert!(rt; !key.is_same(&marker_in_b.key()));
+    assert!(rt; !marker_in_b.key().is_same(&floor_in_b.key()));
+    assert!(rt; !floor_in_b.key().is_same(&key));
     Ok(())
 }

@@ -1,9 +1,16 @@
-//! Tests of the words that changes are made of.
-ghost use Rattle.std.specs.Prelude.{◌≡◌, ◌≤◌, ◌&&◌, not, length, nat_lt, nat_le, IfOk};
+//! Tests of the texts that changes are made of. They take no memory.
+ghost use Rattle.std.specs.Prelude.{◌≡◌};
 ghost use Rattle.std.specs.List.{list_any, list_all};
 ghost use Rattle.chat_change.specs.Words as spec;
 
-use std::alloc::{AllocError, Global};
+/// The most bytes that the name of an account or of a network has.
+pub const NAME_LIMIT: usize = 32;
+
+/// The most bytes that a target has.
+pub const TARGET_LIMIT: usize = 200;
+
+/// The most bytes that a message id or a source has.
+pub const ID_LIMIT: usize = 255;
 
 fn has_length_to(most: usize, text: &[u8]) -> bool
     ensures { result ≡ spec.has_length_to most text.now }
@@ -77,56 +84,42 @@ fn has_name_bytes_only(text: &[u8]) -> bool
     text.iter().all(|byte| is_name_byte(*byte))
 }
 
-/// Whether the text is the name of an account or of a network.
+/// Whether the text is the name of an account or of a network: 1 to 32 bytes of `a-z`, `0-9`, `-` and `_`.
 pub fn is_name(text: &[u8]) -> bool
     ensures { result ≡ spec.is_name text.now }
 {
-    has_length_to(32, text) && has_name_bytes_only(text)
+    has_length_to(NAME_LIMIT, text) && has_name_bytes_only(text)
 }
 
-/// Whether the text is a target.
+/// Whether the text is a target, a channel or a nick: 1 to 200 bytes, none of NUL, CR, LF, space and comma, no `:` in
+/// front, and not `*` (RFC 1459 and RFC 2812, section 2.3).
 pub fn is_target(text: &[u8]) -> bool
     ensures { result ≡ spec.is_target text.now }
 {
-    has_length_to(200, text) && !has_target_end(text) && !begins_with_colon(text) && !is_star(text)
+    has_length_to(TARGET_LIMIT, text)
+        && !has_target_end(text)
+        && !begins_with_colon(text)
+        && !is_star(text)
 }
 
-/// Whether the text is a message id, or a source.
+/// Whether the text is a message id (IRCv3 message-ids): 1 to 255 bytes, none of NUL, CR, LF and space, and no `:` in
+/// front (RFC 1459 and RFC 2812, section 2.3).
 pub fn is_id(text: &[u8]) -> bool
     ensures { result ≡ spec.is_id text.now }
 {
-    has_length_to(255, text) && !has_word_end(text) && !begins_with_colon(text)
+    has_length_to(ID_LIMIT, text) && !has_word_end(text) && !begins_with_colon(text)
 }
 
-/// Whether the text is a body.
+/// Whether the text is a source, who sent a message: the rule of a message id.
+pub fn is_source(text: &[u8]) -> bool
+    ensures { result ≡ spec.is_source text.now }
+{
+    is_id(text)
+}
+
+/// Whether the text is a body, what a message says: no NUL, CR or LF. It may be empty.
 pub fn is_body(text: &[u8]) -> bool
     ensures { result ≡ spec.is_body text.now }
 {
     !has_line_end(text)
-}
-
-fn fold_byte(byte: u8) -> u8
-    ensures { result ≡ spec.fold_byte byte }
-{
-    if b'A' <= byte && byte <= b'Z' {
-        byte + 32
-    } else {
-        byte
-    }
-}
-
-/// The text with its letters in lower case.
-pub fn folded(alloc: Global, text: &[u8]) -> Result<Vec<u8>, AllocError>
-    ensures { IfOk result (λ folded. folded.items ≡ spec.folded text.now) }
-{
-    text.iter().map(|byte| fold_byte(*byte)).collect(alloc)
-}
-
-/// A copy of the text.
-pub fn copied(alloc: Global, text: &[u8]) -> Result<Vec<u8>, AllocError>
-    ensures { IfOk result (λ copy. copy.items ≡ text.now) }
-{
-    let mut copy = Vec::new(alloc);
-    copy.extend_from_slice(text)?;
-    Ok(copy)
 }

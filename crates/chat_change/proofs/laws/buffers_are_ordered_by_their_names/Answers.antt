@@ -1,6 +1,5 @@
 use Rattle.chat_change.specs.Order.{buffer_cmp}
-use Rattle.chat_change.proofs.OrderLaws.{buffer_total, buffer_exact}
-use Rattle.chat_change.proofs.NameLaws.{buffer_cmp-names, equal_is_one}
+use Rattle.chat_change.proofs.OrderLemmas.{buffer_total, buffer_exact, buffer_cmp-names, equal_is_one}
 use Rattle.chat_change.proofs.laws.buffers_are_ordered_by_their_names.Goals as goal
 
 pub returns : goal.returns

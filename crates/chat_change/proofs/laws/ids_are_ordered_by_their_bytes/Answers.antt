@@ -1,6 +1,5 @@
 use Rattle.chat_change.specs.Order.{text_cmp}
-use Rattle.chat_change.proofs.OrderLaws.{text_total, text_exact}
-use Rattle.chat_change.proofs.NameLaws.{equal_is_one}
+use Rattle.chat_change.proofs.OrderLemmas.{text_total, text_exact, equal_is_one}
 use Rattle.chat_change.proofs.laws.ids_are_ordered_by_their_bytes.Goals as goal
 
 pub returns : goal.returns

@@ -1,4 +1,4 @@
-use Rattle.chat_change.proofs.FaultLaws.{bad_target-told, bad_source-told, bad_body-told, line_too_long-told}
+use Rattle.chat_change.proofs.FaultsLemmas.{bad_target-told, bad_source-told, bad_body-told, line_too_long-told}
 use Rattle.chat_change.proofs.laws.maker_of_records_tells_the_first_fault.Goals as goal
 
 pub returns : goal.returns

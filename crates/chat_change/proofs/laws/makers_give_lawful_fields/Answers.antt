@@ -1,4 +1,4 @@
-use Rattle.chat_change.proofs.MakingLaws.{buffer_fault-lawful, lawful_buffer, id_fault-lawful, record_fault-lawful}
+use Rattle.chat_change.proofs.FaultsLemmas.{buffer_fault-lawful, lawful_buffer, id_fault-lawful, record_fault-lawful}
 use Rattle.chat_change.proofs.laws.makers_give_lawful_fields.Goals as goal
 
 pub returns : goal.returns

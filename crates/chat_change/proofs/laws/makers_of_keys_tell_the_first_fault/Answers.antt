@@ -1,4 +1,4 @@
-use Rattle.chat_change.proofs.FaultLaws.{bad_name-told, bad_buffer_target-told, bad_id-told}
+use Rattle.chat_change.proofs.FaultsLemmas.{bad_name-told, bad_buffer_target-told, bad_id-told}
 use Rattle.chat_change.proofs.laws.makers_of_keys_tell_the_first_fault.Goals as goal
 
 pub returns : goal.returns

@@ -1,0 +1,41 @@
+-- The order of keys is total, and only equal keys tie; what bears a key.
+use Rattle.std.proofs.Common.{◌≡◌, Bool, true, false, refl, sym, ap, subst}
+use Rattle.std.specs.Prelude.{IsTrue, ◌↔◌}
+use Rattle.std.proofs.lemmas.Bool.{false≢true}
+use Rattle.std.specs.Ordering.{is_eq}
+use Rattle.std.specs.Cmp.{IsTotalOrder, Equal-is}
+use Rattle.std.proofs.lemmas.Cmp.{on_total, tied_itself}
+use Rattle.std.proofs.lemmas.Map.Lookups.{CmpEqualImpliesEq}
+use Rattle.chat_change.proofs.OrderLemmas.{on_exact, texts_total, texts_exact, buffer_apart}
+use Rattle.chat_change.specs.Key.{Key, FloorOf, MarkerOf, MessageOf, key_texts, key_cmp, same_key}
+
+keys_apart : (k l : Key) → key_texts k ≡ key_texts l → k ≡ l
+keys_apart (FloorOf a) (FloorOf b) e = ap FloorOf (buffer_apart a b (cc e) (cc e) (cc e))
+keys_apart (FloorOf a) (MarkerOf b) e = cc e
+keys_apart (FloorOf a) (MessageOf b m) e = cc e
+keys_apart (MarkerOf a) (FloorOf b) e = cc e
+keys_apart (MarkerOf a) (MarkerOf b) e = ap MarkerOf (buffer_apart a b (cc e) (cc e) (cc e))
+keys_apart (MarkerOf a) (MessageOf b m) e = cc e
+keys_apart (MessageOf a m) (FloorOf b) e = cc e
+keys_apart (MessageOf a m) (MarkerOf b) e = cc e
+keys_apart (MessageOf a m) (MessageOf b n) e =
+    let p = buffer_apart a b (cc e) (cc e) (cc e) in
+    let q : m ≡ n = cc e in
+    λ i. MessageOf (p i) (q i)
+
+pub key_total : IsTotalOrder key_cmp
+key_total = on_total key_texts texts_total
+
+pub key_exact : CmpEqualImpliesEq key_cmp
+key_exact = on_exact key_texts keys_apart texts_exact
+
+pub same_key_itself : (k : Key) → same_key k k ≡ true
+same_key_itself k = ap is_eq (tied_itself key_total k)
+
+pub same_key_is : (k l : Key) → same_key k l ≡ true → k ≡ l
+same_key_is k l e = key_exact k l ((Equal-is (key_cmp k l)).0 e)
+
+pub same_key_from : (b : Bool) (k l : Key) → (IsTrue b ↔ (k ≡ l)) → b ≡ same_key k l
+same_key_from true k l h = sym (subst (λ x. same_key k x ≡ true) (h.0 refl) (same_key_itself k))
+same_key_from false k l h =
+    elim (same_key k l) as (λ t. same_key k l ≡ t → false ≡ t) [ true ↦ λ e. absurd (false≢true (h.1 (same_key_is k l e))) | false ↦ λ _. refl ] refl

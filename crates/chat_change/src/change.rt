@@ -1,0 +1,76 @@
+//! Changes: what a node learns, and what nodes tell one another.
+ghost use Rattle.std.specs.Prelude.{◌≡◌, IfOk};
+
+use crate::buffer::Buffer;
+use crate::key::Key;
+use crate::msg_id::MsgId;
+use crate::record::Record;
+use irc_time::Moment;
+use std::alloc::AllocError;
+
+/// One thing that a node learns, and that nodes tell one another. A chat history is a set of these.
+#[derive(Drop)]
+pub enum Change {
+    /// A message was posted.
+    Post(Record),
+    /// The message of that id was redacted, for good (IRCv3 draft/message-redaction). Where it stood is told by a moment,
+    /// if that is known.
+    Redact {
+        buffer: Buffer,
+        id: MsgId,
+        at: Option<Moment>,
+    },
+    /// The account has read the buffer up to that moment (IRCv3 draft/read-marker).
+    Mark {
+        buffer: Buffer,
+        at: Moment,
+    },
+    /// What is older than that moment is kept in the buffer no longer.
+    Floor {
+        buffer: Buffer,
+        at: Moment,
+    },
+}
+
+impl Change {
+    ghost use Rattle.chat_change.specs.Key.{key_of, value_of};
+
+    /// What the change speaks of.
+    pub fn key(&self) -> Key<'_>
+        ensures { value_of result ≡ key_of self.now }
+    {
+        match self {
+            Change::Post(record) => record.key(),
+            Change::Redact { buffer, id, .. } => Key::Message(buffer, id),
+            Change::Mark { buffer, .. } => Key::Marker(buffer),
+            Change::Floor { buffer, .. } => Key::Floor(buffer),
+        }
+    }
+
+    /// An equal change, of the same kind, which shares its memory. It takes none, and fails only where a part of the
+    /// change has 2^63 - 1 owners.
+    pub fn try_clone(&self) -> Result<Change, AllocError>
+        ensures { IfOk result (λ copy. copy ≡ self.now) }
+    {
+        match self {
+            Change::Post(record) => Ok(Change::Post(record.try_clone()?)),
+            Change::Redact { buffer, id, at } => {
+                let buffer = buffer.try_clone()?;
+                let id = id.try_clone()?;
+                Ok(Change::Redact {
+                    buffer,
+                    id,
+                    at: *at,
+                })
+            }
+            Change::Mark { buffer, at } => Ok(Change::Mark {
+                buffer: buffer.try_clone()?,
+                at: *at,
+            }),
+            Change::Floor { buffer, at } => Ok(Change::Floor {
+                buffer: buffer.try_clone()?,
+                at: *at,
+            }),
+        }
+    }
+}

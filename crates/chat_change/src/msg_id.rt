@@ -1,0 +1,131 @@
+//! Message ids (IRCv3 message-ids).
+ghost use Rattle.std.specs.Prelude.{◌≡◌, ◌↔◌, IsTrue, true, ℕ, List, IfOk, IfErr, None};
+ghost use Rattle.std.specs.Arc.{arc_slice_items};
+ghost use Rattle.chat_change.specs.Words as spec;
+ghost use Rattle.chat_change.specs.Faults.{id_fault, fault_or_no_memory};
+ghost use Rattle.chat_change.specs.Order.{text_cmp};
+
+use crate::faults::ChangeFault;
+use crate::words::is_id;
+use std::alloc::{AllocError, Global};
+use std::cmp::Ordering;
+use std::marker::Model;
+use std::sync::ArcSlice;
+
+/// The id of a message (IRCv3 message-ids), compared byte for byte. Contracts see it as the list of its bytes.
+#[derive(Drop)]
+pub struct MsgId {
+    // shared with every clone
+    bytes: ArcSlice<u8>,
+}
+
+impl Model for MsgId {
+    ghost Value = { List ℕ };
+
+    ghost view = { λ m. arc_slice_items m.bytes };
+
+    ghost invariant = { λ m. spec.is_id (arc_slice_items m.bytes) ≡ true };
+}
+
+impl MsgId {
+    /// The id of these bytes, which are kept as they are.
+    ///
+    /// Refused with [`ChangeFault::BadId`] unless it has 1 to 255 bytes, none of NUL, CR, LF and space, and doesn't begin
+    /// with `:`, so that it can be a middle parameter (RFC 1459 and RFC 2812, section 2.3), as in `REDACT` (IRCv3
+    /// draft/message-redaction).
+    pub fn new(alloc: Global, text: &[u8]) -> Result<MsgId, ChangeFault>
+        ensures made { IfOk result (λ id. id ≡ text.now) }
+        ensures lawful { IfOk result (λ _. id_fault text.now ≡ None) }
+        ensures refused { IfErr result (λ fault. fault ≡ fault_or_no_memory (id_fault text.now)) }
+    {
+        if !is_id(text) {
+            return Err(ChangeFault::BadId);
+        }
+        match ArcSlice::from_slice(alloc, text) {
+            Ok(bytes) => Ok(MsgId { bytes }),
+            Err(_) => Err(ChangeFault::NoMemory),
+        }
+    }
+
+    /// The bytes of the id.
+    pub fn as_bytes(&self) -> &[u8]
+        ensures value { result.now ≡ self.now }
+        ensures lawful { spec.is_id result.now ≡ true }
+    {
+        self.bytes.as_slice()
+    }
+
+    /// An equal id, which shares its memory. It takes none, and fails only where the id has 2^63 - 1 owners.
+    pub fn try_clone(&self) -> Result<MsgId, AllocError>
+        ensures { IfOk result (λ copy. copy ≡ self.now) }
+    {
+        let bytes = self.bytes.clone()?;
+        Ok(MsgId { bytes })
+    }
+
+    /// Whether both are one id.
+    pub fn is_same(&self, other: &MsgId) -> bool
+        ensures { IsTrue result ↔ (self.now ≡ other.now) }
+    {
+        self.as_bytes() == other.as_bytes()
+    }
+
+    // How two ids compare, byte by byte.
+    fn order(&self, other: &MsgId) -> Ordering
+        ensures { result ≡ text_cmp self.now other.now }
+    {
+        self.as_bytes().cmp(other.as_bytes())
+    }
+}
+
+impl PartialEq for MsgId {
+    ghost use Rattle.std.proofs.Common.{rules};
+    ghost use Rattle.std.specs.Cmp.Rules.{comparing};
+    ghost use Rattle.std.specs.Ordering.{eq_by_cmp};
+
+    ghost eq = { eq_by_cmp text_cmp };
+
+    ghost laws = { Prim.search (comparing, rules) };
+
+    fn eq(&self, other: &MsgId) -> bool {
+        self.order(other).is_eq()
+    }
+}
+
+impl Eq for MsgId {
+    ghost use Rattle.std.proofs.Common.{rules};
+    ghost use Rattle.std.specs.Cmp.Rules.{comparing};
+
+    ghost laws = { Prim.search (comparing, rules) };
+}
+
+impl PartialOrd for MsgId {
+    ghost use Rattle.std.proofs.Common.{rules};
+    ghost use Rattle.std.specs.Cmp.Rules.{comparing};
+    ghost use Rattle.std.specs.Ordering.{as_partial_cmp};
+
+    ghost partial_cmp = { as_partial_cmp text_cmp };
+
+    ghost laws = { Prim.search (comparing, rules) };
+
+    fn partial_cmp(&self, other: &MsgId) -> Option<Ordering> {
+        Some(self.cmp(other))
+    }
+}
+
+impl Ord for MsgId {
+    ghost use Rattle.std.proofs.Common.{rules};
+    ghost use Rattle.std.specs.Cmp.Rules.{comparing};
+
+    ghost cmp = { text_cmp };
+
+    ghost total = { Prim.search (comparing, rules) };
+
+    ghost matches_partial_cmp = { Prim.search (comparing, rules) };
+
+    ghost matches_eq = { Prim.search (comparing, rules) };
+
+    fn cmp(&self, other: &MsgId) -> Ordering {
+        self.order(other)
+    }
+}

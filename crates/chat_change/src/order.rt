@@ -1,0 +1,49 @@
+//! The order between records of one message: which of several is kept.
+ghost use Rattle.std.specs.Prelude.{◌≡◌, ◌↔◌, IsTrue};
+ghost use Rattle.std.specs.declared.cmp.Ordering.TheVariants.{Less};
+ghost use Rattle.chat_change.specs.Message.{value_of};
+ghost use Rattle.chat_change.specs.Order.{message_cmp, latest_first, record_cmp, GoesBefore};
+
+use crate::message::Message;
+use crate::record::Record;
+use std::cmp::Ordering;
+
+/// Whether the first of two records of one message is kept over the second.
+///
+/// The later one is, and at equal moments the one whose (kind letter, source, target, body) is smaller, compared in this
+/// order by bytes, so that a notice goes before a private message. Of two different records exactly one goes before the
+/// other ([`crate::laws::records_of_a_message_are_ordered`]).
+pub fn goes_before(one: &Record, other: &Record) -> bool
+    requires same_buffer { one.now.buffer ≡ other.now.buffer }
+    requires same_id { one.now.id ≡ other.now.id }
+    ensures order { IsTrue result ↔ (record_cmp one.now other.now ≡ Less) }
+    ensures kept { IsTrue result ↔ GoesBefore one.now other.now }
+{
+    record_order(one, other).is_lt()
+}
+
+// How two records of one message compare: by moment, then by texts.
+fn record_order(one: &Record, other: &Record) -> Ordering
+    requires same_buffer { one.now.buffer ≡ other.now.buffer }
+    requires same_id { one.now.id ≡ other.now.id }
+    ensures { result ≡ record_cmp one.now other.now }
+{
+    moment_order(one, other).then(message_order(one.message(), other.message()))
+}
+
+// The later record goes first.
+fn moment_order(one: &Record, other: &Record) -> Ordering
+    ensures { result ≡ latest_first one.now other.now }
+{
+    other.at().ms().cmp(&one.at().ms())
+}
+
+// The message with the smaller texts goes first.
+fn message_order(one: Message<'_>, other: Message<'_>) -> Ordering
+    ensures { result ≡ message_cmp (value_of one.entry) (value_of other.entry) }
+{
+    let body = one.body.cmp(other.body);
+    let target = one.target.cmp(other.target).then(body);
+    let source = one.source.cmp(other.source).then(target);
+    one.kind.letter().cmp(&other.kind.letter()).then(source)
+}
