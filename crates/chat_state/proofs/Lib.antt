@@ -1,27 +1,29 @@
-pub mod ChoiceLaws
-pub mod KeyLaws
-pub mod PieceLaws
-pub mod NormLaws
-pub mod SetLaws
-pub mod AbsorbLaws
-pub mod DistinctLaws
-pub mod PieceVec
-pub mod TakeLaws
-pub mod TakenLaws
-pub mod MergeLaws
-pub mod StoredLaws
-pub mod StepLaws
-pub mod SameLaws
-pub mod NumberLaws
-pub mod HeldLaws
-pub mod MemberLaws
-pub mod EntryLaws
-pub mod StandingLaws
-pub mod VisibleLaws
-pub mod ReadingLaws
-pub mod ScanLaws
-pub mod SortedLaws
-pub mod CursorLaws
-pub mod LookupLaws
-pub mod WalkLaws
-pub mod LatestLaws
+mod ChoiceLemmas
+mod PieceLemmas
+mod NormLemmas
+mod SetLemmas
+mod StepLemmas
+mod AbsorbLemmas
+mod SameLemmas
+mod NumberLemmas
+mod HeldLemmas
+mod StoreLemmas
+mod DistinctLemmas
+mod VectorLemmas
+mod VectorStoreLemmas
+mod TakeLemmas
+mod MergeLemmas
+mod NewerLemmas
+mod MemberLemmas
+mod EntryLemmas
+mod StandingLemmas
+mod VisibleLemmas
+mod NormReadLemmas
+mod NearestLemmas
+mod SortedLemmas
+mod CursorLemmas
+mod LookupLemmas
+mod BuffersLemmas
+mod LatestLemmas
+mod StoredLemmas
+pub mod CallerLemmas

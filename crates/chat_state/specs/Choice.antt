@@ -1,7 +1,7 @@
 -- The first of a list by an order, whatever order the list is in.
-use Rattle.std.specs.Prelude.{ℕ, Bool, Option, Some, None, List, [], ◌∷◌, if◌then◌else◌}
+use Rattle.std.specs.Prelude.{ℕ, ◌≡◌, ◌⊎◌, Bool, false, Option, Some, None, List, [], ◌∷◌, if◌then◌else◌}
 use Rattle.std.specs.declared.cmp.Ordering.{Ordering}
-use Rattle.std.specs.Ordering.{ord_min, nat_cmp, flip_args}
+use Rattle.std.specs.Ordering.{ord_min, nat_cmp, flip_args, is_gt}
 
 module _ {A : Type 0} (R : A → A → Ordering) where
   -- the earlier of two, where there may be none
@@ -27,3 +27,13 @@ later = earlier (flip_args nat_cmp)
 abbrev pub keep : {A : Type 0} → (A → Bool) → Option A → Option A
 keep p None = None
 keep p (Some x) = if p x then Some x else None
+
+-- a value is an element of a list, by recursion on the list
+abbrev pub Among : {A : Type 0} → A → List A → Type 0
+Among x [] = ⊥
+Among x (y ∷ ys) = (y ≡ x) ⊎ Among x ys
+
+-- of a list the value is a member that no member goes before, or none where there are no members
+abbrev pub IsFirst : {A : Type 0} → (A → A → Ordering) → List A → Option A → Type 0
+IsFirst R xs None = xs ≡ []
+IsFirst {A} R xs (Some x) = Among x xs × ((y : A) → Among y xs → is_gt (R x y) ≡ false)

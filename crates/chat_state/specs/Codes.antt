@@ -2,10 +2,10 @@
 use Rattle.std.specs.Prelude.{ℕ, zero, suc, ◌≡◌, List, [], refl}
 use Rattle.std.specs.Coded.{Coded, code_by, coded×, coded_ℕ, coded_list}
 use Rattle.std.specs.FinMap as finite
-use Rattle.chat_change.specs.declared.changes.Change.{Change}
-use Rattle.chat_change.specs.contracts.changes.Change as change
+use Rattle.chat_change.specs.declared.change.Change.{Change}
+use Rattle.chat_change.specs.contracts.change.Change as change
 use Rattle.chat_change.specs.Buffer.{Buffer}
-use Rattle.chat_state.specs.Key.{Key, FloorOf, MarkerOf, MessageOf, key_cmp}
+use Rattle.chat_change.specs.Key.{Key, FloorOf, MarkerOf, MessageOf, key_cmp}
 use Rattle.chat_state.specs.History.{History}
 use Rattle.chat_state.specs.Held.{Held}
 

@@ -7,9 +7,9 @@ use Rattle.std.specs.Cmp.{IsTotalOrder, then_total, on_total, nat_cmp_total}
 use Rattle.std.specs.Cmp.Lexicographic.{lists_total, options_total}
 use Rattle.chat_change.specs.Record.{Record}
 use Rattle.chat_change.specs.Order.{text_cmp}
-use Rattle.chat_state.specs.declared.spot.Spot.{Spot}
-use Rattle.chat_state.specs.declared.spot.Cut.{Cut}
-use Rattle.chat_state.specs.declared.spot.Cut.TheVariants.{Bottom, UnderTime, OverTime, UnderMsg, OverMsg, Top}
+use Rattle.chat_state.specs.declared.cut.Spot.{Spot}
+use Rattle.chat_state.specs.declared.cut.Cut.{Cut}
+use Rattle.chat_state.specs.declared.cut.Cut.TheVariants.{Bottom, UnderTime, OverTime, UnderMsg, OverMsg, Top}
 
 -- by moment, and at equal moments by id. No id stands before all ids
 abbrev pub cut_cmp : Spot → Spot → Ordering
@@ -22,19 +22,19 @@ cut_total = then_total (on_total (λ (s : Spot). s.at) nat_cmp_total) (on_total 
 abbrev pub of_record : Record → Spot
 of_record r = record { at = r.at; id = Some r.id }
 
--- whether a record stands above a cut
-abbrev pub is_above : Cut → Record → Bool
-is_above Bottom r = true
-is_above (UnderTime t) r = nat_le t r.at
-is_above (OverTime t) r = nat_lt t r.at
-is_above (UnderMsg s) r = is_le (cut_cmp s.now (of_record r))
-is_above (OverMsg s) r = is_lt (cut_cmp s.now (of_record r))
-is_above Top r = false
+-- whether a record stands after a cut
+abbrev pub is_after : Cut → Record → Bool
+is_after Bottom r = true
+is_after (UnderTime t) r = nat_le t r.at
+is_after (OverTime t) r = nat_lt t r.at
+is_after (UnderMsg s) r = is_le (cut_cmp s.now (of_record r))
+is_after (OverMsg s) r = is_lt (cut_cmp s.now (of_record r))
+is_after Top r = false
 
--- the records above a cut, in their order
-abbrev pub above : Cut → List Record → List Record
-above cut records = filter (is_above cut) records
+-- the records after a cut, in their order
+abbrev pub after : Cut → List Record → List Record
+after cut records = filter (is_after cut) records
 
--- the records below a cut, in their order
-abbrev pub below : Cut → List Record → List Record
-below cut records = filter (λ r. not (is_above cut r)) records
+-- the records before a cut, in their order
+abbrev pub before : Cut → List Record → List Record
+before cut records = filter (λ r. not (is_after cut r)) records

@@ -1,10 +1,10 @@
 -- What a state holds.
-use Rattle.std.specs.Prelude.{ℕ, ◌≡◌, ◌≢◌, ◌<◌, ◌↔◌, List, [], ◌∷◌, ◌++◌, length, slice_get, Some}
+use Rattle.std.specs.Prelude.{ℕ, ◌+◌, ◌≡◌, ◌≢◌, ◌<◌, ◌↔◌, Bool, List, [], ◌∷◌, ◌++◌, length, slice_get, Some, if◌then◌else◌}
 use Rattle.std.specs.FinMap.{FinMap}
-use Rattle.chat_change.specs.declared.changes.Change.{Change}
-use Rattle.chat_state.specs.Key.{key_cmp}
+use Rattle.chat_change.specs.declared.change.Change.{Change}
+use Rattle.chat_change.specs.Key.{key_cmp, key_of}
 use Rattle.chat_state.specs.History.{History, norm, changes_of}
-use Rattle.chat_state.specs.Numbering.{front, numbers}
+use Rattle.chat_state.specs.Numbering.{front, numbers, numbers_after}
 
 pub record Held : Type 0 where
   pub history : History
@@ -15,9 +15,22 @@ pub record Held : Type 0 where
 abbrev pub held : ℕ → List Change → Held
 held start changes = record { history = norm changes; numbers = numbers start changes; front = front start changes }
 
+-- the history that a state has which takes more
+abbrev pub history_with : Held → List Change → History
+history_with h more = norm (changes_of h.history ++ more)
+
+-- the numbers are those of a state that took a change, which counted or didn't
+abbrev pub AreNumbersWith : Bool → Held → Change → Held → Type 0
+AreNumbersWith counted old c new =
+    new.numbers ≡ (if counted then numbers_after old.numbers new.history (key_of c) (old.front + 1) else old.numbers)
+
+-- the greatest number that a piece can have
+abbrev pub greatest_number : ℕ
+greatest_number = 18446744073709551615
+
 -- the front is at its last value, and the change would still change the history
 abbrev pub IsPastTheLast : Held → Change → Type 0
-IsPastTheLast h c = (h.front ≡ 18446744073709551615) × (norm (changes_of h.history ++ c ∷ []) ≢ h.history)
+IsPastTheLast h c = (h.front ≡ greatest_number) × (history_with h (c ∷ []) ≢ h.history)
 
 -- what a state holds, whatever it had taken before, after it took more
 abbrev pub HasTaken : Held → List Change → Held → Type 0

@@ -1,20 +1,15 @@
 -- The buffers of an account on a network, each with its latest moment.
 use Rattle.std.specs.Prelude.{ℕ, not, Option, Some, None, List, [], filter, map}
 use Rattle.std.specs.Ordering.{is_lt}
-use Rattle.std.specs.List.{IsDistinct}
 use Rattle.std.specs.Option.{IfSome, unwrap_or}
 use Rattle.std.specs.Borrow.{Bor}
 use Rattle.chat_change.specs.Buffer.{Buffer}
 use Rattle.chat_change.specs.Record.{Record}
 use Rattle.chat_change.specs.Order.{buffer_cmp}
-use Rattle.chat_state.specs.declared.state.Piece.{Piece}
-use Rattle.chat_state.specs.Choice.{greatest}
-use Rattle.chat_state.specs.Key.{same_key}
-use Rattle.chat_state.specs.History.{History}
-use Rattle.chat_state.specs.Pieces.{history_of, piece_keys}
-use Rattle.chat_state.specs.Scan.{Among}
+use Rattle.chat_state.specs.Choice.{greatest, Among}
+use Rattle.chat_state.specs.History.{History, IsKeyed}
 use Rattle.chat_state.specs.Visible.{records_in}
-use Rattle.chat_state.specs.Walk.{buffers_with, is_of_network}
+use Rattle.chat_state.specs.Buffers.{buffers_with, is_of_network}
 
 -- the moment of the latest record of a buffer
 abbrev pub latest_moment : History → Buffer → ℕ
@@ -32,12 +27,12 @@ abbrev pub latest_in : History → List ℕ → List ℕ → List (Buffer × ℕ
 latest_in history account network = map (with_moment history) (network_buffers history account network)
 
 -- what a cursor over them has left: from the next buffer on
-abbrev pub latest_from : List Piece → Option (Bor Buffer) → List (Buffer × ℕ)
-latest_from pieces None = []
-latest_from pieces (Some b) =
-    map (with_moment (history_of pieces)) (filter (λ d. not (is_lt (buffer_cmp d b.now))) (network_buffers (history_of pieces) b.now.account b.now.network))
+abbrev pub latest_from : History → Option (Bor Buffer) → List (Buffer × ℕ)
+latest_from history None = []
+latest_from history (Some b) =
+    map (with_moment history) (filter (λ d. not (is_lt (buffer_cmp d b.now))) (network_buffers history b.now.account b.now.network))
 
--- the next buffer has a record, and no two pieces bear one key
-pub record IsAtBuffer (pieces : List Piece) (next : Option (Bor Buffer)) : Type 0 where
-  pub distinct : IsDistinct same_key (piece_keys pieces)
-  pub held : IfSome next (λ b. Among b.now (network_buffers (history_of pieces) b.now.account b.now.network))
+-- the next buffer has a record
+pub record IsAtBuffer (history : History) (next : Option (Bor Buffer)) : Type 0 where
+  pub keyed : IsKeyed history
+  pub held : IfSome next (λ b. Among b.now (network_buffers history b.now.account b.now.network))

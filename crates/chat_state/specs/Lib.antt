@@ -1,22 +1,28 @@
+-- ---- what a reader has to believe
+
+-- the history that a set of changes makes
 pub mod Choice
-pub mod Key
 pub mod History
+pub mod Members
 pub mod Visible
+pub mod Lookups
 pub mod Cut
-pub mod Same
+pub mod Latest
+pub mod Retention
+-- what a state holds of it, and under which numbers
 pub mod Numbering
 pub mod Held
-pub mod Codes
-pub mod Pieces
-pub mod Step
-pub mod Taken
-pub mod Joined
+pub mod Deltas
 pub mod Merging
-pub mod Scan
+pub mod Newer
+-- ---- what only the proofs use of the code
+
+pub mod Same
+pub mod Codes
+pub mod Buffers
+pub mod Store
+pub mod Fate
+pub mod Form
+pub mod Pieces
+pub mod Nearest
 pub mod Cursor
-pub mod Members
-pub mod Reading
-pub mod Subject
-pub mod Walk
-pub mod Due
-pub mod Latest

@@ -3,9 +3,9 @@ use Rattle.std.specs.Prelude.{ℕ, ◌≡◌, ◌++◌, List, map, take, unwrap_
 use Rattle.std.specs.List.{IsDistinct}
 use Rattle.std.specs.List.Sorted.{IsNonDecreasingBy}
 use Rattle.std.specs.FinMap.{get}
-use Rattle.chat_change.specs.declared.changes.Change.{Change}
-use Rattle.chat_state.specs.Key.{key_of, same_key}
-use Rattle.chat_state.specs.History.{norm, changes_of, SameSet}
+use Rattle.chat_change.specs.declared.change.Change.{Change}
+use Rattle.chat_change.specs.Key.{key_of, same_key}
+use Rattle.chat_state.specs.History.{History, norm, changes_of, join, SameSet}
 use Rattle.chat_state.specs.Held.{Held, HasTaken, StoppedAt}
 
 -- the number of the piece that bears the key of a change, or 0
@@ -32,3 +32,7 @@ pub record TakesAll (old other new : Held) : Type 0 where
   pub by_number : IsByNumber other turn
   pub history : new.history ≡ norm (changes_of old.history ++ turn)
   pub held : HasTaken old turn new
+
+-- the history of two states together
+abbrev pub history_of_both : Held → Held → History
+history_of_both one other = join (changes_of one.history) (changes_of other.history)

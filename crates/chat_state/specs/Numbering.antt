@@ -4,9 +4,9 @@ use Rattle.std.specs.Ordering.{nat_cmp}
 use Rattle.std.specs.List.{list_any, filter_map}
 use Rattle.std.specs.Option.{option_map, unwrap_or, is_some}
 use Rattle.std.specs.FinMap.{FinMap, from_entries, entries, get, keys, insert, retain_keys}
-use Rattle.chat_change.specs.declared.changes.Change.{Change}
+use Rattle.chat_change.specs.declared.change.Change.{Change}
 use Rattle.chat_state.specs.Choice.{greatest}
-use Rattle.chat_state.specs.Key.{Key, key_cmp, same_key, key_of}
+use Rattle.chat_change.specs.Key.{Key, key_cmp, same_key, key_of}
 use Rattle.chat_state.specs.History.{History, norm}
 use Rattle.chat_state.specs.Same.{same_history}
 
@@ -43,8 +43,8 @@ abbrev pub has_piece : History → Key → Bool
 has_piece history k = is_some (get history k)
 
 -- the numbers after a change that counts: its key gets the next one, and whatever else is still there keeps its own
-abbrev pub renumbered : FinMap key_cmp ℕ → History → Key → ℕ → FinMap key_cmp ℕ
-renumbered numbers history k next = insert (retain_keys numbers (has_piece history)) k next
+abbrev pub numbers_after : FinMap key_cmp ℕ → History → Key → ℕ → FinMap key_cmp ℕ
+numbers_after numbers history k next = insert (retain_keys numbers (has_piece history)) k next
 
 -- ---- what is newer than a number
 
@@ -66,16 +66,18 @@ abbrev pub newer : History → FinMap key_cmp ℕ → ℕ → List (ℕ × Chang
 newer history numbers from =
     filter (λ e. nat_lt from e.0) (entries (from_entries {R = nat_cmp} (filter_map (numbered_entry numbers) (entries history))))
 
--- the delta since `from`: the first pieces that are newer, and how far whoever takes them has come
-abbrev pub delta_of : History → FinMap key_cmp ℕ → ℕ → ℕ → Delta
-delta_of history numbers front from =
-    let all = newer history numbers from in
+-- the delta since `from`, of the pieces that are newer: the first of them, and how far whoever takes them has come
+abbrev pub delta_from : ℕ → ℕ → List (ℕ × Change) → Delta
+delta_from from front all =
     let sent = take delta_limit all in
     record {
       from = from;
       to = if nat_lt delta_limit (length all) then unwrap_or (greatest (map (λ (e : ℕ × Change). e.0) sent)) from else max from front;
       changes = map (λ (e : ℕ × Change). e.1) sent;
     }
+
+abbrev pub delta_of : History → FinMap key_cmp ℕ → ℕ → ℕ → Delta
+delta_of history numbers front from = delta_from from front (newer history numbers from)
 
 -- of a list of changes
 abbrev pub delta : ℕ → List Change → ℕ → Delta

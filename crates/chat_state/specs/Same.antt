@@ -5,9 +5,9 @@ use Rattle.std.specs.Cmp.Lexicographic.{pointwise}
 use Rattle.std.specs.FinMap.{entries}
 use Rattle.chat_change.specs.Buffer.{buffer_texts}
 use Rattle.chat_change.specs.Order.{texts_cmp, record_texts}
-use Rattle.chat_change.specs.declared.changes.Change.{Change}
-use Rattle.chat_change.specs.declared.changes.Change.TheVariants.{Post, Redact, Mark, Floor}
-use Rattle.chat_state.specs.Key.{Key, same_key}
+use Rattle.chat_change.specs.declared.change.Change.{Change}
+use Rattle.chat_change.specs.declared.change.Change.TheVariants.{Post, Redact, Mark, Floor}
+use Rattle.chat_change.specs.Key.{Key, same_key}
 use Rattle.chat_state.specs.History.{History}
 
 abbrev pub moment_text : Option ℕ → List ℕ

@@ -7,8 +7,8 @@ use Rattle.std.specs.FinMap.{from_entries, values}
 use Rattle.chat_change.specs.Buffer.{Buffer}
 use Rattle.chat_change.specs.Record.{Record}
 use Rattle.chat_change.specs.Order.{text_cmp, buffer_cmp}
-use Rattle.chat_change.specs.declared.changes.Change.{Change}
-use Rattle.chat_change.specs.declared.changes.Change.TheVariants.{Post, Redact, Mark, Floor}
+use Rattle.chat_change.specs.declared.change.Change.{Change}
+use Rattle.chat_change.specs.declared.change.Change.TheVariants.{Post}
 use Rattle.chat_state.specs.History.{History, changes_of, norm}
 
 -- by moment, and at equal moments by id
@@ -22,9 +22,7 @@ spot_of r = (r.at, r.id)
 -- the record that a change posts in a buffer
 abbrev pub posted_in : Buffer → Change → Option Record
 posted_in b (Post r) = if eq_by_cmp buffer_cmp b r.buffer then Some r else None
-posted_in b (Redact c m t) = None
-posted_in b (Mark c t) = None
-posted_in b (Floor c t) = None
+posted_in b c = None
 
 -- records of different ids, sorted by (moment, id)
 abbrev pub in_order : List Record → List Record

@@ -2,17 +2,17 @@
 
 ghost use Rattle.std.specs.Prelude.{◌≡◌, length};
 ghost use Rattle.std.specs.Iterator.{at_most};
-ghost use Rattle.std.specs.List.{IsDistinct};
 ghost use Rattle.std.specs.Map.Iter.{TakesFirst};
-ghost use Rattle.chat_state.specs.Key.{same_key};
 ghost use Rattle.chat_state.specs.Latest.{latest_moment, latest_in};
-ghost use Rattle.chat_state.specs.Pieces.{history_of, piece_keys};
+ghost use Rattle.chat_state.specs.History.{IsKeyed};
+ghost use Rattle.chat_state.specs.Store.{history_in};
 
-use crate::reading::first_moment;
-use crate::scan::{Edge, nearest};
-use crate::spot::Cut;
-use crate::state::{Piece, State};
-use crate::walk::{Sought, next_buffer};
+use crate::buffers::Sought;
+use crate::cut::Cut;
+use crate::lookups::first_moment;
+use crate::nearest::Edge;
+use crate::state::State;
+use crate::store::Store;
 use chat_change::{Buffer, Moment};
 use std::marker::Model;
 
@@ -20,7 +20,7 @@ use std::marker::Model;
 /// left.
 #[derive(Drop)]
 pub struct Latest<'a> {
-    pieces: &'a [Piece],
+    store: &'a Store,
     next: Option<&'a Buffer>,
 }
 
@@ -28,20 +28,21 @@ impl<'a> Model for Latest<'a> {
     ghost use Rattle.std.specs.Prelude.{List, ℕ};
     ghost use Rattle.chat_change.specs.Buffer as spec;
     ghost use Rattle.chat_state.specs.Latest.{latest_from, IsAtBuffer};
+    ghost use Rattle.chat_state.specs.Store.{history_in};
 
     ghost Value = { List (spec.Buffer × ℕ) };
 
-    ghost view = { λ l. latest_from l.pieces.now l.next };
+    ghost view = { λ l. latest_from (history_in l.store.now) l.next };
 
-    ghost invariant = { λ l. IsAtBuffer l.pieces.now l.next };
+    ghost invariant = { λ l. IsAtBuffer (history_in l.store.now) l.next };
 }
 
 // The moment of the latest record of a buffer.
-fn latest_moment(pieces: &[Piece], buffer: &Buffer) -> Moment
-    requires { IsDistinct same_key (piece_keys pieces.now) }
-    ensures { result ≡ latest_moment (history_of pieces.now) buffer.now }
+fn latest_moment(store: &Store, buffer: &Buffer) -> Moment
+    requires { IsKeyed (history_in store.now) }
+    ensures { result ≡ latest_moment (history_in store.now) buffer.now }
 {
-    match nearest(pieces, buffer, &Edge::Below(&Cut::Top)) {
+    match store.nearest(buffer, &Edge::BeforeCut(&Cut::Top)) {
         Some(post) => post.at(),
         None => first_moment(),
     }
@@ -56,9 +57,9 @@ impl<'a> Iterator for Latest<'a> {
 
     fn next(&mut self) -> Option<(&'a Buffer, Moment)> {
         let buffer = self.next?;
-        let moment = latest_moment(self.pieces, buffer);
+        let moment = latest_moment(self.store, buffer);
         let network = Sought::OfNetwork(buffer.account(), buffer.network());
-        self.next = next_buffer(self.pieces, &network, &Some(buffer));
+        self.next = self.store.next_buffer(&network, &Some(buffer));
         Some((buffer, moment))
     }
 }
@@ -68,8 +69,8 @@ impl State {
     pub fn latest(&self, account: &[u8], network: &[u8]) -> Latest<'_>
         ensures { result ≡ latest_in self.now.history account.now network.now }
     {
-        let pieces = self.pieces.as_slice();
-        let next = next_buffer(pieces, &Sought::OfNetwork(account, network), &None);
-        Latest { pieces, next }
+        let store = &self.store;
+        let next = store.next_buffer(&Sought::OfNetwork(account, network), &None);
+        Latest { store, next }
     }
 }

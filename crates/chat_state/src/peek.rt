@@ -2,7 +2,7 @@
 
 ghost use Rattle.std.specs.Prelude.{◌≡◌, ◌↔◌, ℕ, Bool, List, IsTrue, IsOk, IfOk, OnErr};
 ghost use Rattle.chat_change.specs.Buffer as buffers;
-ghost use Rattle.chat_state.specs.Reading.{IsShown};
+ghost use Rattle.chat_state.specs.Lookups.{IsShown};
 
 use crate::faults::NoEntry;
 use crate::state::State;
@@ -24,7 +24,8 @@ impl Peek for State {
 
     /// A state never answers `NoEntry`.
     fn shown(&mut self, buffer: &Buffer, id: &MsgId) -> Result<bool, NoEntry>
-        ensures ok { IfOk result (λ shown. (self.new ≡ self.old) × (IsTrue shown ↔ IsShown self.old.history buffer.now id.now)) }
+        ensures ok { IfOk result (λ shown. (self.new ≡ self.old) × (IsTrue shown ↔
+            IsShown self.old.history buffer.now id.now)) }
         ensures err { OnErr result (self.new ≡ self.old) }
         ensures entered { IsOk result }
     {

@@ -1,10 +1,10 @@
 //! What is read off a state, by examples.
 
 use crate::cursor::{Down, Up};
+use crate::cut::{Cut, Spot};
 use crate::peek::Peek;
-use crate::spot::{Cut, Spot};
 use crate::state::State;
-use chat_change::{Buffer, Change, Kind, Moment, MsgId, Record};
+use chat_change::{Buffer, Change, Kind, Message, Moment, MsgId, Record};
 use std::alloc::Global;
 use std::test::Fail;
 
@@ -20,27 +20,24 @@ fn record(alloc: Global, target: &[u8], id: &[u8], at: u64) -> Result<Record, Fa
     let buffer = channel(alloc, target)?;
     let id = MsgId::new(alloc, id)?;
     let at = moment(at)?;
-    Ok(Record::new(
-        alloc,
-        buffer,
-        id,
-        at,
-        Kind::Privmsg,
-        b"bob!b@h",
+    let message = Message {
+        kind: Kind::Privmsg,
+        source: b"bob!b@h",
         target,
-        b"hi",
-    )?)
+        body: b"hi",
+    };
+    Ok(Record::new(alloc, buffer, id, at, message)?)
 }
 
 fn post(state: &mut State, alloc: Global, target: &[u8], id: &[u8], at: u64) -> Result<(), Fail> {
-    state.absorb(alloc, Change::Post(record(alloc, target, id, at)?))?;
+    state.absorb(Change::Post(record(alloc, target, id, at)?))?;
     Ok(())
 }
 
 fn mark(state: &mut State, alloc: Global, target: &[u8], at: u64) -> Result<(), Fail> {
     let buffer = channel(alloc, target)?;
     let at = moment(at)?;
-    state.absorb(alloc, Change::Mark { buffer, at })?;
+    state.absorb(Change::Mark { buffer, at })?;
     Ok(())
 }
 

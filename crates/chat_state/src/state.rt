@@ -1,50 +1,22 @@
-//! A state: the pieces of a history, each with its number, in one vector.
+//! A state: the pieces of a history, each with its number.
 
-ghost use Rattle.std.specs.Prelude.{◌≡◌, ◌≢◌, ◌↔◌, ◌++◌, ◌∷◌, [], ◌+◌, ◌<◌, ◌^◌, length, IsTrue, IfOk, OnOk, OnErr, if◌then◌else◌, take, IfErr};
-ghost use Rattle.chat_state.specs.Key.{key_of};
-ghost use Rattle.chat_state.specs.History.{norm, changes_of};
-ghost use Rattle.chat_state.specs.Numbering.{renumbered};
+ghost use Rattle.std.specs.Prelude.{◌≡◌, ◌≢◌, ◌↔◌, ◌∷◌, [], ◌+◌, IsTrue, IfOk, OnOk, OnErr, IfErr, if◌then◌else◌, take};
+ghost use Rattle.chat_state.specs.Deltas.{all_changes, IsStoppedRun};
 ghost use Rattle.chat_state.specs.Held as spec;
-ghost use Rattle.chat_state.specs.Joined.{joined};
+ghost use Rattle.chat_state.specs.declared.faults.StateFault.TheVariants as fault;
 
-use crate::absorbing::{counts, take_one};
+use crate::faults::{StateFault, TakeFault};
+use crate::form::{form_of, piece_in};
+use crate::store::Store;
 use chat_change::Change;
-use std::alloc::{AllocError, Global};
+use memory::NoMemory;
+use std::alloc::Global;
 use std::marker::Model;
-use thiserror::Error;
-
-/// Why a change was not taken. Of both causes the first is answered.
-#[derive(Clone, Copy, Debug, PartialEq, Eq, Error)]
-pub enum StateFault {
-    /// The front is at its last value, 18446744073709551615, and the change would change the history.
-    #[error("no number is left")]
-    Exhausted,
-    /// There was no memory.
-    #[error("no memory")]
-    NoMemory,
-}
-
-/// Why a list of changes was not taken to its end.
-#[derive(Clone, Copy, Debug, PartialEq, Eq, Error)]
-#[error("{taken} changes were taken, and then: {cause}")]
-pub struct TakeFault {
-    /// How many changes were taken.
-    pub taken: usize,
-    /// Why the next one wasn't.
-    pub cause: StateFault,
-}
-
-/// A change under its number.
-#[derive(Drop)]
-pub struct Piece {
-    pub(crate) number: u64,
-    pub(crate) change: Change,
-}
 
 /// What a node has taken, in normal form.
 #[derive(Drop)]
 pub struct State {
-    pub(crate) pieces: Vec<Piece>,
+    pub(crate) store: Store,
     pub(crate) front: u64,
 }
 
@@ -56,15 +28,15 @@ impl Model for State {
 
     ghost coded = { coded_held };
 
-    ghost use Rattle.chat_state.specs.Pieces.{history_of, numbers_of, AreSound};
+    ghost use Rattle.chat_state.specs.Store.{value_of, IsSound};
 
-    ghost view = { λ s. record { history = history_of s.pieces.items; numbers = numbers_of s.pieces.items; front = s.front } };
+    ghost view = { λ s. value_of s.store s.front };
 
-    ghost invariant = { λ s. AreSound s.pieces.items };
+    ghost invariant = { λ s. IsSound s.store s.front };
 }
 
 impl State {
-    ghost use Rattle.chat_state.specs.Held.{held, HasTaken, StoppedAt, IsPastTheLast};
+    ghost use Rattle.chat_state.specs.Held.{held, history_with, AreNumbersWith, HasTaken, StoppedAt, IsPastTheLast};
 
     /// An empty state.
     pub fn new(alloc: Global) -> Self
@@ -78,56 +50,68 @@ impl State {
         ensures { result ≡ held front [] }
     {
         State {
-            pieces: Vec::new(alloc),
+            store: Store::new(alloc),
             front,
         }
     }
 
     /// Takes one change. The answer is whether it changed the history. A refused change leaves the state as it was.
-    pub fn absorb(&mut self, _alloc: Global, change: Change) -> Result<bool, StateFault>
-        ensures ok { OnOk result (self.new.history ≡ norm (changes_of self.old.history ++ change ∷ [])) }
-        ensures changed { IfOk result (λ changed. IsTrue changed ↔ (self.new.history ≢ self.old.history)) }
-        ensures front { IfOk result (λ changed. self.new.front ≡ (if changed then self.old.front + 1 else self.old.front)) }
-        ensures numbers { IfOk result (λ changed. self.new.numbers ≡ (if changed then renumbered self.old.numbers self.new.history (key_of change) (self.old.front + 1) else self.old.numbers)) }
+    pub fn absorb(&mut self, change: Change) -> Result<bool, StateFault>
+        ensures ok { OnOk result (self.new.history ≡ history_with self.old (change ∷ [])) }
+        ensures changed { IfOk result (λ b. IsTrue b ↔ (self.new.history ≢ self.old.history)) }
+        ensures front { IfOk result (λ b. self.new.front ≡
+            (if b then self.old.front + 1 else self.old.front)) }
+        ensures numbers { IfOk result (λ b. AreNumbersWith b self.old change self.new) }
         ensures held { OnOk result (HasTaken self.old (change ∷ []) self.new) }
-        ensures exhausted { (result ≡ Err StateFault.Exhausted) ↔ IsPastTheLast self.old change }
+        ensures exhausted { (result ≡ Err fault.Exhausted) ↔ IsPastTheLast self.old change }
         ensures err { OnErr result (self.new ≡ self.old) }
     {
-        let next = self.front.checked_add(1);
-        let changed = take_one(&mut self.pieces, next, change)?;
-        if changed {
-            self.front += 1;
-        }
-        Ok(changed)
+        let taken = self.absorb_copy(&change);
+        discard(change);
+        taken
     }
 
-    // Takes a copy of a change.
-    pub(crate) fn absorb_copy(&mut self, alloc: Global, change: &Change) -> Result<bool, StateFault>
-        ensures ok { OnOk result (self.new.history ≡ norm (changes_of self.old.history ++ change.now ∷ [])) }
+    // Takes a copy of a change, which shares its texts.
+    pub(crate) fn absorb_copy(&mut self, change: &Change) -> Result<bool, StateFault>
+        ensures ok { OnOk result (self.new.history ≡ history_with self.old (change.now ∷ [])) }
+        ensures changed { IfOk result (λ b. IsTrue b ↔ (self.new.history ≢ self.old.history)) }
+        ensures front { IfOk result (λ b. self.new.front ≡
+            (if b then self.old.front + 1 else self.old.front)) }
+        ensures numbers { IfOk result (λ b. AreNumbersWith b self.old change.now self.new) }
         ensures held { OnOk result (HasTaken self.old (change.now ∷ []) self.new) }
-        ensures exhausted { (result ≡ Err StateFault.Exhausted) ↔ IsPastTheLast self.old change.now }
+        ensures exhausted { (result ≡ Err fault.Exhausted) ↔ IsPastTheLast self.old change.now }
         ensures err { OnErr result (self.new ≡ self.old) }
     {
-        if self.front == u64::MAX && counts(&self.pieces, change) {
+        let Some(form) = form_of(&self.store, change) else {
+            return Ok(false);
+        };
+        let Some(number) = self.front.checked_add(1) else {
             return Err(StateFault::Exhausted);
-        }
-        let Ok(copy) = change.try_clone() else {
+        };
+        let Ok(piece) = piece_in(change, form) else {
             return Err(StateFault::NoMemory);
         };
-        self.absorb(alloc, copy)
+        if !self.store.place(number, piece) {
+            return Err(StateFault::NoMemory);
+        }
+        self.front = number;
+        Ok(true)
     }
 
     /// Takes changes in turn. After a refusal the first `taken` stand.
-    pub fn take(&mut self, alloc: Global, changes: &[Change]) -> Result<(), TakeFault>
-        ensures ok { OnOk result (self.new.history ≡ norm (changes_of self.old.history ++ changes.now)) }
+    pub fn take(&mut self, changes: &[Change]) -> Result<(), TakeFault>
+        ensures ok { OnOk result (self.new.history ≡ history_with self.old changes.now) }
         ensures held { OnOk result (HasTaken self.old changes.now self.new) }
-        ensures err { IfErr result (λ fault. self.new.history ≡ norm (changes_of self.old.history ++ take fault.taken changes.now)) }
-        ensures held_err { IfErr result (λ fault. HasTaken self.old (take fault.taken changes.now) self.new) }
-        ensures exhausted { IfErr result (λ fault. StoppedAt self.new changes.now fault.taken (fault.cause ≡ StateFault.Exhausted)) }
+        ensures err { IfErr result (λ e. self.new.history ≡
+            history_with self.old (take e.taken changes.now)) }
+        ensures held_err { IfErr result (λ e. HasTaken self.old
+            (take e.taken changes.now) self.new) }
+        ensures exhausted { IfErr result (λ e. StoppedAt self.new changes.now e.taken (e.cause ≡
+            fault.Exhausted)) }
     {
-        let _ = &self.pieces;
+        let _ = &self.store;
         for (i, change) in changes.iter().enumerate() {
-            if let Err(cause) = self.absorb_copy(alloc, change) {
+            if let Err(cause) = self.absorb_copy(change) {
                 return Err(TakeFault { taken: i, cause });
             }
         }
@@ -135,41 +119,30 @@ impl State {
     }
 
     /// An equal state.
-    pub fn try_clone(&self, alloc: Global) -> Result<State, AllocError>
+    pub fn try_clone(&self, alloc: Global) -> Result<State, NoMemory>
         ensures { IfOk result (λ copy. copy ≡ self.now) }
     {
-        let pieces = copies(alloc, &self.pieces)?;
+        let store = self.store.try_clone(alloc)?;
         Ok(State {
-            pieces,
+            store,
             front: self.front,
         })
     }
 }
 
-fn copies(alloc: Global, pieces: &[Piece]) -> Result<Vec<Piece>, AllocError>
-    ensures { IfOk result (λ copies. copies.items ≡ pieces.now) }
-{
-    let mut copies = Vec::with_capacity(alloc, pieces.len())?;
-    for piece in pieces {
-        let change = piece.change.try_clone()?;
-        copies.push(Piece {
-            number: piece.number,
-            change,
-        })?;
-    }
-    Ok(copies)
-}
+// It lets a change go in a function of its own, so that what a drop does is proved once.
+fn discard(_change: Change) {}
 
 /// Takes each delta in turn into an empty state. After a refusal no state is handed out; `taken` counts through the
-/// deltas joined.
+/// deltas all_changes.
 pub fn run(alloc: Global, deltas: &[Vec<Change>]) -> Result<State, TakeFault>
-    ensures held { IfOk result (λ state. state ≡ spec.held 0 (joined deltas.now)) }
-    ensures refused { IfErr result (λ fault. length (joined deltas.now) < 2 ^ 64 → spec.StoppedAt (spec.held 0 (take fault.taken (joined deltas.now))) (joined deltas.now) fault.taken (fault.cause ≡ StateFault.Exhausted)) }
+    ensures held { IfOk result (λ state. state ≡ spec.held 0 (all_changes deltas.now)) }
+    ensures refused { IfErr result (IsStoppedRun (all_changes deltas.now)) }
 {
     let mut state = State::new(alloc);
     let mut taken: usize = 0;
     for delta in deltas {
-        if let Err(fault) = state.take(alloc, delta) {
+        if let Err(fault) = state.take(delta) {
             return Err(TakeFault {
                 taken: taken.saturating_add(fault.taken),
                 cause: fault.cause,

@@ -1,7 +1,8 @@
 //! Changes taken in several orders, with repeats and in several deltas.
 
-use crate::state::{State, StateFault, run};
-use chat_change::{Buffer, Change, Kind, Moment, MsgId, Record};
+use crate::faults::StateFault;
+use crate::state::{State, run};
+use chat_change::{Buffer, Change, Kind, Message, Moment, MsgId, Record};
 use std::alloc::Global;
 use std::test::Fail;
 
@@ -18,7 +19,13 @@ fn post(alloc: Global, ms: u64, kind: Kind, body: &[u8]) -> Result<Change, Fail>
     let at = moment(ms)?;
     let buffer = here(alloc)?;
     let id = MsgId::new(alloc, b"m1")?;
-    Ok(Change::Post(Record::new(alloc, buffer, id, at, kind, b"bob!b@h", b"#a", body)?))
+    let message = Message {
+        kind,
+        source: b"bob!b@h",
+        target: b"#a",
+        body,
+    };
+    Ok(Change::Post(Record::new(alloc, buffer, id, at, message)?))
 }
 
 fn mark(alloc: Global, ms: u64) -> Result<Change, Fail> {
@@ -60,7 +67,7 @@ fn change(alloc: Global, letter: u8) -> Result<Change, Fail> {
 
 fn put(alloc: Global, state: &mut State, letter: u8) -> Result<bool, Fail> {
     let change = change(alloc, letter)?;
-    Ok(state.absorb(alloc, change)?)
+    Ok(state.absorb(change)?)
 }
 
 fn delta(alloc: Global, letters: &[u8]) -> Result<Vec<Change>, Fail> {
@@ -74,7 +81,7 @@ fn delta(alloc: Global, letters: &[u8]) -> Result<Vec<Change>, Fail> {
 fn taken(alloc: Global, letters: &[u8]) -> Result<State, Fail> {
     let changes = delta(alloc, letters)?;
     let mut state = State::new(alloc);
-    state.take(alloc, &changes)?;
+    state.take(&changes)?;
     Ok(state)
 }
 
@@ -88,13 +95,13 @@ fn ran(alloc: Global, first: &[u8], second: &[u8]) -> Result<State, Fail> {
 fn merged(alloc: Global, one: &[u8], other: &[u8]) -> Result<State, Fail> {
     let other = taken(alloc, other)?;
     let mut state = taken(alloc, one)?;
-    state.merge(alloc, &other)?;
+    state.merge(&other)?;
     Ok(state)
 }
 
 fn adds_nothing(alloc: Global, state: &State, other: &State) -> Result<bool, Fail> {
     let mut copy = state.try_clone(alloc)?;
-    copy.merge(alloc, other)?;
+    copy.merge(other)?;
     Ok(copy.front == state.front)
 }
 
@@ -113,7 +120,7 @@ fn keeps_the_first(alloc: Global, state: &mut State) -> Result<bool, Fail> {
 fn a_repeated_post_is_decided_by_moment_kind_and_body(rt: HostRuntime) -> Result<(), Fail> {
     let mut state = State::new(rt.alloc());
     assert!(rt; keeps_the_first(rt.alloc(), &mut state)?);
-    assert_eq!(rt; state.pieces.len(), 1);
+    assert_eq!(rt; state.store.len(), 1);
     assert_eq!(rt; state.front, 3);
     Ok(())
 }
@@ -122,9 +129,9 @@ fn a_repeated_post_is_decided_by_moment_kind_and_body(rt: HostRuntime) -> Result
 fn at_the_last_front_only_what_counts_is_refused(rt: HostRuntime) -> Result<(), Fail> {
     let mut state = State::new_at(rt.alloc(), u64::MAX);
     let mark = mark(rt.alloc(), 5000)?;
-    assert_eq!(rt; state.absorb(rt.alloc(), mark), Err(StateFault::Exhausted));
+    assert_eq!(rt; state.absorb(mark), Err(StateFault::Exhausted));
     assert!(rt; !put(rt.alloc(), &mut state, b'0')?);
-    assert_eq!(rt; state.pieces.len(), 0);
+    assert_eq!(rt; state.store.len(), 0);
     Ok(())
 }
 
@@ -133,8 +140,8 @@ fn a_floor_holds_in_every_order(rt: HostRuntime) -> Result<(), Fail> {
     let a = ran(rt.alloc(), b"abf", b"")?;
     let b = ran(rt.alloc(), b"fb", b"baf")?;
     assert!(rt; hold_the_same(rt.alloc(), &a, &b)?);
-    assert_eq!(rt; a.pieces.len(), 2);
-    assert_eq!(rt; b.pieces.len(), 2);
+    assert_eq!(rt; a.store.len(), 2);
+    assert_eq!(rt; b.store.len(), 2);
     Ok(())
 }
 
@@ -143,7 +150,7 @@ fn states_merge_to_the_same_either_way(rt: HostRuntime) -> Result<(), Fail> {
     let a = merged(rt.alloc(), b"af", b"br")?;
     let b = merged(rt.alloc(), b"br", b"af")?;
     assert!(rt; hold_the_same(rt.alloc(), &a, &b)?);
-    assert_eq!(rt; a.pieces.len(), 3);
-    assert_eq!(rt; b.pieces.len(), 3);
+    assert_eq!(rt; a.store.len(), 3);
+    assert_eq!(rt; b.store.len(), 3);
     Ok(())
 }

@@ -1,19 +1,17 @@
-use Rattle.std.proofs.Common.{◌≡◌, sym, ◌∙◌, ap}
+use Rattle.std.proofs.Common.{◌≡◌, sym, ◌∙◌}
 use Rattle.std.specs.Option.{option_map}
-use Rattle.std.specs.Map.Iter.{deref}
-use Rattle.chat_state.specs.Key.{MarkerOf}
-use Rattle.chat_state.specs.Held.{Held}
-use Rattle.chat_state.specs.Pieces.{history_of}
-use Rattle.chat_state.proofs.LookupLaws.{held_keyed, held_found, mark_found, mark_of_set}
+use Rattle.chat_change.specs.Key.{MarkerOf}
+use Rattle.chat_change.specs.declared.change.Change.TheVariants.{Mark}
+use Rattle.chat_state.proofs.LookupLemmas.{state_keyed, state_found, mark_said, mark_found, mark_of_set}
 use Rattle.chat_state.proofs.state.State.mark.Goals as goal
 
 pub returns-clause-held : goal.returns-clause-held
 returns-clause-held c =
-    let h = c.args.self.now.history in
-    let is : h ≡ history_of c.deref.result.now = ap (λ (s : Held). s.history) (sym c.self.view_is) ∙ ap history_of (sym c.deref.ensures.value) in
-    let keyed = held_keyed h c.deref.result.now is in
-    let found = held_found h c.deref.result.now is (MarkerOf c.args.buffer.now) (option_map deref c.find.result) c.find.ensures in
-    c.marker_of.ensures ∙ mark_found h keyed c.args.buffer.now (option_map deref c.find.result) found
+    let b = c.args.buffer.now in
+    let u = option_map (Mark b) c.marker.result in
+    let keyed = state_keyed c.self.inside.store c.self.inside.front c.self.invariant c.args.self.now c.self.view_is in
+    let found = state_found c.self.inside.store c.self.inside.front c.self.invariant c.args.self.now c.self.view_is (MarkerOf b) u c.marker.ensures in
+    sym (mark_said b c.marker.result) ∙ mark_found c.args.self.now.history keyed b u found
 
 pub returns-clause-of_set : goal.returns-clause-of_set
 returns-clause-of_set c = λ changes e. returns-clause-held c ∙ mark_of_set c.args.self.now.history c.args.buffer.now changes e

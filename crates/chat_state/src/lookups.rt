@@ -1,0 +1,83 @@
+//! Look-ups: markers, floors, positions of messages, and which messages are shown or gone. They take no memory.
+
+ghost use Rattle.std.specs.Prelude.{◌≡◌, ◌↔◌, IsTrue, List};
+ghost use Rattle.chat_state.specs.History as spec;
+ghost use Rattle.chat_state.specs.Lookups.{IsShown};
+
+use crate::state::State;
+use crate::store::Fate;
+use chat_change::{Buffer, Moment, MsgId};
+
+// The moment at which 1970 began.
+pub(crate) fn first_moment() -> Moment
+    ensures { result ≡ 0 }
+{
+    Moment::from_ms(0).unwrap()
+}
+
+impl State {
+    ghost use Rattle.chat_change.specs.declared.change.Change as value;
+
+    /// The number of the last change that changed the state.
+    pub fn front(&self) -> u64
+        ensures { result ≡ self.now.front }
+    {
+        self.front
+    }
+
+    /// The read marker of a buffer (IRCv3 draft/read-marker). None was set where it is None.
+    pub fn mark(&self, buffer: &Buffer) -> Option<Moment>
+        ensures held { result ≡ spec.mark (spec.changes_of self.now.history) buffer.now }
+        ensures of_set { (changes : List value.Change) → self.now.history ≡ spec.norm changes →
+            result ≡ spec.mark changes buffer.now }
+    {
+        self.store.marker(buffer)
+    }
+
+    /// The moment below which nothing of a buffer is kept: the start of 1970 where none was set.
+    pub fn floor(&self, buffer: &Buffer) -> Moment
+        ensures held { result ≡ spec.floor (spec.changes_of self.now.history) buffer.now }
+        ensures of_set { (changes : List value.Change) → self.now.history ≡ spec.norm changes →
+            result ≡ spec.floor changes buffer.now }
+    {
+        self.store.floor(buffer).unwrap_or(first_moment())
+    }
+
+    /// Whether a message was redacted (IRCv3 draft/message-redaction).
+    pub fn is_gone(&self, buffer: &Buffer, id: &MsgId) -> bool
+        ensures held { result ≡ spec.is_gone (spec.changes_of self.now.history) buffer.now id.now }
+        ensures of_set { (changes : List value.Change) → self.now.history ≡ spec.norm changes →
+            result ≡ spec.is_gone changes buffer.now id.now }
+    {
+        match self.store.message(buffer, id) {
+            Some(Fate::Gone(_)) => true,
+            Some(Fate::Kept(_)) => false,
+            None => false,
+        }
+    }
+
+    /// The moment at which a message stands or stood, also where it was redacted. None where the buffer knows none.
+    pub fn position(&self, buffer: &Buffer, id: &MsgId) -> Option<Moment>
+        ensures held { result ≡
+            spec.position_of (spec.changes_of self.now.history) buffer.now id.now }
+        ensures of_set { (changes : List value.Change) → self.now.history ≡ spec.norm changes →
+            result ≡ spec.position_of changes buffer.now id.now }
+    {
+        match self.store.message(buffer, id) {
+            Some(Fate::Kept(post)) => Some(post.at()),
+            Some(Fate::Gone(at)) => at,
+            None => None,
+        }
+    }
+
+    // Whether a visible record has that id.
+    pub(crate) fn is_shown(&self, buffer: &Buffer, id: &MsgId) -> bool
+        ensures { IsTrue result ↔ IsShown self.now.history buffer.now id.now }
+    {
+        match self.store.message(buffer, id) {
+            Some(Fate::Kept(_)) => true,
+            Some(Fate::Gone(_)) => false,
+            None => false,
+        }
+    }
+}
