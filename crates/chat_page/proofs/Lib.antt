@@ -1,3 +1,8 @@
-pub mod Cuts
-pub mod Walks
-pub mod LastLaws
+mod ItemLemmas
+mod LastLemmas
+mod WalkLemmas
+mod ParameterLemmas
+mod CutLemmas
+mod PlaceLemmas
+mod AnswerLemmas
+mod BufferLemmas

@@ -1,3 +1,11 @@
-pub mod Query
+-- what a reader must believe: what a client asks for, and the page that answers it
+pub mod Scope
+pub mod Limit
+pub mod Parameters
+pub mod ListedBuffer
 pub mod Page
 pub mod Walk
+-- what only the proofs use of the code: records between two cuts, and the place of a selector
+pub mod Cuts
+pub mod Place
+pub mod Answer

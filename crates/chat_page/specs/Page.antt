@@ -1,20 +1,21 @@
 -- The page that answers a query (IRCv3 draft/chathistory, "Subcommands"): the visible records of a buffer, sorted, filtered
 -- and cut.
 use Rattle.std.specs.Prelude.{ℕ, ◌-◌, ◌/◌, Bool, not, ◌&&◌, ◌==◌, nat_lt, min, max, Option, None, Some, List, ◌++◌, length, take, drop, filter, map, if◌then◌else◌}
-use Rattle.std.specs.Ordering.{is_lt, is_eq}
-use Rattle.std.specs.List.{filter_map}
-use Rattle.std.specs.Option.{option_map, option_and_then, unwrap_or}
+use Rattle.std.specs.Ordering.{is_lt}
+use Rattle.std.specs.Option.{option_map, option_and_then}
 use Rattle.std.specs.FinMap.{from_entries, keys}
 use Rattle.chat_change.specs.Buffer.{Buffer}
 use Rattle.chat_change.specs.Record.{Record}
-use Rattle.chat_change.specs.Order.{text_cmp}
-use Rattle.chat_change.specs.declared.changes.Change.{Change}
-use Rattle.chat_change.specs.declared.changes.Change.TheVariants.{Post, Redact, Mark, Floor}
-use Rattle.chat_state.specs.Choice.{greatest}
+use Rattle.chat_change.specs.declared.change.Change.{Change}
 use Rattle.chat_state.specs.History.{History, norm, changes_of}
-use Rattle.chat_state.specs.Reading.{position_in}
+use Rattle.chat_state.specs.Latest.{latest_in}
+use Rattle.chat_state.specs.Lookups.{position_in}
 use Rattle.chat_state.specs.Visible.{records_in, spot_cmp}
-use Rattle.chat_page.specs.Query.{Selector, timestamp, message, Query, latest, before, after, around, between, targets, Scope}
+use Rattle.chat_page.specs.Scope.{Scope}
+use Rattle.chat_page.specs.declared.query.Selector.{Selector}
+use Rattle.chat_page.specs.declared.query.Selector.TheVariants.{Timestamp, Message}
+use Rattle.chat_page.specs.declared.query.Query.{Query}
+use Rattle.chat_page.specs.declared.query.Query.TheVariants.{Latest, Before, After, Around, Between, Targets}
 
 -- ---- before and after
 
@@ -25,8 +26,8 @@ pub data Point : Type 0 where
 
 -- none where the buffer has no position for the message
 abbrev pub point_of : History → Buffer → Selector → Option Point
-point_of history b (timestamp t) = Some (moment t)
-point_of history b (message m) = option_map (λ (t : ℕ). spot t m) (position_in history b m)
+point_of history b (Timestamp t) = Some (moment t)
+point_of history b (Message m) = option_map (λ (t : ℕ). spot t m) (position_in history b m)
 
 -- by the moment alone at a timestamp, by (moment, id) at a message
 abbrev pub is_before : Point → Record → Bool
@@ -56,61 +57,56 @@ between_cut n records s u =
 
 -- ---- buffers
 
--- the folded target of a post, if it is of this account and network
-abbrev pub target_of : Scope → Change → Option (List ℕ)
-target_of scope (Post r) =
-    if is_eq (text_cmp r.buffer.account scope.account) && is_eq (text_cmp r.buffer.network scope.network) then Some r.buffer.target else None
-target_of scope (Redact b m t) = None
-target_of scope (Mark b t) = None
-target_of scope (Floor b t) = None
-
 abbrev pub buffer_of : Scope → List ℕ → Buffer
 buffer_of scope target = record { account = scope.account; network = scope.network; target = target }
 
--- the moment of the latest visible record
-abbrev pub latest_moment : History → Buffer → ℕ
-latest_moment history b = unwrap_or (greatest (map (λ (r : Record). r.at) (records_in history b))) 0
+-- buffers with their latest moments, as they are listed
+abbrev pub listed : List (Buffer × ℕ) → List (ℕ × List ℕ)
+listed buffers = map (λ (p : Buffer × ℕ). (p.1, p.0.target)) buffers
 
--- (moment, folded target) of each buffer that has a visible record, in that order
+-- (moment, folded target) of each buffer that has a visible record, the moment being that of the latest one, in that order
 abbrev pub buffers_in : History → Scope → List (ℕ × List ℕ)
 buffers_in history scope =
-    let found = filter_map (target_of scope) (changes_of history) in
-    keys (from_entries {R = spot_cmp} (map (λ (target : List ℕ). ((latest_moment history (buffer_of scope target), target), target)) found))
+    keys (from_entries {R = spot_cmp} (map (λ (e : ℕ × List ℕ). (e, e)) (listed (latest_in history scope.account scope.network))))
+
+-- whether a buffer's moment lies strictly between two others
+abbrev pub lies_between : ℕ → ℕ → ℕ × List ℕ → Bool
+lies_between t u e = nat_lt (min t u) e.0 && nat_lt e.0 (max t u)
 
 -- those that lie strictly between two moments, cut at the end of the second
 abbrev pub targets_cut : ℕ → ℕ → ℕ → List (ℕ × List ℕ) → List (ℕ × List ℕ)
 targets_cut n t u buffers =
-    let found = filter (λ (e : ℕ × List ℕ). nat_lt (min t u) e.0 && nat_lt e.0 (max t u)) buffers in
+    let found = filter (lies_between t u) buffers in
     if nat_lt t u then take n found else last n found
 
 -- ---- pages
 
 -- what a page has: records, or buffers with their latest moments
 pub data Page : Type 0 where
-  of_records : (target : List ℕ) (records : List Record) → Page
+  of_records : (records : List Record) → Page
   of_buffers : (buffers : List (ℕ × List ℕ)) → Page
 
 -- The page of a query, of a history in normal form. None where a selector names an unknown message.
 unfoldable pub page_in : History → Scope → Query → Option Page
-page_in history scope (latest target None limit) =
-    Some (of_records target (last (min limit scope.maximum) (records_in history (buffer_of scope target))))
-page_in history scope (latest target (Some s) limit) =
+page_in history scope (Latest target None limit) =
+    Some (of_records (last (min limit scope.maximum) (records_in history (buffer_of scope target))))
+page_in history scope (Latest target (Some s) limit) =
     let records = records_in history (buffer_of scope target) in
-    option_map (λ (p : Point). of_records target (last (min limit scope.maximum) (filter (is_after p) records))) (point_of history (buffer_of scope target) s)
-page_in history scope (before target s limit) =
+    option_map (λ (p : Point). of_records (last (min limit scope.maximum) (filter (is_after p) records))) (point_of history (buffer_of scope target) s)
+page_in history scope (Before target s limit) =
     let records = records_in history (buffer_of scope target) in
-    option_map (λ (p : Point). of_records target (last (min limit scope.maximum) (filter (is_before p) records))) (point_of history (buffer_of scope target) s)
-page_in history scope (after target s limit) =
+    option_map (λ (p : Point). of_records (last (min limit scope.maximum) (filter (is_before p) records))) (point_of history (buffer_of scope target) s)
+page_in history scope (After target s limit) =
     let records = records_in history (buffer_of scope target) in
-    option_map (λ (p : Point). of_records target (take (min limit scope.maximum) (filter (is_after p) records))) (point_of history (buffer_of scope target) s)
-page_in history scope (around target s limit) =
+    option_map (λ (p : Point). of_records (take (min limit scope.maximum) (filter (is_after p) records))) (point_of history (buffer_of scope target) s)
+page_in history scope (Around target s limit) =
     let records = records_in history (buffer_of scope target) in
-    option_map (λ (p : Point). of_records target (around_cut (min limit scope.maximum) records p)) (point_of history (buffer_of scope target) s)
-page_in history scope (between target s u limit) =
+    option_map (λ (p : Point). of_records (around_cut (min limit scope.maximum) records p)) (point_of history (buffer_of scope target) s)
+page_in history scope (Between target s u limit) =
     let b = buffer_of scope target in
     option_and_then (λ (p : Point).
-    option_map (λ (q : Point). of_records target (between_cut (min limit scope.maximum) (records_in history b) p q)) (point_of history b u)) (point_of history b s)
-page_in history scope (targets t u limit) = Some (of_buffers (targets_cut (min limit scope.maximum) t u (buffers_in history scope)))
+    option_map (λ (q : Point). of_records (between_cut (min limit scope.maximum) (records_in history b) p q)) (point_of history b u)) (point_of history b s)
+page_in history scope (Targets t u limit) = Some (of_buffers (targets_cut (min limit scope.maximum) t u (buffers_in history scope)))
 
 -- the page of a query, of a set of changes: it depends on their normal form alone
 abbrev pub page : List Change → Scope → Query → Option Page

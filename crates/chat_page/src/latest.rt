@@ -16,7 +16,8 @@ pub fn latest_page<'a>(
     buffer: &Buffer,
     limit: usize,
 ) -> Result<Vec<&'a Record>, AllocError>
-    ensures { IfOk result (λ page. map (λ r. r.now) page.items ≡ last limit (records_in state.now.history buffer.now)) }
+    ensures { IfOk result (λ page. map (λ r. r.now) page.items ≡ last limit
+        (records_in state.now.history buffer.now)) }
 {
     // The prover is to be shown each type that a cut may hold.
     let _held: (Option<Moment>, Option<&Spot>) = (None, None);

@@ -1,11 +1,30 @@
 //! Pages of a chat history (IRCv3 draft/chathistory).
 //!
-//! A page is defined over a set of changes (`specs/Page.antt`): the visible records of one buffer, sorted by moment and id,
-//! filtered by the selectors of the query and cut to its limit. [`laws`] says that it depends on the normal form of the
-//! set alone, and that reading a buffer page by page gives each record once.
+//! [`read_query`] reads what the parameters of a CHATHISTORY line ask for, and [`page`] answers it from a state. A page is
+//! defined over a set of changes (`specs/Page.antt`): the visible records of one buffer, sorted by moment and id, filtered
+//! by the selectors of the query and cut to its limit. [`laws`] says that it depends on the normal form of the set alone,
+//! and that reading a buffer page by page gives each record once.
 #![tactic(auto)]
 
+mod answer;
 mod latest;
 pub mod laws;
+mod limit;
+mod listed_buffer;
+mod pages;
+mod parameters;
+mod place;
+mod query;
+mod scope;
+mod walk;
 
+pub use answer::page;
 pub use latest::latest_page;
+pub use listed_buffer::ListedBuffer;
+pub use pages::{Page, PageFault};
+pub use parameters::{QueryFault, read_query};
+pub use query::{GivenId, Query, Selector, Target};
+pub use scope::Scope;
+
+#[cfg(test)]
+mod tests;

@@ -1,5 +1,5 @@
 use Rattle.std.proofs.Common.{arith}
-use Rattle.chat_page.proofs.Walks.{latest_all, latest_ends}
+use Rattle.chat_page.proofs.WalkLemmas.{latest_all, latest_ends}
 use Rattle.chat_page.proofs.laws.reading_backward_gives_each_record_once.Goals as goal
 
 pub returns : goal.returns

@@ -1,5 +1,5 @@
 use Rattle.std.proofs.Common.{length, arith}
-use Rattle.chat_page.proofs.Walks.{follow_all, follow_ends}
+use Rattle.chat_page.proofs.WalkLemmas.{follow_all, follow_ends}
 use Rattle.chat_page.proofs.laws.reading_forward_gives_each_later_record_once.Goals as goal
 
 pub returns : goal.returns

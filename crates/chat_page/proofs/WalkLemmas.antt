@@ -9,17 +9,19 @@ use Rattle.std.proofs.lemmas.Cmp.{on_total}
 use Rattle.std.proofs.lemmas.List.{reverse-append, length-take}
 use Rattle.std.proofs.lemmas.List.Concat.{flat_map-append}
 use Rattle.chat_change.specs.Record.{Record}
-use Rattle.chat_change.specs.declared.changes.Change.{Change}
+use Rattle.chat_change.specs.declared.change.Change.{Change}
 use Rattle.chat_state.specs.History.{norm, message_moment}
 use Rattle.chat_state.specs.Visible.{records_in, spot_cmp, spot_of}
-use Rattle.chat_state.specs.Reading.{position_in}
-use Rattle.chat_state.specs.Scan.{Among}
-use Rattle.chat_state.proofs.PieceLaws.{norm_keyed}
-use Rattle.chat_state.proofs.VisibleLaws.{spot_total, record_of, records_sorted}
-use Rattle.chat_page.specs.Query.{message, latest, before, after, Scope}
+use Rattle.chat_state.specs.Lookups.{position_in}
+use Rattle.chat_state.specs.Choice.{Among}
+use Rattle.chat_state.proofs.CallerLemmas.{norm_keyed}
+use Rattle.chat_state.proofs.CallerLemmas.{spot_total, record_of, records_sorted}
+use Rattle.chat_page.specs.Scope.{Scope}
+use Rattle.chat_page.specs.declared.query.Selector.TheVariants.{Message}
+use Rattle.chat_page.specs.declared.query.Query.TheVariants.{Latest, Before, After}
 use Rattle.chat_page.specs.Page.{Page, of_records, page, page_in, buffer_of, last, is_after, is_before, Point, spot}
 use Rattle.chat_page.specs.Walk.{FollowPages, PrecedePages, LatestPages}
-use Rattle.chat_page.proofs.Cuts.{after_it, before_it}
+use Rattle.chat_page.proofs.ItemLemmas.{after_it, before_it}
 
 -- ---- lists
 
@@ -73,8 +75,8 @@ cut_behind n xs front end e = sym (take-append-drop n xs) ∙ ap (λ l. l ++ dro
 cut_before : {A : Type 0} (k : ℕ) (xs rest : List A) (start : A) → drop k xs ≡ start ∷ rest → xs ≡ take k xs ++ start ∷ rest
 cut_before k xs rest start e = sym (take-append-drop k xs) ∙ ap (λ l. take k xs ++ l) e
 
-same_records : (target : List ℕ) (xs ys : List Record) (o : Option Page) → o ≡ Some (of_records target xs) → o ≡ Some (of_records target ys) → xs ≡ ys
-same_records target xs ys o p q = cc
+same_records : (xs ys : List Record) (o : Option Page) → o ≡ Some (of_records xs) → o ≡ Some (of_records ys) → xs ≡ ys
+same_records xs ys o p q = cc
 
 -- ---- one page
 
@@ -85,7 +87,7 @@ module _ (changes : List Change) (scope : Scope) (target : List ℕ) (limit : �
   abbrev n : ℕ
   n = min limit scope.maximum
 
-  latest_page : page changes scope (latest target None limit) ≡ Some (of_records target (last n all))
+  latest_page : page changes scope (Latest target None limit) ≡ Some (of_records (last n all))
   unfolding page_in
   latest_page = refl
 
@@ -98,37 +100,37 @@ module _ (changes : List Change) (scope : Scope) (target : List ℕ) (limit : �
 
   module _ (some : 0 < n) where
     module _ (front back : List Record) (r : Record) (e : all ≡ front ++ r ∷ back) where
-      after_page : page changes scope (after target (message r.id) limit) ≡ Some (of_records target (take n back))
+      after_page : page changes scope (After target (Message r.id) limit) ≡ Some (of_records (take n back))
       unfolding page_in
       after_page =
-          ap (λ o. option_map (λ (p : Point). of_records target (take n (filter (is_after p) all))) (option_map (λ (t : ℕ). spot t r.id) o)) (positioned front back r e)
-          ∙ ap (λ l. Some (of_records target (take n l)))
+          ap (λ o. option_map (λ (p : Point). of_records (take n (filter (is_after p) all))) (option_map (λ (t : ℕ). spot t r.id) o)) (positioned front back r e)
+          ∙ ap (λ l. Some (of_records (take n l)))
           (ap (λ l. filter (λ q. is_lt (on spot_of spot_cmp r q)) l) e ∙ after_it (on_total spot_of spot_total) front r back (subst (λ l. IsStrictlySortedBy (on spot_of spot_cmp) l) e sorted))
 
-      before_page : page changes scope (before target (message r.id) limit) ≡ Some (of_records target (last n front))
+      before_page : page changes scope (Before target (Message r.id) limit) ≡ Some (of_records (last n front))
       unfolding page_in
       before_page =
-          ap (λ o. option_map (λ (p : Point). of_records target (last n (filter (is_before p) all))) (option_map (λ (t : ℕ). spot t r.id) o)) (positioned front back r e)
-          ∙ ap (λ l. Some (of_records target (last n l)))
+          ap (λ o. option_map (λ (p : Point). of_records (last n (filter (is_before p) all))) (option_map (λ (t : ℕ). spot t r.id) o)) (positioned front back r e)
+          ∙ ap (λ l. Some (of_records (last n l)))
           (ap (λ l. filter (λ q. is_lt (on spot_of spot_cmp q r)) l) e ∙ before_it (on_total spot_of spot_total) front r back (subst (λ l. IsStrictlySortedBy (on spot_of spot_cmp) l) e sorted))
 
     -- ---- forward
 
     pub follow_all : (front back : List Record) (r : Record) → all ≡ front ++ r ∷ back → (pages : List (List Record)) → FollowPages changes scope target limit r.id pages → joined pages ≡ back
-    follow_all front back r e [] w = sym (nothing_taken n back some (same_records target _ _ _ (after_page front back r e) w))
+    follow_all front back r e [] w = sym (nothing_taken n back some (same_records _ _ _ (after_page front back r e) w))
     follow_all front back r e (records ∷ pages) w =
-        let same : take n back ≡ records = same_records target _ _ _ (after_page front back r e) w.3 in
+        let same : take n back ≡ records = same_records _ _ _ (after_page front back r e) w.3 in
         let cut : back ≡ w.0 ++ w.1 ∷ drop n back = cut_behind n back w.0 w.1 (same ∙ w.2) in
         let there : all ≡ (front ++ r ∷ w.0) ++ w.1 ∷ drop n back = e ∙ ap (λ l. front ++ r ∷ l) cut ∙ sym (append_assoc front (r ∷ w.0) (w.1 ∷ drop n back)) in
         ap (λ l. records ++ l) (follow_all (front ++ r ∷ w.0) (drop n back) w.1 there pages w.4) ∙ ap (λ l. l ++ drop n back) (sym same) ∙ take-append-drop n back
 
     pub follow_ends : (k : ℕ) (front back : List Record) (r : Record) → length back ≤ k → all ≡ front ++ r ∷ back → (pages : List (List Record)) × FollowPages changes scope target limit r.id pages
     follow_ends zero front back r h e =
-        ([], after_page front back r e ∙ ap (λ l. Some (of_records target l)) (take_none n back (no_length back h)))
+        ([], after_page front back r e ∙ ap (λ l. Some (of_records l)) (take_none n back (no_length back h)))
     follow_ends (suc k) front back r h e = go (λ g b q l d. follow_ends k g b q l d) (with_end (take n back)) where
       go : ((g b : List Record) (q : Record) → length b ≤ k → all ≡ g ++ q ∷ b → (pages : List (List Record)) × FollowPages changes scope target limit q.id pages)
           → ((take n back ≡ []) ⊎ ((f : List Record) × (end : Record) × (take n back ≡ f ++ end ∷ []))) → (pages : List (List Record)) × FollowPages changes scope target limit r.id pages
-      go again (inl none) = ([], after_page front back r e ∙ ap (λ l. Some (of_records target l)) none)
+      go again (inl none) = ([], after_page front back r e ∙ ap (λ l. Some (of_records l)) none)
       go again (inr w) =
           let cut : back ≡ w.0 ++ w.1 ∷ drop n back = cut_behind n back w.0 w.1 w.2 in
           let there : all ≡ (front ++ r ∷ w.0) ++ w.1 ∷ drop n back = e ∙ ap (λ l. front ++ r ∷ l) cut ∙ sym (append_assoc front (r ∷ w.0) (w.1 ∷ drop n back)) in
@@ -138,43 +140,43 @@ module _ (changes : List Change) (scope : Scope) (target : List ℕ) (limit : �
     -- ---- backward
 
     pub precede_all : (front back : List Record) (r : Record) → all ≡ front ++ r ∷ back → (pages : List (List Record)) → PrecedePages changes scope target limit r.id pages → joined (reverse pages) ≡ front
-    precede_all front back r e [] w = sym (nothing_last n front some (same_records target _ _ _ (before_page front back r e) w))
+    precede_all front back r e [] w = sym (nothing_last n front some (same_records _ _ _ (before_page front back r e) w))
     precede_all front back r e (records ∷ pages) w =
         let k = length front - n in
-        let same : drop k front ≡ records = same_records target _ _ _ (before_page front back r e) w.3 in
+        let same : drop k front ≡ records = same_records _ _ _ (before_page front back r e) w.3 in
         let cut : front ≡ take k front ++ w.0 ∷ w.1 = cut_before k front w.1 w.0 (same ∙ w.2) in
         let there : all ≡ take k front ++ w.0 ∷ (w.1 ++ r ∷ back) = e ∙ ap (λ l. l ++ r ∷ back) cut ∙ append_assoc (take k front) (w.0 ∷ w.1) (r ∷ back) in
         joined_reversed records pages ∙ ap (λ l. l ++ records) (precede_all (take k front) (w.1 ++ r ∷ back) w.0 there pages w.4)
         ∙ ap (λ l. take k front ++ l) (sym same) ∙ take-append-drop k front
 
     pub latest_all : (pages : List (List Record)) → LatestPages changes scope target limit pages → joined (reverse pages) ≡ all
-    latest_all [] w = sym (nothing_last n all some (same_records target _ _ _ latest_page w))
+    latest_all [] w = sym (nothing_last n all some (same_records _ _ _ latest_page w))
     latest_all (records ∷ pages) w =
         let k = length all - n in
-        let same : drop k all ≡ records = same_records target _ _ _ latest_page w.3 in
+        let same : drop k all ≡ records = same_records _ _ _ latest_page w.3 in
         let cut : all ≡ take k all ++ w.0 ∷ w.1 = cut_before k all w.1 w.0 (same ∙ w.2) in
         joined_reversed records pages ∙ ap (λ l. l ++ records) (precede_all (take k all) w.1 w.0 cut pages w.4)
         ∙ ap (λ l. take k all ++ l) (sym same) ∙ take-append-drop k all
 
     pub precede_ends : (k : ℕ) (front back : List Record) (r : Record) → length front ≤ k → all ≡ front ++ r ∷ back → (pages : List (List Record)) × PrecedePages changes scope target limit r.id pages
     precede_ends zero front back r h e =
-        ([], before_page front back r e ∙ ap (λ l. Some (of_records target l)) (drop_none (length front - n) front (no_length front h)))
+        ([], before_page front back r e ∙ ap (λ l. Some (of_records l)) (drop_none (length front - n) front (no_length front h)))
     precede_ends (suc k) front back r h e = go (λ g b q l d. precede_ends k g b q l d) (last n front) refl where
       go : ((g b : List Record) (q : Record) → length g ≤ k → all ≡ g ++ q ∷ b → (pages : List (List Record)) × PrecedePages changes scope target limit q.id pages)
           → (records : List Record) → last n front ≡ records → (pages : List (List Record)) × PrecedePages changes scope target limit r.id pages
-      go again [] none = ([], before_page front back r e ∙ ap (λ l. Some (of_records target l)) none)
+      go again [] none = ([], before_page front back r e ∙ ap (λ l. Some (of_records l)) none)
       go again (start ∷ rest) is =
           let j = length front - n in
           let cut : front ≡ take j front ++ start ∷ rest = cut_before j front rest start is in
           let there : all ≡ take j front ++ start ∷ (rest ++ r ∷ back) = e ∙ ap (λ l. l ++ r ∷ back) cut ∙ append_assoc (take j front) (start ∷ rest) (r ∷ back) in
           let more = again (take j front) (rest ++ r ∷ back) start (let l = length-take j front in omega arith) there in
-          ((start ∷ rest) ∷ more.0, (start, rest, refl, before_page front back r e ∙ ap (λ l. Some (of_records target l)) is, more.1))
+          ((start ∷ rest) ∷ more.0, (start, rest, refl, before_page front back r e ∙ ap (λ l. Some (of_records l)) is, more.1))
 
     pub latest_ends : (pages : List (List Record)) × LatestPages changes scope target limit pages
     latest_ends = go (last n all) refl where
       go : (records : List Record) → last n all ≡ records → (pages : List (List Record)) × LatestPages changes scope target limit pages
-      go [] none = ([], latest_page ∙ ap (λ l. Some (of_records target l)) none)
+      go [] none = ([], latest_page ∙ ap (λ l. Some (of_records l)) none)
       go (start ∷ rest) is =
           let cut : all ≡ take (length all - n) all ++ start ∷ rest = cut_before (length all - n) all rest start is in
           let more = precede_ends (length (take (length all - n) all)) (take (length all - n) all) rest start (omega arith) cut in
-          ((start ∷ rest) ∷ more.0, (start, rest, refl, latest_page ∙ ap (λ l. Some (of_records target l)) is, more.1))
+          ((start ∷ rest) ∷ more.0, (start, rest, refl, latest_page ∙ ap (λ l. Some (of_records l)) is, more.1))

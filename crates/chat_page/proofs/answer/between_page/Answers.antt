@@ -1,0 +1,10 @@
+use Rattle.std.proofs.Common.{subst, min}
+use Rattle.std.specs.Option.{option_map}
+use Rattle.chat_state.specs.History.{norm}
+use Rattle.chat_page.specs.Page.{of_records, buffer_of}
+use Rattle.chat_page.specs.Answer.{IsAnswer, between_of}
+use Rattle.chat_page.proofs.answer.between_page.Goals as goal
+
+pub returns : goal.returns
+returns c changes h =
+    rw (← c.in_ok-buffer.ensures.ok, ← c.maximum.ensures, ← c.min-n.ensures) (c.page_of.ensures _ (c.between.ensures changes h))

@@ -1,0 +1,339 @@
+//! Answering queries.
+ghost use Rattle.std.specs.Prelude.{◌≡◌, Some, Ok, Err, IfOk, IfErr, OnErr, Option, List, map, min};
+ghost use Rattle.std.specs.Option.{option_map};
+ghost use Rattle.chat_change.specs.declared.change.Change.{Change};
+ghost use Rattle.chat_state.specs.History.{norm};
+ghost use Rattle.chat_state.specs.Visible.{records_in};
+ghost use Rattle.chat_page.specs.Page as spec;
+ghost use Rattle.chat_page.specs.Answer.{IsAnswer, AreRecords, side_of, between_of};
+
+use crate::listed_buffer::listed_between;
+use crate::pages::{Page, PageFault};
+use crate::place::{Place, over, place_of, under};
+use crate::query::{Query, Selector, Target};
+use crate::scope::Scope;
+use crate::walk::{first_between, last_between};
+use chat_change::{Buffer, ChangeFault, Moment, Record};
+use chat_state::{Cut, Spot, State};
+use std::alloc::{AllocError, Global};
+
+/// Lets a place go.
+fn discard(place: Place) {
+    let _ = place;
+}
+
+/// Which records of a buffer are asked for by one selector.
+#[derive(Clone, Copy)]
+enum Side {
+    /// The last of those after it.
+    LatestAfter,
+    /// The last of those before it.
+    Before,
+    /// The first of those after it.
+    After,
+    /// At most half from before it, and the others from it on.
+    Around,
+}
+
+ghost use Rattle.chat_page.specs.Place.{value_of};
+ghost use Rattle.chat_page.specs.Answer.{side_cut};
+
+/// The records around a place.
+fn around<'a>(
+    alloc: Global,
+    state: &'a State,
+    buffer: &Buffer,
+    place: &Place,
+    n: usize,
+) -> Result<Vec<&'a Record>, AllocError>
+    ensures { (p : spec.Point) → value_of place.now ≡ Some p → IfOk result (λ page.
+        map (λ r. r.now) page.items ≡ spec.around_cut n
+        (records_in state.now.history buffer.now) p) }
+{
+    // The prover is to be shown each type that a cut may hold.
+    let _held: (Option<Moment>, Option<&Spot>) = (None, None);
+    let cut = under(place);
+    let mut page = last_between(alloc, state, buffer, &Cut::Bottom, &cut, n / 2)?;
+    let mut rest = first_between(alloc, state, buffer, &cut, &Cut::Top, n - n / 2)?;
+    page.append(&mut rest)?;
+    Ok(page)
+}
+
+/// The records on a side of a place.
+fn beside<'a>(
+    alloc: Global,
+    state: &'a State,
+    buffer: &Buffer,
+    place: &Place,
+    side: Side,
+    n: usize,
+) -> Result<Vec<&'a Record>, AllocError>
+    ensures { (p : spec.Point) → value_of place.now ≡ Some p → IfOk result (λ page.
+        map (λ r. r.now) page.items ≡ side_cut side n (records_in state.now.history buffer.now) p) }
+{
+    // The prover is to be shown each type that a cut may hold.
+    let _held: (Option<Moment>, Option<&Spot>) = (None, None);
+    match side {
+        Side::LatestAfter => last_between(alloc, state, buffer, &over(place), &Cut::Top, n),
+        Side::Before => last_between(alloc, state, buffer, &Cut::Bottom, &under(place), n),
+        Side::After => first_between(alloc, state, buffer, &over(place), &Cut::Top, n),
+        Side::Around => around(alloc, state, buffer, place, n),
+    }
+}
+
+/// The records between two places.
+fn between_places<'a>(
+    alloc: Global,
+    state: &'a State,
+    buffer: &Buffer,
+    one: &Place,
+    other: &Place,
+    n: usize,
+) -> Result<Vec<&'a Record>, AllocError>
+    ensures { (p q : spec.Point) → value_of one.now ≡ Some p → value_of other.now ≡ Some q
+        → IfOk result (λ page.
+        map (λ r. r.now) page.items ≡ spec.between_cut n
+        (records_in state.now.history buffer.now) p q) }
+{
+    // The prover is to be shown each type that a cut may hold.
+    let _held: (Option<Moment>, Option<&Spot>) = (None, None);
+    let rising = first_between(alloc, state, buffer, &over(one), &under(other), n)?;
+    if rising.is_empty() {
+        last_between(alloc, state, buffer, &over(other), &under(one), n)
+    } else {
+        Ok(rising)
+    }
+}
+
+fn or_no_memory<'a>(
+    found: Result<Vec<&'a Record>, AllocError>,
+) -> Result<Vec<&'a Record>, PageFault>
+    ensures ok { IfOk found.entry (λ records. result ≡ Ok records) }
+    ensures err { OnErr found.entry (result ≡ Err PageFault.NoMemory) }
+{
+    match found {
+        Ok(records) => Ok(records),
+        Err(_) => Err(PageFault::NoMemory),
+    }
+}
+
+/// The records on a side of a selector.
+fn selected<'a>(
+    alloc: Global,
+    state: &'a State,
+    buffer: &Buffer,
+    selector: &Selector<'_>,
+    side: Side,
+    n: usize,
+) -> Result<Vec<&'a Record>, PageFault>
+    ensures { (changes : List Change) → state.now.history ≡ norm changes
+        → AreRecords (side_of (norm changes) buffer.now selector.now side n) result }
+{
+    let place = place_of(alloc, state, buffer, selector)?;
+    let found = beside(alloc, state, buffer, &place, side, n);
+    discard(place);
+    or_no_memory(found)
+}
+
+/// The records between two selectors.
+fn between<'a>(
+    alloc: Global,
+    state: &'a State,
+    buffer: &Buffer,
+    one: &Selector<'_>,
+    other: &Selector<'_>,
+    n: usize,
+) -> Result<Vec<&'a Record>, PageFault>
+    ensures { (changes : List Change) → state.now.history ≡ norm changes
+        → AreRecords (between_of (norm changes) buffer.now one.now other.now n) result }
+{
+    let place = place_of(alloc, state, buffer, one)?;
+    let place_after = match place_of(alloc, state, buffer, other) {
+        Ok(found) => found,
+        Err(fault) => {
+            discard(place);
+            return Err(fault);
+        }
+    };
+    let found = between_places(alloc, state, buffer, &place, &place_after, n);
+    discard(place);
+    discard(place_after);
+    or_no_memory(found)
+}
+
+/// The buffer of a scope and a target.
+fn buffer_of(alloc: Global, scope: &Scope<'_>, target: &Target<'_>) -> Result<Buffer, PageFault>
+    ensures ok { IfOk result (λ buffer. buffer ≡ spec.buffer_of scope.now target.now) }
+    ensures err { IfErr result (λ fault. fault ≡ PageFault.NoMemory) }
+{
+    match Buffer::new(alloc, scope.account(), scope.network(), target.given()) {
+        Ok(buffer) => Ok(buffer),
+        // Names and targets are lawful by their types.
+        Err(_) => Err(PageFault::NoMemory),
+    }
+}
+
+/// The page of those records, if there are any.
+fn page_of<'a>(found: Result<Vec<&'a Record>, PageFault>) -> Result<Page<'a>, PageFault>
+    ensures { (wanted : Option (List Record)) → AreRecords wanted found.entry → IsAnswer
+        (option_map spec.of_records wanted) result }
+{
+    match found {
+        Ok(records) => Ok(Page::Records(records)),
+        Err(fault) => Err(fault),
+    }
+}
+
+/// A page of one selector.
+fn selected_page<'a>(
+    alloc: Global,
+    state: &'a State,
+    scope: &Scope<'_>,
+    target: &Target<'_>,
+    selector: &Selector<'_>,
+    side: Side,
+    limit: usize,
+) -> Result<Page<'a>, PageFault>
+    ensures { (changes : List Change) → state.now.history ≡ norm changes
+        → IsAnswer (option_map spec.of_records (side_of (norm changes)
+        (spec.buffer_of scope.now target.now) selector.now side
+        (min limit scope.now.maximum))) result }
+{
+    let buffer = buffer_of(alloc, scope, target)?;
+    let n = limit.min(scope.maximum());
+    page_of(selected(alloc, state, &buffer, selector, side, n))
+}
+
+/// A page between two selectors.
+fn between_page<'a>(
+    alloc: Global,
+    state: &'a State,
+    scope: &Scope<'_>,
+    target: &Target<'_>,
+    one: &Selector<'_>,
+    other: &Selector<'_>,
+    limit: usize,
+) -> Result<Page<'a>, PageFault>
+    ensures { (changes : List Change) → state.now.history ≡ norm changes
+        → IsAnswer (option_map spec.of_records (between_of (norm changes)
+        (spec.buffer_of scope.now target.now) one.now other.now
+        (min limit scope.now.maximum))) result }
+{
+    let buffer = buffer_of(alloc, scope, target)?;
+    let n = limit.min(scope.maximum());
+    page_of(between(alloc, state, &buffer, one, other, n))
+}
+
+/// The page of the latest records.
+fn latest_page<'a>(
+    alloc: Global,
+    state: &'a State,
+    scope: &Scope<'_>,
+    target: &Target<'_>,
+    limit: usize,
+) -> Result<Page<'a>, PageFault>
+    ensures { IsAnswer (Some (spec.of_records (spec.last (min limit scope.now.maximum)
+        (records_in state.now.history (spec.buffer_of scope.now target.now))))) result }
+{
+    let buffer = buffer_of(alloc, scope, target)?;
+    // The prover is to be shown each type that a cut may hold.
+    let _held: (Option<Moment>, Option<&Spot>) = (None, None);
+    let n = limit.min(scope.maximum());
+    match last_between(alloc, state, &buffer, &Cut::Bottom, &Cut::Top, n) {
+        Ok(records) => Ok(Page::Records(records)),
+        Err(_) => Err(PageFault::NoMemory),
+    }
+}
+
+/// The page of LATEST.
+fn latest_or_after<'a>(
+    alloc: Global,
+    state: &'a State,
+    scope: &Scope<'_>,
+    target: &Target<'_>,
+    after: &Option<Selector<'_>>,
+    limit: usize,
+) -> Result<Page<'a>, PageFault>
+    ensures { (changes : List Change) → state.now.history ≡ norm changes
+        → IsAnswer (spec.page changes scope.now (Query.Latest target.now after.now limit)) result }
+{
+    match after {
+        None => latest_page(alloc, state, scope, target, limit),
+        Some(selector) => selected_page(
+            alloc,
+            state,
+            scope,
+            target,
+            selector,
+            Side::LatestAfter,
+            limit,
+        ),
+    }
+}
+
+/// The page of a list of buffers.
+fn targets_page<'a>(
+    alloc: Global,
+    state: &'a State,
+    scope: &Scope<'_>,
+    one: Moment,
+    other: Moment,
+    limit: usize,
+) -> Result<Page<'a>, PageFault>
+    ensures { IsAnswer (Some (spec.of_buffers (spec.targets_cut
+        (min limit scope.now.maximum) one other
+        (spec.buffers_in state.now.history scope.now)))) result }
+{
+    let n = limit.min(scope.maximum());
+    match listed_between(alloc, state, scope, one, other, n) {
+        Ok(buffers) => Ok(Page::Buffers(buffers)),
+        Err(_) => Err(PageFault::NoMemory),
+    }
+}
+
+/// The page that answers a query (IRCv3 draft/chathistory, "Subcommands"): at most as many records or buffers as the lower
+/// one of its limit and the scope's maximum. The page lends what the state holds and copies no record.
+///
+/// Refused with [`PageFault::UnknownMessage`] where a selector names a message for which the buffer has no position: a
+/// redacted one has its position still. Else with [`PageFault::NoMemory`] for want of memory.
+pub fn page<'a>(
+    alloc: Global,
+    state: &'a State,
+    scope: &Scope<'_>,
+    query: &Query<'_>,
+) -> Result<Page<'a>, PageFault>
+    ensures { (changes : List Change) → state.now.history ≡ norm changes
+        → IsAnswer (spec.page changes scope.now query.now) result }
+{
+    match query {
+        Query::Latest {
+            target,
+            after,
+            limit,
+        } => latest_or_after(alloc, state, scope, target, after, *limit),
+        Query::Before {
+            target,
+            selector,
+            limit,
+        } => selected_page(alloc, state, scope, target, selector, Side::Before, *limit),
+        Query::After {
+            target,
+            selector,
+            limit,
+        } => selected_page(alloc, state, scope, target, selector, Side::After, *limit),
+        Query::Around {
+            target,
+            selector,
+            limit,
+        } => selected_page(alloc, state, scope, target, selector, Side::Around, *limit),
+        Query::Between {
+            target,
+            one,
+            other,
+            limit,
+        } => between_page(alloc, state, scope, target, one, other, *limit),
+        Query::Targets { one, other, limit } => {
+            targets_page(alloc, state, scope, *one, *other, *limit)
+        }
+    }
+}

@@ -1,0 +1,180 @@
+//! Lists of buffers.
+ghost use Rattle.std.specs.Prelude.{◌≡◌, IfOk, filter, length};
+ghost use Rattle.std.specs.Iterator.{at_most};
+ghost use Rattle.std.specs.Map.Iter.{TakesFirst};
+ghost use Rattle.std.proofs.Common.{rules};
+ghost use Rattle.std.specs.Cmp.Rules.{comparing};
+ghost use Rattle.std.specs.Ordering.{as_partial_cmp, eq_by_cmp};
+ghost use Rattle.chat_state.specs.Visible.{spot_cmp};
+ghost use Rattle.chat_page.specs.ListedBuffer.{listed_total};
+ghost use Rattle.chat_page.specs.Page.{buffers_in, lies_between, targets_cut};
+
+use crate::scope::Scope;
+use chat_change::Moment;
+use chat_state::{Latest, State};
+use std::alloc::{AllocError, Global};
+use std::cmp::Ordering;
+use std::collections::BTreeSet;
+use std::marker::Model;
+
+/// A buffer of a list of buffers: its folded target and the moment of its latest message, by which such lists are ordered.
+/// Contracts see the pair of moment and target.
+#[derive(Drop)]
+pub struct ListedBuffer<'a> {
+    at: Moment,
+    target: &'a [u8],
+}
+
+impl<'a> Model for ListedBuffer<'a> {
+    ghost use Rattle.std.specs.Prelude.{ℕ, List};
+
+    ghost Value = { ℕ × List ℕ };
+
+    ghost view = { λ b. (b.at, b.target.now) };
+}
+
+impl<'a> ListedBuffer<'a> {
+    /// The buffer of a target whose latest message is of that moment.
+    pub fn new(target: &'a [u8], at: Moment) -> ListedBuffer<'a>
+        ensures { result ≡ (at, target.now) }
+    {
+        ListedBuffer { at, target }
+    }
+
+    /// The moment of the latest message.
+    pub fn at(&self) -> Moment
+        ensures { result ≡ self.now.0 }
+    {
+        self.at
+    }
+
+    /// The folded target.
+    pub fn target(&self) -> &'a [u8]
+        ensures { result.now ≡ self.now.1 }
+    {
+        self.target
+    }
+
+    // How two of them compare: by moment, and at equal moments by target, byte by byte.
+    fn order(&self, other: &ListedBuffer<'_>) -> Ordering
+        ensures { result ≡ spot_cmp self.now other.now }
+    {
+        let target = self.target.cmp(other.target);
+        self.at.ms().cmp(&other.at.ms()).then(target)
+    }
+}
+
+impl<'a> PartialEq for ListedBuffer<'a> {
+    ghost eq = { eq_by_cmp spot_cmp };
+
+    ghost laws = { Prim.search (comparing, listed_total, rules) };
+
+    fn eq(&self, other: &ListedBuffer<'a>) -> bool {
+        self.order(other).is_eq()
+    }
+}
+
+impl<'a> Eq for ListedBuffer<'a> {
+    ghost laws = { Prim.search (comparing, listed_total, rules) };
+}
+
+impl<'a> PartialOrd for ListedBuffer<'a> {
+    ghost partial_cmp = { as_partial_cmp spot_cmp };
+
+    ghost laws = { Prim.search (comparing, listed_total, rules) };
+
+    fn partial_cmp(&self, other: &ListedBuffer<'a>) -> Option<Ordering> {
+        Some(self.cmp(other))
+    }
+}
+
+impl<'a> Ord for ListedBuffer<'a> {
+    ghost cmp = { spot_cmp };
+
+    ghost total = { Prim.search (comparing, listed_total, rules) };
+
+    ghost matches_partial_cmp = { Prim.search (comparing, rules) };
+
+    ghost matches_eq = { Prim.search (comparing, rules) };
+
+    fn cmp(&self, other: &ListedBuffer<'a>) -> Ordering {
+        self.order(other)
+    }
+}
+
+/// The buffers of a network as they are listed. It is seen as the list of what is left.
+#[derive(Drop)]
+struct Listing<'a> {
+    latest: Latest<'a>,
+}
+
+impl<'a> Model for Listing<'a> {
+    ghost use Rattle.std.specs.Prelude.{ℕ, List};
+    ghost use Rattle.chat_page.specs.Page.{listed};
+
+    ghost Value = { List (ℕ × List ℕ) };
+
+    ghost view = { λ l. listed l.latest };
+}
+
+impl<'a> Iterator for Listing<'a> {
+    type Item = ListedBuffer<'a>;
+
+    ghost next_gives = { TakesFirst (λ b. b) };
+
+    ghost remaining = { λ s. at_most (length s) };
+
+    fn next(&mut self) -> Option<ListedBuffer<'a>> {
+        match self.latest.next() {
+            Some((buffer, at)) => Some(ListedBuffer::new(buffer.target(), at)),
+            None => None,
+        }
+    }
+}
+
+fn lies_between(one: Moment, other: Moment, buffer: &ListedBuffer<'_>) -> bool
+    ensures { result ≡ lies_between one other buffer.now }
+{
+    let low = one.ms().min(other.ms());
+    let high = one.ms().max(other.ms());
+    low < buffer.at.ms() && buffer.at.ms() < high
+}
+
+/// The buffers of a scope whose latest visible records lie strictly between two moments, in their order.
+fn found_between<'a>(
+    alloc: Global,
+    state: &'a State,
+    scope: &Scope<'_>,
+    one: Moment,
+    other: Moment,
+) -> Result<BTreeSet<ListedBuffer<'a>>, AllocError>
+    ensures { IfOk result (λ found. found.keys ≡ filter (lies_between one other)
+        (buffers_in state.now.history scope.now)) }
+{
+    let latest = state.latest(scope.account(), scope.network());
+    Listing { latest }
+        .filter(|buffer| lies_between(one, other, buffer))
+        .collect(alloc)
+}
+
+/// The first `n` of the buffers whose latest visible records lie strictly between two moments, and the last `n` where the
+/// first moment is not the lower one.
+pub(crate) fn listed_between<'a>(
+    alloc: Global,
+    state: &'a State,
+    scope: &Scope<'_>,
+    one: Moment,
+    other: Moment,
+    n: usize,
+) -> Result<Vec<ListedBuffer<'a>>, AllocError>
+    ensures { IfOk result (λ page. page.items ≡ targets_cut n one other
+        (buffers_in state.now.history scope.now)) }
+{
+    let found = found_between(alloc, state, scope, one, other)?;
+    if one.ms() < other.ms() {
+        found.into_iter().take(n).collect(alloc)
+    } else {
+        let skipped = found.len().saturating_sub(n);
+        found.into_iter().skip(skipped).collect(alloc)
+    }
+}

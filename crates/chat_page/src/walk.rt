@@ -1,0 +1,101 @@
+//! Walks between two cuts of a buffer, which look at no more records than they answer, and one more.
+ghost use Rattle.std.specs.Prelude.{◌≡◌, IfOk, map, take, reverse};
+ghost use Rattle.chat_state.specs.Cut.{cut_cmp, of_record, is_after as is_after_cut, after as after_cut, before as before_cut};
+ghost use Rattle.chat_state.specs.Visible.{records_in};
+ghost use Rattle.chat_page.specs.Cuts.{between_cuts};
+ghost use Rattle.chat_page.specs.Page.{last};
+
+use chat_change::{Buffer, Record};
+use chat_state::{Cut, Down, Spot, State, Up};
+use std::alloc::{AllocError, Global};
+use std::cmp::Ordering;
+
+/// How a spot and the place of a record compare.
+fn order_to(spot: &Spot, record: &Record) -> Ordering
+    ensures { result ≡ cut_cmp spot.now (of_record record.now) }
+{
+    let id = match &spot.id {
+        None => Ordering::Less,
+        Some(id) => id.cmp(record.id()),
+    };
+    spot.at.ms().cmp(&record.at().ms()).then(id)
+}
+
+/// Whether a record stands above a cut.
+pub(crate) fn is_after_cut(cut: &Cut<'_>, record: &Record) -> bool
+    ensures { result ≡ is_after_cut cut.now record.now }
+{
+    match cut {
+        Cut::Bottom => true,
+        Cut::UnderTime(at) => at.ms() <= record.at().ms(),
+        Cut::OverTime(at) => at.ms() < record.at().ms(),
+        Cut::UnderMsg(spot) => order_to(spot, record).is_le(),
+        Cut::OverMsg(spot) => order_to(spot, record).is_lt(),
+        Cut::Top => false,
+    }
+}
+
+// The borrow checker doesn't cover `*cut`, of an enum that holds a reference.
+fn up<'a>(state: &'a State, buffer: &Buffer, cut: &Cut<'_>) -> Up<'a>
+    ensures { result ≡ after_cut cut.now (records_in state.now.history buffer.now) }
+{
+    match cut {
+        Cut::Bottom => state.up(buffer, Cut::Bottom),
+        Cut::UnderTime(at) => state.up(buffer, Cut::UnderTime(*at)),
+        Cut::OverTime(at) => state.up(buffer, Cut::OverTime(*at)),
+        Cut::UnderMsg(spot) => state.up(buffer, Cut::UnderMsg(spot)),
+        Cut::OverMsg(spot) => state.up(buffer, Cut::OverMsg(spot)),
+        Cut::Top => state.up(buffer, Cut::Top),
+    }
+}
+
+fn down<'a>(state: &'a State, buffer: &Buffer, cut: &Cut<'_>) -> Down<'a>
+    ensures { result ≡ reverse (before_cut cut.now (records_in state.now.history buffer.now)) }
+{
+    match cut {
+        Cut::Bottom => state.down(buffer, Cut::Bottom),
+        Cut::UnderTime(at) => state.down(buffer, Cut::UnderTime(*at)),
+        Cut::OverTime(at) => state.down(buffer, Cut::OverTime(*at)),
+        Cut::UnderMsg(spot) => state.down(buffer, Cut::UnderMsg(spot)),
+        Cut::OverMsg(spot) => state.down(buffer, Cut::OverMsg(spot)),
+        Cut::Top => state.down(buffer, Cut::Top),
+    }
+}
+
+/// The first `n` of the records above the one cut and below the other.
+pub(crate) fn first_between<'a>(
+    alloc: Global,
+    state: &'a State,
+    buffer: &Buffer,
+    low: &Cut<'_>,
+    high: &Cut<'_>,
+    n: usize,
+) -> Result<Vec<&'a Record>, AllocError>
+    ensures { IfOk result (λ page. map (λ r. r.now) page.items
+        ≡ take n (between_cuts low.now high.now (records_in state.now.history buffer.now))) }
+{
+    up(state, buffer, low)
+        .take_while(|record| !is_after_cut(high, record))
+        .take(n)
+        .collect(alloc)
+}
+
+/// The last `n` of the records above the one cut and below the other.
+pub(crate) fn last_between<'a>(
+    alloc: Global,
+    state: &'a State,
+    buffer: &Buffer,
+    low: &Cut<'_>,
+    high: &Cut<'_>,
+    n: usize,
+) -> Result<Vec<&'a Record>, AllocError>
+    ensures { IfOk result (λ page. map (λ r. r.now) page.items
+        ≡ last n (between_cuts low.now high.now (records_in state.now.history buffer.now))) }
+{
+    let mut page: Vec<&'a Record> = down(state, buffer, high)
+        .take_while(|record| is_after_cut(low, record))
+        .take(n)
+        .collect(alloc)?;
+    page.reverse();
+    Ok(page)
+}
