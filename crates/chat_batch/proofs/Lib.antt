@@ -1,2 +1,2 @@
-pub mod TagLaws
-pub mod Texts
+mod TagLemmas
+mod Texts

@@ -2,10 +2,10 @@
 use Rattle.std.specs.Prelude.{ℕ, List, [], ◌∷◌, ◌++◌, codes, None, if◌then◌else◌}
 use Rattle.std.specs.List.{flat_map}
 use Rattle.irc_caps.specs.declared.CapSet.{CapSet}
-use Rattle.irc_time.specs.Written.{time_text}
+use Rattle.irc_time.specs.Text.{time_text}
 use Rattle.chat_change.specs.Record.{Record}
 use Rattle.chat_page.specs.Page.{Page, of_records, of_buffers}
-use Rattle.chat_batch.specs.Reply.{ending, reply}
+use Rattle.irc_reply.specs.Reply.{ending, reply}
 use Rattle.chat_batch.specs.Tags.{tag_part, batch_tags}
 use Rattle.chat_batch.specs.Message.{record_text}
 
@@ -47,5 +47,5 @@ targets_text caps cluster reference buffers =
     batch_text caps cluster reference (codes " draft/chathistory-targets") (buffers_text caps cluster reference buffers)
 
 abbrev pub page_text : CapSet → List ℕ → List ℕ → List ℕ → Page → List ℕ
-page_text caps cluster reference given (of_records target records) = history_text caps cluster reference given records
+page_text caps cluster reference given (of_records records) = history_text caps cluster reference given records
 page_text caps cluster reference given (of_buffers buffers) = targets_text caps cluster reference buffers

@@ -1,5 +1,6 @@
-pub mod Reply
+-- what a reader must believe: the tags, lines and batches that are written
 pub mod Tags
 pub mod Message
 pub mod Batch
-pub mod Latest
+-- what only the proofs use of the code: the value behind a listed buffer
+pub mod ListedBuffer

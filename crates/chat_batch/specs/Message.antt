@@ -2,12 +2,13 @@
 use Rattle.std.specs.Prelude.{ℕ, List, [], ◌∷◌, ◌++◌, None, Some}
 use Rattle.irc_caps.specs.declared.CapSet.{CapSet}
 use Rattle.irc_line.specs.Text.{line_text}
-use Rattle.chat_change.specs.Record.{Record, kind_word}
+use Rattle.chat_change.specs.Record.{Record}
+use Rattle.chat_change.specs.Message.{kind_word}
 use Rattle.chat_batch.specs.Tags.{tag_part, batch_tags, message_tags}
 
 -- the message as it was sent
 abbrev pub message_line : Record → List ℕ
-message_line r = line_text (record { tags = None; source = Some r.source; command = kind_word r.kind; middles = r.target ∷ []; trailing = Some r.body })
+message_line r = line_text (record { tags = None; source = Some r.message.source; command = kind_word r.message.kind; middles = r.message.target ∷ []; trailing = Some r.message.body })
 
 -- a record in a batch under that reference
 abbrev pub record_text : CapSet → List ℕ → Record → List ℕ

@@ -1,8 +1,8 @@
 -- The tags of the lines that are written (IRCv3 message-tags, "Format").
 use Rattle.std.specs.Prelude.{ℕ, Bool, List, [], ◌∷◌, ◌++◌, codes, if◌then◌else◌}
 use Rattle.irc_caps.specs.declared.CapSet.{CapSet}
-use Rattle.irc_tags.specs.Escape.{escaped}
-use Rattle.irc_time.specs.Written.{time_text}
+use Rattle.irc_tags.specs.Value.{value_text}
+use Rattle.irc_time.specs.Text.{time_text}
 use Rattle.chat_change.specs.Record.{Record}
 
 -- tags as they stand before a line: `@`, the tags with `;` between them, and a space. No tags are nothing.
@@ -23,4 +23,14 @@ batch_tags caps reference = only_if caps.batch (codes "batch=" ++ reference)
 
 -- the tags of a message: its id (IRCv3 message-ids) and its moment (IRCv3 server-time)
 abbrev pub message_tags : CapSet → Record → List (List ℕ)
-message_tags caps r = only_if caps.message_tags (codes "msgid=" ++ escaped r.id) ++ only_if caps.server_time (codes "time=" ++ time_text r.at)
+message_tags caps r = only_if caps.message_tags (codes "msgid=" ++ value_text r.id) ++ only_if caps.server_time (codes "time=" ++ time_text r.at)
+
+-- ---- one tag after another
+
+-- what stands before a tag
+abbrev pub separator : Bool → List ℕ
+separator begun = if begun then codes ";" else codes "@"
+
+-- the next tag, if there is one: `begun` says that a tag stands before it
+abbrev pub next_tag : Bool → Bool → List ℕ → List ℕ
+next_tag begun flag tag = if flag then separator begun ++ tag else []

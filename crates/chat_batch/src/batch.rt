@@ -1,13 +1,13 @@
 //! Batches (IRCv3 batch).
 ghost use Rattle.std.specs.Prelude.{◌++◌, [], map, codes, if◌then◌else◌};
 ghost use Rattle.output.specs.Writes.{Writes};
-ghost use Rattle.chat_batch.specs.Reply.{ending};
+ghost use Rattle.irc_reply.specs.Reply.{ending};
 
 use super::message::put_record;
-use super::reply::write_reply;
 use super::tags::put_three;
 use chat_change::{Moment, Record};
 use irc_caps::CapSet;
+use irc_reply::write_reply;
 use irc_time::write_time;
 use output::put;
 use std::io;
@@ -15,7 +15,7 @@ use std::io::Write;
 
 /// A buffer of a list of buffers.
 #[derive(Clone, Copy)]
-pub struct Latest<'a> {
+pub struct ListedBuffer<'a> {
     /// The folded target.
     pub target: &'a [u8],
     /// The moment of the latest message.
@@ -23,7 +23,7 @@ pub struct Latest<'a> {
 }
 
 ghost use Rattle.chat_batch.specs.Batch.{batch_start, opening, closing, records_text, history_text, buffer_text, buffers_text, targets_text};
-ghost use Rattle.chat_batch.specs.Latest.{latest_of};
+ghost use Rattle.chat_batch.specs.ListedBuffer.{value_of};
 
 fn put_records<W: Write>(
     records: &[&Record],
@@ -31,7 +31,7 @@ fn put_records<W: Write>(
     reference: &[u8],
     writer: &mut W,
 ) -> io::Result<()>
-    ensures { Writes (W.contents writer.old) (W.contents writer.new) result
+    ensures { Writes W.contents writer.old writer.new result
         (records_text caps reference.now (map (λ r. r.now) records.now)) }
 {
     for record in records {
@@ -47,7 +47,8 @@ fn put_start<W: Write>(
     sign: &[u8],
     reference: &[u8],
 ) -> io::Result<()>
-    ensures { Writes (W.contents writer.old) (W.contents writer.new) result (batch_start cluster.now sign.now reference.now) }
+    ensures { Writes W.contents writer.old writer.new result
+        (batch_start cluster.now sign.now reference.now) }
 {
     put(writer, b":")?;
     put(writer, cluster)?;
@@ -55,16 +56,17 @@ fn put_start<W: Write>(
     put(writer, reference)
 }
 
-fn put_pair<W: Write>(writer: &mut W, front: &[u8], text: &[u8]) -> io::Result<()>
-    ensures { Writes (W.contents writer.old) (W.contents writer.new) result (front.now ++ text.now) }
+fn put_pair<W: Write>(writer: &mut W, prefix: &[u8], text: &[u8]) -> io::Result<()>
+    ensures { Writes W.contents writer.old writer.new result (prefix.now ++ text.now) }
 {
-    put(writer, front)?;
+    put(writer, prefix)?;
     put(writer, text)
 }
 
 /// Writes the type of a batch, with its parameter, and the ending of the line.
 fn put_kind<W: Write>(writer: &mut W, kind: &[u8], parameter: &[u8]) -> io::Result<()>
-    ensures { Writes (W.contents writer.old) (W.contents writer.new) result ((kind.now ++ parameter.now) ++ ending) }
+    ensures { Writes W.contents writer.old writer.new result
+        ((kind.now ++ parameter.now) ++ ending) }
 {
     put_pair(writer, kind, parameter)?;
     put(writer, b"\r\n")
@@ -77,7 +79,7 @@ fn put_open_line<W: Write>(
     kind: &[u8],
     parameter: &[u8],
 ) -> io::Result<()>
-    ensures { Writes (W.contents writer.old) (W.contents writer.new) result
+    ensures { Writes W.contents writer.old writer.new result
         (opening cluster.now reference.now (kind.now ++ parameter.now)) }
 {
     put_start(writer, cluster, b" BATCH +", reference)?;
@@ -93,7 +95,7 @@ fn put_open<W: Write>(
     kind: &[u8],
     parameter: &[u8],
 ) -> io::Result<()>
-    ensures { Writes (W.contents writer.old) (W.contents writer.new) result
+    ensures { Writes W.contents writer.old writer.new result
         (if flag then opening cluster.now reference.now (kind.now ++ parameter.now) else []) }
 {
     if flag {
@@ -104,7 +106,7 @@ fn put_open<W: Write>(
 }
 
 fn put_close_line<W: Write>(writer: &mut W, cluster: &[u8], reference: &[u8]) -> io::Result<()>
-    ensures { Writes (W.contents writer.old) (W.contents writer.new) result (closing cluster.now reference.now) }
+    ensures { Writes W.contents writer.old writer.new result (closing cluster.now reference.now) }
 {
     put_start(writer, cluster, b" BATCH -", reference)?;
     put(writer, b"\r\n")
@@ -117,7 +119,7 @@ fn put_close<W: Write>(
     cluster: &[u8],
     reference: &[u8],
 ) -> io::Result<()>
-    ensures { Writes (W.contents writer.old) (W.contents writer.new) result
+    ensures { Writes W.contents writer.old writer.new result
         (if flag then closing cluster.now reference.now else []) }
 {
     if flag {
@@ -129,7 +131,7 @@ fn put_close<W: Write>(
 
 /// Writes the tag `batch` and the space behind it, where the flag is set.
 fn put_batch_tag<W: Write>(writer: &mut W, flag: bool, reference: &[u8]) -> io::Result<()>
-    ensures { Writes (W.contents writer.old) (W.contents writer.new) result
+    ensures { Writes W.contents writer.old writer.new result
         (if flag then codes "@batch=" ++ (reference.now ++ codes " ") else []) }
 {
     if flag {
@@ -145,10 +147,10 @@ fn put_buffer<W: Write>(
     caps: CapSet,
     cluster: &[u8],
     reference: &[u8],
-    buffer: &Latest<'_>,
+    buffer: &ListedBuffer<'_>,
 ) -> io::Result<()>
-    ensures { Writes (W.contents writer.old) (W.contents writer.new) result
-        (buffer_text caps cluster.now reference.now (latest_of buffer.now)) }
+    ensures { Writes W.contents writer.old writer.new result
+        (buffer_text caps cluster.now reference.now (value_of buffer.now)) }
 {
     put_batch_tag(writer, caps.batch, reference)?;
     let at = write_time(buffer.at);
@@ -161,10 +163,10 @@ fn put_buffers<W: Write>(
     caps: CapSet,
     cluster: &[u8],
     reference: &[u8],
-    buffers: &[Latest<'_>],
+    buffers: &[ListedBuffer<'_>],
 ) -> io::Result<()>
-    ensures { Writes (W.contents writer.old) (W.contents writer.new) result
-        (buffers_text caps cluster.now reference.now (map latest_of buffers.now)) }
+    ensures { Writes W.contents writer.old writer.new result
+        (buffers_text caps cluster.now reference.now (map value_of buffers.now)) }
 {
     for buffer in buffers {
         put_buffer(writer, caps, cluster, reference, buffer)?;
@@ -184,7 +186,7 @@ pub fn write_page<W: Write>(
     reference: &[u8],
     writer: &mut W,
 ) -> io::Result<()>
-    ensures { Writes (W.contents writer.old) (W.contents writer.new) result
+    ensures { Writes W.contents writer.old writer.new result
         (history_text caps cluster.now reference.now given.now (map (λ r. r.now) records.now)) }
 {
     put_open(
@@ -204,14 +206,14 @@ pub fn write_page<W: Write>(
 /// buffer in the order of the list, tagged with the reference, and the line `:cluster BATCH -reference`. A session
 /// without the capability `batch` gets the lines of the buffers alone, without that tag. Fails where the writer fails.
 pub fn write_targets<W: Write>(
-    buffers: &[Latest<'_>],
+    buffers: &[ListedBuffer<'_>],
     caps: CapSet,
     cluster: &[u8],
     reference: &[u8],
     writer: &mut W,
 ) -> io::Result<()>
-    ensures { Writes (W.contents writer.old) (W.contents writer.new) result
-        (targets_text caps cluster.now reference.now (map latest_of buffers.now)) }
+    ensures { Writes W.contents writer.old writer.new result
+        (targets_text caps cluster.now reference.now (map value_of buffers.now)) }
 {
     put_open(
         writer,

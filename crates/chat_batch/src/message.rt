@@ -11,7 +11,7 @@ use std::io::Write;
 
 /// Writes a message as it was sent.
 fn put_message<W: Write>(writer: &mut W, message: &Record) -> io::Result<()>
-    ensures { Writes (W.contents writer.old) (W.contents writer.new) result (message_line message.now) }
+    ensures { Writes W.contents writer.old writer.new result (message_line message.now) }
 {
     let middles = [message.target()];
     let line = OutLine {
@@ -31,7 +31,8 @@ pub(crate) fn put_record<W: Write>(
     reference: &[u8],
     writer: &mut W,
 ) -> io::Result<()>
-    ensures { Writes (W.contents writer.old) (W.contents writer.new) result (record_text caps reference.now message.now) }
+    ensures { Writes W.contents writer.old writer.new result
+        (record_text caps reference.now message.now) }
 {
     put_tags(writer, caps, reference, message)?;
     put_message(writer, message)
@@ -40,7 +41,7 @@ pub(crate) fn put_record<W: Write>(
 /// Writes a record as it comes, without a batch: the line `:source KIND target :body`, with the tags `msgid` and `time`
 /// for a session that holds `message-tags` and `server-time`. Fails where the writer fails.
 pub fn write_live<W: Write>(message: &Record, caps: &CapSet, writer: &mut W) -> io::Result<()>
-    ensures { Writes (W.contents writer.old) (W.contents writer.new) result (live_text caps.now message.now) }
+    ensures { Writes W.contents writer.old writer.new result (live_text caps.now message.now) }
 {
     let unbatched = CapSet {
         batch: false,

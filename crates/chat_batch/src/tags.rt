@@ -1,37 +1,16 @@
 //! The tags of a message (IRCv3 message-tags), each written only where the session has its capability.
-ghost use Rattle.std.specs.Prelude.{◌≡◌, ◌++◌, [], ◌||◌, codes, if◌then◌else◌};
+ghost use Rattle.std.specs.Prelude.{◌≡◌, ◌++◌, ◌||◌, [], codes, if◌then◌else◌, OnOk};
 ghost use Rattle.output.specs.Writes.{Writes};
-ghost use Rattle.irc_tags.specs.Escape.{escaped};
-ghost use Rattle.irc_time.specs.Written.{time_text};
-ghost use Rattle.chat_batch.specs.Tags.{tag_part, batch_tags, message_tags};
+ghost use Rattle.irc_tags.specs.Value.{value_text};
+ghost use Rattle.chat_batch.specs.Tags.{next_tag, tag_part, batch_tags, message_tags, separator};
 
-use chat_change::{Moment, MsgId, Record};
+use chat_change::Record;
 use irc_caps::CapSet;
 use irc_tags::write_value;
 use irc_time::write_time;
 use output::put;
 use std::io;
 use std::io::Write;
-
-/// Writes a text where the flag is set.
-fn put_if<W: Write>(writer: &mut W, flag: bool, text: &[u8]) -> io::Result<()>
-    ensures { Writes (W.contents writer.old) (W.contents writer.new) result (if flag then text.now else []) }
-{
-    if flag { put(writer, text) } else { Ok(()) }
-}
-
-fn either(a: bool, b: bool) -> bool
-    ensures { result ≡ (a || b) }
-{
-    a || b
-}
-
-/// What stands before a tag: `@` before the first, `;` before a later one.
-fn separator(later: bool) -> &'static [u8]
-    ensures { result.now ≡ (if later then codes ";" else codes "@") }
-{
-    if later { b";" } else { b"@" }
-}
 
 /// Writes three texts in turn.
 pub(crate) fn put_three<W: Write>(
@@ -40,59 +19,95 @@ pub(crate) fn put_three<W: Write>(
     second: &[u8],
     third: &[u8],
 ) -> io::Result<()>
-    ensures { Writes (W.contents writer.old) (W.contents writer.new) result (first.now ++ (second.now ++ third.now)) }
+    ensures { Writes W.contents writer.old writer.new result (first.now ++
+        (second.now ++ third.now)) }
 {
     put(writer, first)?;
     put(writer, second)?;
     put(writer, third)
 }
 
-/// Writes a tag where the flag is set.
-fn put_tag<W: Write>(
+/// Writes a tag whose value is written with the escapes of a value.
+fn put_escaped<W: Write>(
     writer: &mut W,
-    flag: bool,
     separator: &[u8],
     key: &[u8],
     value: &[u8],
 ) -> io::Result<()>
-    ensures { Writes (W.contents writer.old) (W.contents writer.new) result
-        (if flag then separator.now ++ (key.now ++ value.now) else []) }
-{
-    if flag {
-        put_three(writer, separator, key, value)
-    } else {
-        Ok(())
-    }
-}
-
-/// Writes the tag `msgid`, with the escapes of a value.
-fn put_id<W: Write>(writer: &mut W, separator: &[u8], id: &[u8]) -> io::Result<()>
-    ensures { Writes (W.contents writer.old) (W.contents writer.new) result (separator.now ++ (codes "msgid=" ++ escaped id.now)) }
+    ensures { Writes W.contents writer.old writer.new result (separator.now ++
+        (key.now ++ value_text value.now)) }
 {
     put(writer, separator)?;
-    put(writer, b"msgid=")?;
-    write_value(id, writer)
+    put(writer, key)?;
+    write_value(value, writer)
 }
 
-/// Writes the tag `msgid` where the flag is set.
-fn put_id_tag<W: Write>(writer: &mut W, flag: bool, separator: &[u8], id: &MsgId) -> io::Result<()>
-    ensures { Writes (W.contents writer.old) (W.contents writer.new) result
-        (if flag then separator.now ++ (codes "msgid=" ++ escaped id.now) else []) }
-{
-    if flag {
-        put_id(writer, separator, id.as_bytes())
-    } else {
-        Ok(())
+/// Tags that are written one by one: `@` before the first, `;` before a later one.
+#[derive(Drop)]
+struct TagWriter {
+    /// Whether a tag was written.
+    begun: bool,
+}
+
+impl TagWriter {
+    /// What stands before the next tag.
+    fn separator(&self) -> &'static [u8]
+        ensures { result.now ≡ separator self.now.begun }
+    {
+        if self.begun { b";" } else { b"@" }
     }
-}
 
-/// Writes the tag `time` where the flag is set.
-fn put_time<W: Write>(writer: &mut W, flag: bool, separator: &[u8], at: Moment) -> io::Result<()>
-    ensures { Writes (W.contents writer.old) (W.contents writer.new) result
-        (if flag then separator.now ++ (codes "time=" ++ time_text at) else []) }
-{
-    let text = write_time(at);
-    put_tag(writer, flag, separator, b"time=", text.as_slice())
+    /// Writes a tag where the flag is set.
+    fn tag<W: Write>(
+        &mut self,
+        writer: &mut W,
+        flag: bool,
+        key: &[u8],
+        value: &[u8],
+    ) -> io::Result<()>
+        ensures text { Writes W.contents writer.old writer.new result
+            (next_tag self.old.begun flag (key.now ++ value.now)) }
+        ensures begun { OnOk result (self.new.begun ≡ (self.old.begun || flag)) }
+    {
+        if !flag {
+            return Ok(());
+        }
+        let separator = self.separator();
+        self.begun = true;
+        put_three(writer, separator, key, value)
+    }
+
+    /// Writes a tag where the flag is set, with the escapes of a value.
+    fn escaped_tag<W: Write>(
+        &mut self,
+        writer: &mut W,
+        flag: bool,
+        key: &[u8],
+        value: &[u8],
+    ) -> io::Result<()>
+        ensures text { Writes W.contents writer.old writer.new result
+            (next_tag self.old.begun flag (key.now ++ value_text value.now)) }
+        ensures begun { OnOk result (self.new.begun ≡ (self.old.begun || flag)) }
+    {
+        if !flag {
+            return Ok(());
+        }
+        let separator = self.separator();
+        self.begun = true;
+        put_escaped(writer, separator, key, value)
+    }
+
+    /// Writes the space behind the tags, where there are any.
+    fn end<W: Write>(&self, writer: &mut W) -> io::Result<()>
+        ensures { Writes W.contents writer.old writer.new result (if self.now.begun then codes " "
+            else []) }
+    {
+        if self.begun {
+            put(writer, b" ")
+        } else {
+            Ok(())
+        }
+    }
 }
 
 /// Writes the tags of a record in a batch, in the order `batch`, `msgid`, `time`. Where there is none nothing is
@@ -103,15 +118,14 @@ pub(crate) fn put_tags<W: Write>(
     reference: &[u8],
     message: &Record,
 ) -> io::Result<()>
-    ensures { Writes (W.contents writer.old) (W.contents writer.new) result
+    ensures { Writes W.contents writer.old writer.new result
         (tag_part (batch_tags caps reference.now ++ message_tags caps message.now)) }
 {
-    let two = either(caps.batch, caps.message_tags);
-    let any = either(two, caps.server_time);
-    let second = separator(caps.batch);
-    let third = separator(two);
-    put_tag(writer, caps.batch, b"@", b"batch=", reference)?;
-    put_id_tag(writer, caps.message_tags, second, message.id())?;
-    put_time(writer, caps.server_time, third, message.at())?;
-    put_if(writer, any, b" ")
+    let time = write_time(message.at());
+    let id = message.id().as_bytes();
+    let mut tags = TagWriter { begun: false };
+    tags.tag(writer, caps.batch, b"batch=", reference)?;
+    tags.escaped_tag(writer, caps.message_tags, b"msgid=", id)?;
+    tags.tag(writer, caps.server_time, b"time=", time.as_slice())?;
+    tags.end(writer)
 }

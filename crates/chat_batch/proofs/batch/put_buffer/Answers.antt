@@ -1,8 +1,8 @@
 use Rattle.std.proofs.Common.{◌≡◌, ℕ, List, [], ◌∷◌, ◌++◌, Bool, true, false, cond, codes, None, refl, ap, ◌∙◌}
-use Rattle.output.proofs.Fronts.{front_of_first, front_same, writes_second, writes_failed, writes_same}
+use Rattle.output.proofs.CallerLemmas.{prefix_of_first, prefix_same, writes_second, writes_failed, writes_same}
 use Rattle.irc_caps.specs.declared.CapSet.{CapSet}
-use Rattle.irc_time.specs.Written.{time_text}
-use Rattle.chat_batch.specs.Reply.{reply}
+use Rattle.irc_time.specs.Text.{time_text}
+use Rattle.irc_reply.specs.Reply.{reply}
 use Rattle.chat_batch.specs.Tags.{tag_part, only_if, batch_tags}
 use Rattle.chat_batch.specs.Batch.{buffer_text}
 use Rattle.chat_batch.proofs.batch.put_buffer.Goals as goal
@@ -21,8 +21,8 @@ line caps cluster reference target time at e =
 pub returns-in_err-put_batch_tag : goal.returns-in_err-put_batch_tag
 returns-in_err-put_batch_tag g c =
     writes_failed _ _ _ _ c.from_residual.result c.from_residual.ensures.1
-    (front_same _ _ _ _ (line c.args.caps c.args.cluster.now c.args.reference.now c.args.buffer.now.target.now (time_text c.args.buffer.now.at) c.args.buffer.now.at refl)
-    (front_of_first _ _ _ _ c.in_err-put_batch_tag.ensures))
+    (prefix_same _ _ _ _ (line c.args.caps c.args.cluster.now c.args.reference.now c.args.buffer.now.target.now (time_text c.args.buffer.now.at) c.args.buffer.now.at refl)
+    (prefix_of_first _ _ _ _ c.in_err-put_batch_tag.ensures))
 
 pub returns : goal.returns
 returns g c =

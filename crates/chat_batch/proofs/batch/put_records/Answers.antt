@@ -1,7 +1,7 @@
 use Rattle.std.proofs.Common.{subst}
 use Rattle.std.specs.Io.KnownBytes.{Appends}
 use Rattle.std.proofs.KnownBytes.{Appends-trans}
-use Rattle.output.proofs.Fronts.{front_of_first, front_of_second, writes_failed, front_same}
+use Rattle.output.proofs.CallerLemmas.{prefix_of_first, prefix_of_second, writes_failed, prefix_same}
 use Rattle.chat_batch.specs.Message.{record_text}
 use Rattle.chat_batch.proofs.Texts.{here, and_here}
 use Rattle.chat_batch.proofs.batch.put_records.Goals as goal
@@ -9,8 +9,8 @@ use Rattle.chat_batch.proofs.batch.put_records.Goals as goal
 pub returns-in_err-put_record : goal.returns-in_err-put_record
 returns-in_err-put_record g c =
     writes_failed _ _ _ _ c.from_residual.result c.from_residual.ensures.1
-    (front_same _ _ _ _ (here (λ r. r.now) (record_text c.args.caps c.args.reference.now) c.args.records.now c.loop-record.record-index c.record-item.result c.record-item.is c.loop-record-test.true)
-    (front_of_second _ _ _ _ _ c.loop-record.invariant (front_of_first _ _ _ _ c.in_err-put_record.ensures)))
+    (prefix_same _ _ _ _ (here (λ r. r.now) (record_text c.args.caps c.args.reference.now) c.args.records.now c.loop-record.record-index c.record-item.result c.record-item.is c.loop-record-test.true)
+    (prefix_of_second _ _ _ _ _ c.loop-record.invariant (prefix_of_first _ _ _ _ c.in_err-put_record.ensures)))
 
 pub loop-record-preserved : goal.loop-record-preserved
 loop-record-preserved g c =

@@ -1,25 +1,27 @@
-use Rattle.std.proofs.Common.{refl}
-use Rattle.output.proofs.Fronts.{front_of_first, front_of_second, writes_second, writes_failed, writes_same, front_same}
-use Rattle.chat_batch.proofs.TagLaws.{tags_same}
+use Rattle.std.proofs.Common.{refl, ap, ◌∙◌}
+use Rattle.irc_time.specs.Text.{time_text}
+use Rattle.output.proofs.CallerLemmas.{prefix_of_first, prefix_of_second, writes_second, writes_failed, writes_same, prefix_same}
+use Rattle.chat_batch.proofs.TagLemmas.{tags_same}
 use Rattle.chat_batch.proofs.tags.put_tags.Goals as goal
 
-pub returns-in_err-put_tag : goal.returns-in_err-put_tag
-returns-in_err-put_tag g c = writes_failed _ _ _ _ c.from_residual.result c.from_residual.ensures.1 (front_same _ _ _ _
-    (tags_same c.args.caps c.args.reference.now c.args.message.now c.either-two.result c.either-any.result c.separator-second.result.now c.separator-third.result.now c.args.message.now.id c.args.message.now.at c.either-two.ensures c.either-any.ensures c.separator-second.ensures c.separator-third.ensures refl refl)
-    (front_of_first _ _ _ _ c.in_err-put_tag.ensures))
+pub returns-in_err-tag : goal.returns-in_err-tag
+returns-in_err-tag g c = writes_failed _ _ _ _ c.from_residual.result c.from_residual.ensures.1
+    (prefix_same _ _ _ _ (tags_same c.args.caps c.args.reference.now c.args.message.now _ _ _ _ _ refl refl refl refl refl)
+    (prefix_of_first _ _ _ _ c.in_err-tag.ensures.text))
 
-pub returns-in_err-put_id_tag : goal.returns-in_err-put_id_tag
-returns-in_err-put_id_tag g c = writes_failed _ _ _ _ c.from_residual-in_err-put_id_tag.result c.from_residual-in_err-put_id_tag.ensures.1 (front_same _ _ _ _
-    (tags_same c.args.caps c.args.reference.now c.args.message.now c.either-two.result c.either-any.result c.separator-second.result.now c.separator-third.result.now c.id.result.now c.args.message.now.at c.either-two.ensures c.either-any.ensures c.separator-second.ensures c.separator-third.ensures c.id.ensures refl)
-    (front_of_second _ _ _ _ _ c.in_ok-put_tag.ensures (front_of_first _ _ _ _ c.in_err-put_id_tag.ensures)))
+pub returns-in_err-escaped_tag : goal.returns-in_err-escaped_tag
+returns-in_err-escaped_tag g c = writes_failed _ _ _ _ c.from_residual-in_err-escaped_tag.result c.from_residual-in_err-escaped_tag.ensures.1
+    (prefix_same _ _ _ _ (tags_same c.args.caps c.args.reference.now c.args.message.now _ _ _ _ _ c.in_ok-tag.ensures.begun refl refl (c.as_bytes-id.ensures.value ∙ c.id.ensures) refl)
+    (prefix_of_second _ _ _ _ _ c.in_ok-tag.ensures.text (prefix_of_first _ _ _ _ c.in_err-escaped_tag.ensures.text)))
 
-pub returns-in_err-put_time : goal.returns-in_err-put_time
-returns-in_err-put_time g c = writes_failed _ _ _ _ c.from_residual-in_err-put_time.result c.from_residual-in_err-put_time.ensures.1 (front_same _ _ _ _
-    (tags_same c.args.caps c.args.reference.now c.args.message.now c.either-two.result c.either-any.result c.separator-second.result.now c.separator-third.result.now c.id.result.now c.at.result c.either-two.ensures c.either-any.ensures c.separator-second.ensures c.separator-third.ensures c.id.ensures c.at.ensures)
-    (front_of_second _ _ _ _ _ c.in_ok-put_tag.ensures (front_of_second _ _ _ _ _ c.in_ok-put_id_tag.ensures (front_of_first _ _ _ _ c.in_err-put_time.ensures))))
+pub returns-in_err-tag-2 : goal.returns-in_err-tag-2
+returns-in_err-tag-2 g c = writes_failed _ _ _ _ c.from_residual-in_err-tag-2.result c.from_residual-in_err-tag-2.ensures.1
+    (prefix_same _ _ _ _ (tags_same c.args.caps c.args.reference.now c.args.message.now _ _ _ _ _ c.in_ok-tag.ensures.begun c.in_ok-escaped_tag.ensures.begun refl (c.as_bytes-id.ensures.value ∙ c.id.ensures) (c.as_slice.ensures ∙ c.write_time-time.ensures.text ∙ ap time_text c.at.ensures))
+    (prefix_of_second _ _ _ _ _ c.in_ok-tag.ensures.text (prefix_of_second _ _ _ _ _ c.in_ok-escaped_tag.ensures.text (prefix_of_first _ _ _ _ c.in_err-tag-2.ensures.text))))
 
 pub returns : goal.returns
-returns g c = writes_same _ _ _ _ c.put_if.result
-    (tags_same c.args.caps c.args.reference.now c.args.message.now c.either-two.result c.either-any.result c.separator-second.result.now c.separator-third.result.now c.id.result.now c.at.result c.either-two.ensures c.either-any.ensures c.separator-second.ensures c.separator-third.ensures c.id.ensures c.at.ensures)
-    (writes_second _ _ _ _ _ c.put_if.result c.in_ok-put_tag.ensures (writes_second _ _ _ _ _ c.put_if.result c.in_ok-put_id_tag.ensures
-    (writes_second _ _ _ _ _ c.put_if.result c.in_ok-put_time.ensures c.put_if.ensures)))
+returns g c = writes_same _ _ _ _ c.end.result
+    (tags_same c.args.caps c.args.reference.now c.args.message.now _ _ _ _ _ c.in_ok-tag.ensures.begun c.in_ok-escaped_tag.ensures.begun c.in_ok-tag-2.ensures.begun (c.as_bytes-id.ensures.value ∙ c.id.ensures)
+    (c.as_slice.ensures ∙ c.write_time-time.ensures.text ∙ ap time_text c.at.ensures))
+    (writes_second _ _ _ _ _ c.end.result c.in_ok-tag.ensures.text (writes_second _ _ _ _ _ c.end.result c.in_ok-escaped_tag.ensures.text
+    (writes_second _ _ _ _ _ c.end.result c.in_ok-tag-2.ensures.text c.end.ensures)))
