@@ -1,3 +1,3 @@
-pub mod HallMap
-pub mod LentBox
-pub mod PlaceRule
+mod BoxLemmas
+mod HallLemmas
+mod StepLemmas

@@ -1,6 +1,5 @@
 -- What a contract sees of an attachment.
-use Rattle.std.specs.Prelude.{ℕ, ◌+◌, ◌<◌, List, [], ◌++◌, length, drop, refl}
-use Rattle.std.specs.Coded.{Coded, code_by, coded×, coded_ℕ, coded_list}
+use Rattle.std.specs.Prelude.{ℕ, ◌+◌, ◌<◌, List, [], ◌++◌, length, drop}
 
 -- the client's place, how many bytes may be owed to it, and the bytes that are
 pub record AttachmentState : Type 0 where
@@ -8,16 +7,9 @@ pub record AttachmentState : Type 0 where
   pub bound : ℕ
   pub owed : List ℕ
 
-abbrev pub attachment_code : Coded AttachmentState
-attachment_code =
-    code_by (ℕ × (ℕ × List ℕ)) (coded× coded_ℕ (coded× coded_ℕ (coded_list coded_ℕ)))
-    (λ a. (a.place, (a.bound, a.owed)))
-    (λ p. record { place = p.0; bound = p.1.0; owed = p.1.1 })
-    (λ _. refl)
-
--- nothing is owed at this place
-abbrev pub nothing_owed : ℕ → ℕ → AttachmentState
-nothing_owed place bound = record { place = place; bound = bound; owed = [] }
+-- a client at this place to which nothing is owed, and so many bytes may be
+abbrev pub new_client : ℕ → ℕ → AttachmentState
+new_client place bound = record { place = place; bound = bound; owed = [] }
 
 -- what is owed and the line together exceed the bound
 abbrev pub Exceeds : AttachmentState → List ℕ → Type 0

@@ -6,9 +6,10 @@ use Rattle.slab.specs.Slab.{Slab, entries}
 
 module _ {X : Type 0} where
   -- each key with what is attached there
-  abbrev pub attachments_of : Slab X → FinMap nat_cmp X
-  attachments_of s = from_entries (entries s)
+  abbrev pub value_of : Slab X → FinMap nat_cmp X
+  value_of s = from_entries (entries s)
 
   -- the attachment at the key becomes another one, so related to it, and no other key changes
   abbrev pub Changes : FinMap nat_cmp X → FinMap nat_cmp X → ℕ → (X → X → Type 0) → Type 0
-  Changes old new key Becomes = IsSomeAnd (get old key) (λ a. (b : X) × (new ≡ insert old key b) × Becomes a b)
+  Changes old new key Becomes =
+      IsSomeAnd (get old key) (λ a. (b : X) × (new ≡ insert old key b) × Becomes a b)

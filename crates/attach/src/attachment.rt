@@ -32,7 +32,7 @@ pub trait Attachment: Drop {
         ensures ok { OnOk result (state self.new ≡ with_line (state self.old) line.now) }
         ensures err { OnErr result (self.new ≡ self.old) };
 
-    /// Moves the first bytes that are owed to the front of `out`, as many as fit, and answers their number.
+    /// Moves the first bytes that are owed to the start of `out`, as many as fit, and answers their number.
     /// The rest of `out` stays as it was.
     fn flush_into(&mut self, out: &mut [u8]) -> usize
         ensures count { result ≡ min (length out.old) (length (state self.old).owed) }

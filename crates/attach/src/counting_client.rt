@@ -1,7 +1,7 @@
 //! A client that counts what it accepted.
 ghost use Rattle.std.specs.Prelude.{◌≡◌, ◌++◌, ◌↔◌, length, take, drop, min, IsErr, OnOk, OnErr, IfOk, IfErr};
 ghost use Rattle.attach.specs.Attachment.{Exceeds};
-ghost use Rattle.attach.specs.CountingClient.{flushed, nothing_counted, with_counted_line};
+ghost use Rattle.attach.specs.CountingClient.{counting_without_first, new_counting_client, with_counted_line};
 
 use crate::attachment::{Attachment, Overrun};
 use crate::places::Stand;
@@ -18,7 +18,8 @@ pub struct CountingClient {
 }
 
 impl Model for CountingClient {
-    ghost use Rattle.attach.specs.CountingClient.{CountingClientState, counting_client_code};
+    ghost use Rattle.attach.specs.Codes.{counting_client_code};
+    ghost use Rattle.attach.specs.CountingClient.{CountingClientState};
 
     ghost Value = { CountingClientState };
 
@@ -31,7 +32,7 @@ impl CountingClient {
     /// A client at this stand to which nothing is owed yet and `bound` bytes may be, with counts of 0.
     /// `NoRing` hands the stand back where there was no memory.
     pub fn new(alloc: Global, stand: Stand, bound: usize) -> Result<CountingClient, NoRing>
-        ensures ok { IfOk result (λ c. c ≡ nothing_counted stand.place bound) }
+        ensures ok { IfOk result (λ c. c ≡ new_counting_client stand.place bound) }
         ensures err { IfErr result (λ f. f.stand ≡ stand) }
     {
         let client = RingClient::new(alloc, stand, bound)?;
@@ -86,7 +87,7 @@ impl Attachment for CountingClient {
     fn flush_into(&mut self, out: &mut [u8]) -> usize
         ensures count { result ≡ min (length out.old) (length self.old.client.owed) }
         ensures moved { out.new ≡ take result self.old.client.owed ++ drop result out.old }
-        ensures left { self.new ≡ flushed self.old result }
+        ensures left { self.new ≡ counting_without_first self.old result }
     {
         self.client.flush_into(out)
     }

@@ -43,17 +43,17 @@ impl<X> Model for Hall<X> {
     ghost use Rattle.std.specs.Ordering.{nat_cmp};
     ghost use Rattle.std.specs.Coded.{coded_ℕ};
     ghost use Rattle.std.specs.FinMap.{FinMap, code};
-    ghost use Rattle.attach.specs.Hall.{attachments_of};
+    ghost use Rattle.attach.specs.Hall.{value_of};
 
     ghost Value = { FinMap nat_cmp X };
 
     ghost coded = { code coded_ℕ X.code };
 
-    ghost view = { λ h. attachments_of h.attachments };
+    ghost view = { λ h. value_of h.attachments };
 }
 
 impl<X: Attachment> Hall<X> {
-    /// An empty hall. It takes its first memory with the first attachment.
+    /// An empty hall, which takes its memory from that allocator as attachments are added. Takes none itself.
     pub fn new(alloc: Global) -> Hall<X>
         ensures { result ≡ map.empty }
     {
@@ -91,7 +91,7 @@ impl<X: Attachment> Hall<X> {
         Ok(())
     }
 
-    /// Moves the first bytes that are owed under this key to the front of `out`, as many as fit, and answers
+    /// Moves the first bytes that are owed under this key to the start of `out`, as many as fit, and answers
     /// their number. `None` where the key is vacant.
     pub fn flush_into(&mut self, key: usize, out: &mut [u8]) -> Option<usize>
         ensures none { (result ≡ None) ↔ (map.get self.old key ≡ None) }

@@ -10,6 +10,7 @@ mod attachment;
 mod boxed;
 mod counting_client;
 mod hall;
+mod hold;
 pub mod laws;
 mod places;
 mod recorder;
@@ -23,5 +24,7 @@ pub use places::{ClaimFault, Clerk, MOST_PLACES, Places, PlacesFault, Stand};
 pub use recorder::Recorder;
 pub use ring_client::{NoRing, RingClient};
 
+#[cfg(test)]
+mod limit_tests;
 #[cfg(test)]
 mod tests;

@@ -1,7 +1,7 @@
 //! Places for clients: a clerk hands them out, and a stand holds one until it is dropped.
-ghost use Rattle.std.specs.Prelude.{◌≡◌, ◌<◌, ◌⊎◌, ◌↔◌, IfOk};
+ghost use Rattle.std.specs.Prelude.{◌≡◌, ◌<◌, ◌⊎◌, ◌↔◌, None, IfOk};
 
-use crate::laws::{Hold, PlaceTable};
+use crate::hold::{Hold, NoFurtherOwner};
 use std::alloc::{AllocError, Global};
 use std::fmt;
 use std::marker::Model;
@@ -13,7 +13,7 @@ pub const MOST_PLACES: usize = 4096;
 /// Why no places were made.
 #[derive(Debug, Drop, PartialEq, Error)]
 pub enum PlacesFault {
-    /// The count is not 1 to 4096.
+    /// The count is 0 or more than [`MOST_PLACES`].
     #[error("the number of places is not 1 to 4096")]
     BadCount,
     /// There was no memory for so many places.
@@ -43,6 +43,32 @@ pub enum ClaimFault {
     NoSeat,
 }
 
+// Each place was found taken.
+#[derive(Drop)]
+struct EachTaken;
+
+impl From<EachTaken> for ClaimFault {
+    ghost use Rattle.std.specs.Prelude.{◌≡◌};
+    ghost use Rattle.attach.specs.declared.places.ClaimFault.{ClaimFault};
+
+    ghost from_gives = { λ _ fault. fault ≡ ClaimFault.Full };
+
+    fn from(_: EachTaken) -> ClaimFault {
+        ClaimFault::Full
+    }
+}
+
+impl From<NoFurtherOwner> for ClaimFault {
+    ghost use Rattle.std.specs.Prelude.{◌≡◌};
+    ghost use Rattle.attach.specs.declared.places.ClaimFault.{ClaimFault};
+
+    ghost from_gives = { λ _ fault. fault ≡ ClaimFault.NoSeat };
+
+    fn from(_: NoFurtherOwner) -> ClaimFault {
+        ClaimFault::NoSeat
+    }
+}
+
 /// Where places are made.
 pub struct Places;
 
@@ -54,7 +80,8 @@ pub struct Clerk {
 
 impl Model for Clerk {
     ghost use Rattle.std.specs.Prelude.{◌≡◌, ◌≤◌, None};
-    ghost use Rattle.attach.specs.Places.{ClerkState, clerk_code};
+    ghost use Rattle.attach.specs.Codes.{clerk_code};
+    ghost use Rattle.attach.specs.Places.{ClerkState};
 
     ghost Value = { ClerkState };
 
@@ -74,7 +101,8 @@ pub struct Stand {
 
 impl Model for Stand {
     ghost use Rattle.std.specs.Prelude.{◌≡◌, Some};
-    ghost use Rattle.attach.specs.Places.{StandState, stand_code};
+    ghost use Rattle.attach.specs.Codes.{stand_code};
+    ghost use Rattle.attach.specs.Places.{StandState};
 
     ghost Value = { StandState };
 
@@ -86,10 +114,11 @@ impl Model for Stand {
 }
 
 impl Places {
-    /// Makes so many places, 1 to 4096, numbered from 0 and all free.
+    /// Makes so many places, 1 to [`MOST_PLACES`], numbered from 0 and all free.
     pub fn new(alloc: Global, count: usize) -> Result<Clerk, PlacesFault>
         ensures ok { IfOk result (λ c. c.count ≡ count) }
-        ensures bad_count { (result ≡ Err PlacesFault.BadCount) ↔ ((count ≡ 0) ⊎ (4096 < count)) }
+        ensures bad_count { (result ≡ Err PlacesFault.BadCount)
+            ↔ ((count ≡ 0) ⊎ (MOST_PLACES < count)) }
     {
         if count == 0 || count > MOST_PLACES {
             return Err(PlacesFault::BadCount);
@@ -107,20 +136,29 @@ impl Clerk {
         ensures table { IfOk result (λ s. s.table ≡ self.old.table) }
         ensures same { self.new ≡ self.old }
     {
-        let Ok(mut hold) = self.hold.another() else {
-            return Err(ClaimFault::NoSeat);
-        };
-        for place in 0..self.count {
+        let hold = self.hold.another()?;
+        let stand = Stand::first_free(hold, self.count)?;
+        Ok(stand)
+    }
+}
+
+impl Stand {
+    // Tries each place once, from 0 upwards, and takes the first that it finds free.
+    fn first_free(mut hold: Hold, count: usize) -> Result<Stand, EachTaken>
+        requires none { hold.place ≡ None }
+        requires count { hold.table.words ≡ count }
+        ensures place { IfOk result (λ s. s.place < count) }
+        ensures table { IfOk result (λ s. s.table ≡ hold.table) }
+    {
+        for place in 0..count {
             if hold.take(place) {
                 return Ok(Stand { hold, place });
             }
         }
         hold.end();
-        Err(ClaimFault::Full)
+        Err(EachTaken)
     }
-}
 
-impl Stand {
     /// The number of the place that is held.
     pub fn place(&self) -> usize
         ensures { result ≡ self.now.place }

@@ -1,7 +1,7 @@
 //! A client that remembers the last bytes which it accepted.
 ghost use Rattle.std.specs.Prelude.{◌≡◌, ◌≤◌, ◌++◌, ◌↔◌, length, take, drop, min, vec_capacity, IsErr, OnOk, OnErr, IfOk, IfErr};
 ghost use Rattle.attach.specs.Attachment.{Exceeds};
-ghost use Rattle.attach.specs.Recorder.{flushed, nothing_recorded, with_recorded_line};
+ghost use Rattle.attach.specs.Recorder.{recording_without_first, new_recorder, with_recorded_line};
 
 use crate::attachment::{Attachment, Overrun};
 use crate::places::Stand;
@@ -21,7 +21,8 @@ pub struct Recorder {
 
 impl Model for Recorder {
     ghost use Rattle.std.specs.Prelude.{◌≡◌, ◌≤◌, vec_capacity};
-    ghost use Rattle.attach.specs.Recorder.{RecorderState, recorder_code};
+    ghost use Rattle.attach.specs.Codes.{recorder_code};
+    ghost use Rattle.attach.specs.Recorder.{RecorderState};
 
     ghost Value = { RecorderState };
 
@@ -29,7 +30,8 @@ impl Model for Recorder {
 
     ghost view = { λ c. record { client = c.client; recorded = c.latest.items } };
 
-    ghost invariant = { λ c. (c.latest.capacity ≡ c.client.bound) × (c.client.bound ≤ vec_capacity c.room) };
+    ghost invariant = { λ c. (c.latest.capacity ≡ c.client.bound)
+        × (c.client.bound ≤ vec_capacity c.room) };
 }
 
 // Copies what is in the ring into the room, in one piece.
@@ -39,11 +41,11 @@ fn lay_out(ring: &HeapCircularBuffer<u8>, room: &mut Vec<u8>)
     ensures capacity { vec_capacity room.old ≤ vec_capacity room.new }
 {
     let count = ring.len();
-    let (front, back) = ring.as_slices();
+    let (older, newer) = ring.as_slices();
     prove!(count <= ring.capacity());
     room.clear();
-    let _ = room.extend_from_slice(front);
-    let _ = room.extend_from_slice(back);
+    let _ = room.extend_from_slice(older);
+    let _ = room.extend_from_slice(newer);
 }
 
 impl Recorder {
@@ -54,7 +56,7 @@ impl Recorder {
     /// A client at this stand to which nothing is owed yet and `bound` bytes may be, with an empty record.
     /// `NoRing` hands the stand back where there was no memory.
     pub fn new(alloc: Global, stand: Stand, bound: usize) -> Result<Recorder, NoRing>
-        ensures ok { IfOk result (λ c. c ≡ nothing_recorded stand.place bound) }
+        ensures ok { IfOk result (λ c. c ≡ new_recorder stand.place bound) }
         ensures err { IfErr result (λ f. f.stand ≡ stand) }
     {
         let Ok(latest) = HeapCircularBuffer::with_capacity(alloc, bound) else {
@@ -110,7 +112,7 @@ impl Attachment for Recorder {
     fn flush_into(&mut self, out: &mut [u8]) -> usize
         ensures count { result ≡ min (length out.old) (length self.old.client.owed) }
         ensures moved { out.new ≡ take result self.old.client.owed ++ drop result out.old }
-        ensures left { self.new ≡ flushed self.old result }
+        ensures left { self.new ≡ recording_without_first self.old result }
     {
         self.client.flush_into(out)
     }

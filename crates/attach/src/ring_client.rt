@@ -1,6 +1,6 @@
 //! A client whose owed bytes lie in a ring.
 ghost use Rattle.std.specs.Prelude.{◌≡◌, IfOk, IfErr};
-ghost use Rattle.attach.specs.Attachment.{nothing_owed};
+ghost use Rattle.attach.specs.Attachment.{new_client};
 
 use crate::attachment::{Attachment, Overrun};
 use crate::places::Stand;
@@ -25,20 +25,25 @@ pub struct RingClient {
 }
 
 impl Model for RingClient {
-    ghost use Rattle.attach.specs.Attachment.{AttachmentState, attachment_code};
+    ghost use Rattle.attach.specs.Codes.{attachment_code};
+    ghost use Rattle.attach.specs.Attachment.{AttachmentState};
 
     ghost Value = { AttachmentState };
 
     ghost coded = { attachment_code };
 
-    ghost view = { λ c. record { place = c.stand.place; bound = c.ring.capacity; owed = c.ring.items } };
+    ghost view = { λ c. record {
+      place = c.stand.place;
+      bound = c.ring.capacity;
+      owed = c.ring.items;
+    } };
 }
 
 impl RingClient {
     /// A client at this stand to which nothing is owed yet and `bound` bytes may be.
     /// `NoRing` hands the stand back where there was no memory.
     pub fn new(alloc: Global, stand: Stand, bound: usize) -> Result<RingClient, NoRing>
-        ensures ok { IfOk result (λ c. c ≡ nothing_owed stand.place bound) }
+        ensures ok { IfOk result (λ c. c ≡ new_client stand.place bound) }
         ensures err { IfErr result (λ f. f.stand ≡ stand) }
     {
         match HeapCircularBuffer::with_capacity(alloc, bound) {

@@ -25,16 +25,6 @@ fn a_clerk_hands_out_the_lowest_free_place(rt: HostRuntime) -> Result<(), Fail> 
     Ok(())
 }
 
-#[test]
-fn there_are_1_to_4096_places(rt: HostRuntime) -> Result<(), Fail> {
-    for count in [0, 4097] {
-        assert!(rt; matches!(Places::new(rt.alloc(), count), Err(PlacesFault::BadCount)));
-    }
-    let mut clerk = Places::new(rt.alloc(), 4096)?;
-    assert!(rt; clerk.claim()?.place() == 0);
-    Ok(())
-}
-
 fn client(alloc: Global, clerk: &mut Clerk) -> Option<RingClient> {
     let stand = clerk.claim().ok()?;
     RingClient::new(alloc, stand, 4).ok()
@@ -56,7 +46,8 @@ fn a_box_dropped_in_another_thread_frees_its_place(rt: HostRuntime) -> Result<()
 
 // A use of a hall of any attachments through its bound.
 fn offer_any<X: Attachment>(hall: &mut Hall<X>, key: usize, line: &[u8]) -> Result<(), HallFault>
-    ensures { OnOk result (Changes hall.old hall.new key (λ a b. X.state b ≡ with_line (X.state a) line.now)) }
+    ensures { OnOk result (Changes hall.old hall.new key
+        (λ a b. X.state b ≡ with_line (X.state a) line.now)) }
 {
     hall.offer(key, line)
 }
@@ -182,8 +173,8 @@ fn no_room_hands_the_stand_back(rt: HostRuntime) -> Result<(), Fail> {
     Ok(())
 }
 
-// Each call that takes memory is made again where it was refused. So this passes too where the Nth request for memory
-// is refused, for each N, as under `rt try --test --fail-alloc N`.
+// Each call that takes memory is made again where it was refused. So this passes too where the Nth
+// request for memory is refused, for each N, as under `rt try --test --fail-alloc N`.
 #[test]
 fn a_refused_request_for_memory_loses_nothing(rt: HostRuntime) -> Result<(), Fail> {
     let mut clerk = match Places::new(rt.alloc(), 1) {

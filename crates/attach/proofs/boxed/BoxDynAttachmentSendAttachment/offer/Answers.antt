@@ -1,5 +1,5 @@
 use Rattle.std.proofs.Common.{rules}
-use Rattle.attach.proofs.LentBox.{on_err, same_box}
+use Rattle.attach.proofs.BoxLemmas.{on_err, same_box}
 use Rattle.attach.proofs.boxed.BoxDynAttachmentSendAttachment.offer.Goals as goal
 
 pub returns-clause-err : goal.returns-clause-err

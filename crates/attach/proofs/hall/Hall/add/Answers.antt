@@ -1,5 +1,5 @@
 use Rattle.std.proofs.Common.{◌∙◌}
-use Rattle.attach.proofs.HallMap.{found_at, puts_at}
+use Rattle.attach.proofs.HallLemmas.{found_at, puts_at}
 use Rattle.attach.proofs.hall.Hall.add.Goals as goal
 use Rattle.attach.proofs.hall.Hall.add.Goals.{in-Ok, in-Err}
 

@@ -1,7 +1,7 @@
 use Rattle.std.proofs.Common.{refl, sym, ◌∙◌}
 use Rattle.slab.specs.Slab.{ContainsKey}
 use Rattle.slab.proofs.SlabLemmas.{Updates-with_value}
-use Rattle.attach.proofs.HallMap.{found_at, puts_at}
+use Rattle.attach.proofs.HallLemmas.{found_at, puts_at}
 use Rattle.attach.proofs.hall.Hall.flush_into.Goals as goal
 
 pub returns-in_default-clause-none : goal.returns-in_default-clause-none

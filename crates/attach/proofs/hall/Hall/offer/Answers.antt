@@ -2,7 +2,7 @@ use Rattle.std.proofs.Common.{rules, refl, sym, ◌∙◌, ◌≡◌, Err}
 use Rattle.slab.specs.Slab.{ContainsKey}
 use Rattle.slab.proofs.SlabLemmas.{Updates-with_value}
 use Rattle.attach.specs.declared.hall.HallFault.TheVariants.{Overrun}
-use Rattle.attach.proofs.HallMap.{found_at, puts_at}
+use Rattle.attach.proofs.HallLemmas.{found_at, puts_at}
 use Rattle.attach.proofs.hall.Hall.offer.Goals as goal
 
 pub returns-in_default-clause-no_such : goal.returns-in_default-clause-no_such

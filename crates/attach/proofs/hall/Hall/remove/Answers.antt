@@ -1,5 +1,5 @@
 use Rattle.std.proofs.Common.{sym, ◌∙◌}
-use Rattle.attach.proofs.HallMap.{found_at, takes_out_at}
+use Rattle.attach.proofs.HallLemmas.{found_at, takes_out_at}
 use Rattle.attach.proofs.hall.Hall.remove.Goals as goal
 
 pub returns-clause-removed : goal.returns-clause-removed
