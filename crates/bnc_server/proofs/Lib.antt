@@ -1,4 +1,5 @@
-pub mod LineLaws
-pub mod NodeLaws
-pub mod ProgressLaws
-pub mod LatestLaws
+mod RequestLemmas
+mod LineLemmas
+mod NodeLemmas
+mod OrderLemmas
+mod ProgressLemmas

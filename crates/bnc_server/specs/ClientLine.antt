@@ -4,7 +4,7 @@ use Rattle.std.specs.Str.{str_eq_ignore_ascii_case}
 use Rattle.irc_line.specs.declared.line.LineFault.{LineFault}
 use Rattle.irc_line.specs.declared.line.LineFault.TheVariants.{Empty, TagsTooLong, TooLong, BadByte, NoCommand}
 use Rattle.irc_line.specs.declared.line.TagLimit.TheVariants.{Client}
-use Rattle.irc_line.specs.Syntax.{Reading}
+use Rattle.irc_line.specs.Line.{Reading}
 use Rattle.irc_line.specs.Read.{read}
 use Rattle.bnc_server.specs.Words.{is_text}
 use Rattle.bnc_server.specs.Number.{limit_to}
@@ -61,10 +61,10 @@ unfoldable pub client_line : List ℕ → ClientLine
 client_line bytes = of_reading (read Client bytes)
 
 -- what the code's answer stands for
-abbrev pub shown : code.ClientLine → ClientLine
-shown variant.Nothing = nothing
-shown variant.OverLong = over_long
-shown variant.Unknown = unknown
-shown variant.Other = other
-shown (variant.Latest given limit) = latest_of given.now limit
-shown (variant.Marker given) = marker_of given.now
+abbrev pub value_of : code.ClientLine → ClientLine
+value_of variant.Nothing = nothing
+value_of variant.OverLong = over_long
+value_of variant.Unknown = unknown
+value_of variant.Other = other
+value_of (variant.Latest given limit) = latest_of given.now limit
+value_of (variant.Marker given) = marker_of given.now

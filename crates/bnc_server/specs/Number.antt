@@ -24,8 +24,12 @@ value text = value_from 0 text
 
 -- the number that a text spells: digits without a leading zero, of a value of at most `most`
 abbrev pub number_to : ℕ → List ℕ → Option ℕ
-number_to most text = if is_digits text && not (has_leading_zero text) && nat_le (value text) most then Some (value text) else None
+number_to most text =
+    if is_digits text && not (has_leading_zero text) && nat_le (value text) most
+    then Some (value text)
+    else None
 
 -- the limit that a text spells: digits of a value above 0, which counts as `most` where it is above that
 abbrev pub limit_to : ℕ → List ℕ → Option ℕ
-limit_to most text = if is_digits text && nat_lt 0 (value text) then Some (min most (value text)) else None
+limit_to most text =
+    if is_digits text && nat_lt 0 (value text) then Some (min most (value text)) else None

@@ -1,19 +1,21 @@
--- What a script prints: its items in turn, each answered by the changes that were taken before it.
+-- What a script prints: its items in turn, each answered by what the node took before it.
 use Rattle.std.specs.Prelude.{ℕ, ◌+◌, Bool, ◌==◌, is_none, List, [], ◌∷◌, ◌++◌, codes, Option, None, Some, Ok, Err, if◌then◌else◌}
 use Rattle.std.specs.Fmt.{decimal}
 use Rattle.irc_line.specs.Stream.{Item, items}
 use Rattle.irc_caps.specs.CapSet.{all_capabilities}
-use Rattle.chat_change.specs.Words.{folded}
-use Rattle.chat_change.specs.Making.{buffer_fault, buffer_of}
-use Rattle.chat_change.specs.declared.changes.Change.{Change}
+use Rattle.chat_change.specs.Words.{lower_case_of}
+use Rattle.chat_change.specs.Faults.{buffer_fault}
+use Rattle.chat_change.specs.Buffer.{buffer_of}
+use Rattle.chat_change.specs.declared.change.Change.{Change}
 use Rattle.chat_state.specs.History.{mark}
-use Rattle.chat_page.specs.Query.{Scope, latest}
+use Rattle.chat_page.specs.Scope.{Scope}
+use Rattle.chat_page.specs.declared.query.Query.TheVariants.{Latest}
 use Rattle.chat_page.specs.Page.{Page, page}
-use Rattle.chat_batch.specs.Reply.{ending, fail_text, mark_text, too_long_text, unknown_text}
+use Rattle.irc_reply.specs.Reply.{ending, fail_text, mark_text, too_long_text, unknown_text}
 use Rattle.chat_batch.specs.Batch.{page_text}
 use Rattle.bnc_server.specs.ChangeLine.{Refusal, bad_form, bad_field}
 use Rattle.bnc_server.specs.ClientLine.{nothing, over_long, unknown, other, latest_of, marker_of, maximum}
-use Rattle.bnc_server.specs.Asked.{Asked, of_change, of_client, asked_by}
+use Rattle.bnc_server.specs.Request.{Request, of_change, of_client, request_of}
 
 abbrev pub cluster : List ℕ
 cluster = codes "bnc.example"
@@ -29,7 +31,13 @@ pub record Node : Type 0 where
   pub reference : ℕ
 
 abbrev pub start : List ℕ → List ℕ → List ℕ → Node
-start account network nick = record { account = account; network = network; nick = nick; taken = []; reference = 1 }
+start account network nick = record {
+  account = account;
+  network = network;
+  nick = nick;
+  taken = [];
+  reference = 1;
+}
 
 -- batches are numbered from 1, and after the greatest number comes 1 again
 abbrev pub after_reference : ℕ → ℕ
@@ -53,48 +61,64 @@ refusal_text bad_field = codes "% BadField" ++ ending
 
 -- a session holds all capabilities
 abbrev pub answer_text : ℕ → List ℕ → Option Page → List ℕ
-answer_text reference given None = fail_text cluster (codes "CHATHISTORY") (codes "MESSAGE_ERROR") (codes "LATEST" ∷ given ∷ []) (codes "No such message")
-answer_text reference given (Some p) = page_text all_capabilities cluster (reference_text reference) given p
+answer_text reference given None =
+    fail_text cluster (codes "CHATHISTORY") (codes "MESSAGE_ERROR") (codes "LATEST" ∷ given ∷ [])
+    (codes "No such message")
+answer_text reference given (Some p) =
+    page_text all_capabilities cluster (reference_text reference) given p
 
-abbrev pub scope_of : List ℕ → List ℕ → Scope
-scope_of account network = record { account = account; network = network; maximum = maximum }
+abbrev pub scope_of : Node → Scope
+scope_of node = record { account = node.account; network = node.network; maximum = maximum }
 
--- what is printed
-abbrev pub text_for : Node → Asked → List ℕ
-text_for node (of_change (Ok change)) = []
-text_for node (of_change (Err refusal)) = refusal_text refusal
-text_for node (of_client nothing) = []
-text_for node (of_client over_long) = too_long_text cluster node.nick
-text_for node (of_client unknown) = unknown_text cluster node.nick (codes "*")
-text_for node (of_client other) = not_yet_text
-text_for node (of_client (latest_of given limit)) =
+-- the latest records of a target, and its marker
+abbrev pub latest_text : Node → List ℕ → ℕ → List ℕ
+latest_text node given limit =
+    answer_text node.reference given (page node.taken (scope_of node) (Latest (lower_case_of given) None limit))
+
+abbrev pub marker_text : Node → List ℕ → List ℕ
+marker_text node given =
+    mark_text cluster given (mark node.taken (buffer_of node.account node.network given))
+
+-- ---- answers
+
+-- what a node is after a line, and what is printed
+pub record Outcome : Type 0 where
+  pub node : Node
+  pub text : List ℕ
+
+abbrev pub after_taking : Node → Change → Node
+after_taking node change = record node { taken = node.taken ++ change ∷ [] }
+
+abbrev pub after_page : Node → Node
+after_page node = record node { reference = after_reference node.reference }
+
+abbrev pub reply_of : Node → List ℕ → Outcome
+reply_of node text = record { node = node; text = text }
+
+abbrev pub outcome : Node → Request → Outcome
+outcome node (of_change (Ok change)) = reply_of (after_taking node change) []
+outcome node (of_change (Err refusal)) = reply_of node (refusal_text refusal)
+outcome node (of_client nothing) = reply_of node []
+outcome node (of_client over_long) = reply_of node (too_long_text cluster node.nick)
+outcome node (of_client unknown) = reply_of node (unknown_text cluster node.nick (codes "*"))
+outcome node (of_client other) = reply_of node not_yet_text
+outcome node (of_client (latest_of given limit)) =
     if has_buffer node.account node.network given
-    then answer_text node.reference given (page node.taken (scope_of node.account node.network) (latest (folded given) None limit))
-    else not_yet_text
-text_for node (of_client (marker_of given)) =
+    then reply_of (after_page node) (latest_text node given limit)
+    else reply_of node not_yet_text
+outcome node (of_client (marker_of given)) =
     if has_buffer node.account node.network given
-    then mark_text cluster given (mark node.taken (buffer_of node.account node.network given))
-    else not_yet_text
-
--- what the node is afterwards
-abbrev pub node_after : Node → Asked → Node
-node_after node (of_change (Ok change)) = record node { taken = node.taken ++ change ∷ [] }
-node_after node (of_change (Err refusal)) = node
-node_after node (of_client nothing) = node
-node_after node (of_client over_long) = node
-node_after node (of_client unknown) = node
-node_after node (of_client other) = node
-node_after node (of_client (latest_of given limit)) =
-    if has_buffer node.account node.network given then record node { reference = after_reference node.reference } else node
-node_after node (of_client (marker_of given)) = node
+    then reply_of node (marker_text node given)
+    else reply_of node not_yet_text
 
 -- ---- scripts
 
 -- what the items print, from a node on
-abbrev pub printed : Node → List Item → List ℕ
-printed node [] = []
-printed node (item ∷ items) = text_for node (asked_by item) ++ printed (node_after node (asked_by item)) items
+abbrev pub text_of : Node → List Item → List ℕ
+text_of node [] = []
+text_of node (item ∷ items) =
+    (outcome node (request_of item)).text ++ text_of (outcome node (request_of item)).node items
 
 -- what the bytes of a script print
 abbrev pub script : List ℕ → List ℕ → List ℕ → List ℕ → List ℕ
-script input account network nick = printed (start account network nick) (items input)
+script input account network nick = text_of (start account network nick) (items input)

@@ -2,13 +2,15 @@
 ghost use Rattle.std.specs.Prelude.{◌≡◌, true, is_none, Some, Ok, IfOk, IfErr, drop};
 ghost use Rattle.std.specs.List.{list_any};
 ghost use Rattle.bnc_server.specs.ChangeLine as spec;
-ghost use Rattle.chat_change.specs.Making.{id_fault};
+ghost use Rattle.chat_change.specs.Faults.{id_fault};
 ghost use Rattle.bnc_server.specs.Words.{begins_with, is_space};
-ghost use Rattle.bnc_server.specs.ChangeFields.{names_in, post_in, line_fault, IsFaultOf, IsPartFault};
+ghost use Rattle.bnc_server.specs.BufferFields as names;
+ghost use Rattle.bnc_server.specs.PostFields as post;
+ghost use Rattle.bnc_server.specs.ChangeLineFault.{line_fault, IsFaultOf, IsPartFault};
 
 use crate::number::number_to;
 use crate::words::{begins_with, is_text, split_word};
-use chat_change::{Buffer, Change, ChangeFault, Kind, Moment, MsgId, Record};
+use chat_change::{Buffer, Change, ChangeFault, Kind, Message, Moment, MsgId, Record};
 use irc_time::GREATEST;
 use std::alloc::Global;
 use thiserror::Error;
@@ -48,7 +50,7 @@ pub(crate) struct PostFields<'a> {
 }
 
 fn buffer_fields<'a>(bytes: &'a [u8]) -> BufferFields<'a>
-    ensures { names_in result ≡ spec.buffer_fields bytes.now }
+    ensures { names.value_of result ≡ spec.buffer_fields bytes.now }
 {
     let (account, rest) = split_word(bytes);
     let (network, rest) = split_word(rest);
@@ -62,7 +64,7 @@ fn buffer_fields<'a>(bytes: &'a [u8]) -> BufferFields<'a>
 }
 
 fn post_fields<'a>(bytes: &'a [u8]) -> PostFields<'a>
-    ensures { post_in result ≡ spec.post_fields bytes.now }
+    ensures { post.value_of result ≡ spec.post_fields bytes.now }
 {
     let (id, rest) = split_word(bytes);
     let (at, rest) = split_word(rest);
@@ -86,13 +88,13 @@ fn is_filled(text: &[u8]) -> bool
 }
 
 fn has_names(b: BufferFields<'_>) -> bool
-    ensures { result ≡ spec.has_names (names_in b.entry) }
+    ensures { result ≡ spec.has_names (names.value_of b.entry) }
 {
     is_filled(b.account) && is_filled(b.network) && is_filled(b.target)
 }
 
 fn has_post_form(p: PostFields<'_>) -> bool
-    ensures { result ≡ spec.has_post_form (post_in p.entry) }
+    ensures { result ≡ spec.has_post_form (post.value_of p.entry) }
 {
     is_filled(p.id)
         && is_filled(p.at)
@@ -151,9 +153,10 @@ fn fault_of(fault: ChangeFault) -> ChangeLineFault
 }
 
 fn made_buffer(alloc: Global, b: BufferFields<'_>) -> Result<Buffer, ChangeLineFault>
-    ensures made { IfOk result (λ buffer. buffer ≡ spec.buffer_named (names_in b.entry)) }
-    ensures lawful { IfOk result (λ _. spec.is_buffer (names_in b.entry) ≡ true) }
-    ensures refused { IfErr result (λ fault. IsPartFault (spec.is_buffer (names_in b.entry)) fault) }
+    ensures made { IfOk result (λ buffer. buffer ≡ spec.buffer_named (names.value_of b.entry)) }
+    ensures lawful { IfOk result (λ _. spec.is_buffer (names.value_of b.entry) ≡ true) }
+    ensures refused { IfErr result
+        (λ fault. IsPartFault (spec.is_buffer (names.value_of b.entry)) fault) }
 {
     match Buffer::new(alloc, b.account, b.network, b.target) {
         Err(fault) => Err(fault_of(fault)),
@@ -195,20 +198,19 @@ fn made_record(
     p: PostFields<'_>,
 ) -> Result<Record, ChangeLineFault>
     requires body { begins_with 58 p.body.now ≡ true }
-    ensures made { IfOk result (λ post. post ≡ record { buffer = buffer; id = id; at = at; kind = kind; source = p.entry.source.now; target = p.entry.to.now; body = drop 1 p.entry.body.now }) }
-    ensures lawful { IfOk result (λ _. spec.is_message (post_in p.entry) kind ≡ true) }
-    ensures refused { IfErr result (λ fault. IsPartFault (spec.is_message (post_in p.entry) kind) fault) }
+    ensures made { IfOk result (λ made. made
+        ≡ record (spec.record_of buffer (post.value_of p.entry) kind at) { id = id }) }
+    ensures lawful { IfOk result (λ _. spec.is_message (post.value_of p.entry) kind ≡ true) }
+    ensures refused { IfErr result
+        (λ fault. IsPartFault (spec.is_message (post.value_of p.entry) kind) fault) }
 {
-    match Record::new(
-        alloc,
-        buffer,
-        id,
-        at,
+    let message = Message {
         kind,
-        p.source,
-        p.to,
-        behind_colon(p.body),
-    ) {
+        source: p.source,
+        target: p.to,
+        body: behind_colon(p.body),
+    };
+    match Record::new(alloc, buffer, id, at, message) {
         Err(fault) => Err(fault_of(fault)),
         Ok(post) => Ok(post),
     }
@@ -223,8 +225,10 @@ fn post_with(
     p: PostFields<'_>,
 ) -> Result<Change, ChangeLineFault>
     requires body { begins_with 58 p.body.now ≡ true }
-    ensures made { IfOk result (λ change. spec.post_at buffer (post_in p.entry) (Some kind) (Some at) ≡ Ok change) }
-    ensures refused { IfErr result (λ fault. IsFaultOf (spec.post_at buffer (post_in p.entry) (Some kind) (Some at)) fault) }
+    ensures made { IfOk result
+        (λ change. spec.post_at buffer (post.value_of p.entry) (Some kind) (Some at) ≡ Ok change) }
+    ensures refused { IfErr result (λ fault.
+        IsFaultOf (spec.post_at buffer (post.value_of p.entry) (Some kind) (Some at)) fault) }
 {
     match made_id(alloc, p.id) {
         Err(fault) => Err(fault),
@@ -238,8 +242,10 @@ fn post_with(
 // The post in a buffer.
 fn post_at(alloc: Global, buffer: Buffer, p: PostFields<'_>) -> Result<Change, ChangeLineFault>
     requires body { begins_with 58 p.body.now ≡ true }
-    ensures made { IfOk result (λ change. spec.post_at buffer (post_in p.entry) (spec.kind_of p.entry.kind.now) (spec.moment_of p.entry.at.now) ≡ Ok change) }
-    ensures refused { IfErr result (λ fault. IsFaultOf (spec.post_at buffer (post_in p.entry) (spec.kind_of p.entry.kind.now) (spec.moment_of p.entry.at.now)) fault) }
+    ensures made { IfOk result (λ change. spec.post_at buffer (post.value_of p.entry)
+        (spec.kind_of p.entry.kind.now) (spec.moment_of p.entry.at.now) ≡ Ok change) }
+    ensures refused { IfErr result (λ fault. IsFaultOf (spec.post_at buffer (post.value_of p.entry)
+        (spec.kind_of p.entry.kind.now) (spec.moment_of p.entry.at.now)) fault) }
 {
     match kind_of(p.kind) {
         None => Err(ChangeLineFault::BadField),
@@ -253,7 +259,8 @@ fn post_at(alloc: Global, buffer: Buffer, p: PostFields<'_>) -> Result<Change, C
 // The marker of a buffer.
 fn mark_at(buffer: Buffer, at: &[u8]) -> Result<Change, ChangeLineFault>
     ensures made { IfOk result (λ change. spec.mark_at buffer (spec.moment_of at.now) ≡ Ok change) }
-    ensures refused { IfErr result (λ fault. IsFaultOf (spec.mark_at buffer (spec.moment_of at.now)) fault) }
+    ensures refused { IfErr result
+        (λ fault. IsFaultOf (spec.mark_at buffer (spec.moment_of at.now)) fault) }
 {
     match moment_of(at) {
         None => Err(ChangeLineFault::BadField),
@@ -266,8 +273,10 @@ fn read_post(
     b: BufferFields<'_>,
     p: PostFields<'_>,
 ) -> Result<Change, ChangeLineFault>
-    ensures made { IfOk result (λ change. spec.post_of (names_in b.entry) (post_in p.entry) ≡ Ok change) }
-    ensures refused { IfErr result (λ fault. IsFaultOf (spec.post_of (names_in b.entry) (post_in p.entry)) fault) }
+    ensures made { IfOk result
+        (λ change. spec.post_of (names.value_of b.entry) (post.value_of p.entry) ≡ Ok change) }
+    ensures refused { IfErr result
+        (λ fault. IsFaultOf (spec.post_of (names.value_of b.entry) (post.value_of p.entry)) fault) }
 {
     if !has_names(b) || !has_post_form(p) {
         return Err(ChangeLineFault::BadForm);
@@ -279,8 +288,9 @@ fn read_post(
 }
 
 fn read_mark(alloc: Global, b: BufferFields<'_>) -> Result<Change, ChangeLineFault>
-    ensures made { IfOk result (λ change. spec.mark_of (names_in b.entry) ≡ Ok change) }
-    ensures refused { IfErr result (λ fault. IsFaultOf (spec.mark_of (names_in b.entry)) fault) }
+    ensures made { IfOk result (λ change. spec.mark_of (names.value_of b.entry) ≡ Ok change) }
+    ensures refused { IfErr result
+        (λ fault. IsFaultOf (spec.mark_of (names.value_of b.entry)) fault) }
 {
     if !has_names(b) || !is_last_field(b.rest) {
         return Err(ChangeLineFault::BadForm);
@@ -293,7 +303,8 @@ fn read_mark(alloc: Global, b: BufferFields<'_>) -> Result<Change, ChangeLineFau
 
 fn read_kind(alloc: Global, kind: &[u8], rest: &[u8]) -> Result<Change, ChangeLineFault>
     ensures made { IfOk result (λ change. spec.change_of_kind kind.now rest.now ≡ Ok change) }
-    ensures refused { IfErr result (λ fault. IsFaultOf (spec.change_of_kind kind.now rest.now) fault) }
+    ensures refused { IfErr result
+        (λ fault. IsFaultOf (spec.change_of_kind kind.now rest.now) fault) }
 {
     let names = buffer_fields(rest);
     if is_text(kind, b"POST") {

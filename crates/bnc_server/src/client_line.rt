@@ -27,7 +27,7 @@ pub(crate) enum ClientLine<'a> {
 const MAXIMUM: u64 = 100;
 
 fn latest_to<'a>(given: &'a [u8], limit: Option<u64>) -> ClientLine<'a>
-    ensures { spec.shown result ≡ spec.latest_to given.now limit }
+    ensures { spec.value_of result ≡ spec.latest_to given.now limit }
 {
     match limit {
         None => ClientLine::Other,
@@ -42,7 +42,7 @@ fn is_latest(sub: &[u8], star: &[u8]) -> bool
 }
 
 fn history<'a>(parameters: &[&'a [u8]]) -> ClientLine<'a>
-    ensures { spec.shown result ≡ spec.of_history (map (λ p. p.now) parameters.now) }
+    ensures { spec.value_of result ≡ spec.of_history (map (λ p. p.now) parameters.now) }
 {
     if parameters.len() < 4 {
         return ClientLine::Other;
@@ -55,7 +55,7 @@ fn history<'a>(parameters: &[&'a [u8]]) -> ClientLine<'a>
 }
 
 fn marker<'a>(parameters: &[&'a [u8]]) -> ClientLine<'a>
-    ensures { spec.shown result ≡ spec.of_marker (map (λ p. p.now) parameters.now) }
+    ensures { spec.value_of result ≡ spec.of_marker (map (λ p. p.now) parameters.now) }
 {
     if parameters.len() == 1 {
         ClientLine::Marker {
@@ -67,7 +67,7 @@ fn marker<'a>(parameters: &[&'a [u8]]) -> ClientLine<'a>
 }
 
 fn command<'a>(command: &[u8], parameters: &[&'a [u8]]) -> ClientLine<'a>
-    ensures { spec.shown result ≡ spec.of_command command.now (map (λ p. p.now) parameters.now) }
+    ensures { spec.value_of result ≡ spec.of_command command.now (map (λ p. p.now) parameters.now) }
 {
     if command.eq_ignore_ascii_case(b"CHATHISTORY") {
         history(parameters)
@@ -81,7 +81,7 @@ fn command<'a>(command: &[u8], parameters: &[&'a [u8]]) -> ClientLine<'a>
 /// What a client's line asks for. Its tags and its source are dropped.
 #[tactic(auto, unfolding(crate::specs::ClientLine::client_line))]
 pub(crate) fn client_line<'a>(bytes: &'a [u8]) -> ClientLine<'a>
-    ensures { spec.shown result ≡ spec.client_line bytes.now }
+    ensures { spec.value_of result ≡ spec.client_line bytes.now }
 {
     match read_line(bytes, TagLimit::Client) {
         Err(LineFault::Empty) => ClientLine::Nothing,

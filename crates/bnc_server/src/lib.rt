@@ -4,6 +4,7 @@
 mod change_line;
 mod client_line;
 mod fault;
+pub mod laws;
 mod node;
 mod number;
 mod reply;

@@ -1,17 +1,14 @@
 //! A node with its session: what it holds, and how it answers.
-ghost use Rattle.std.specs.Prelude.{◌≡◌, map, codes, Some, None, Ok, IfOk, OnOk, if◌then◌else◌, string_bytes};
-ghost use Rattle.output.specs.Writes.{Writes};
-ghost use Rattle.chat_change.specs.Words.{folded};
-ghost use Rattle.chat_change.specs.Making.{buffer_of};
+ghost use Rattle.std.specs.Prelude.{◌≡◌, ◌≢◌, Some, None, Ok, IfOk, IfErr, if◌then◌else◌, string_bytes};
+ghost use Rattle.chat_change.specs.Buffer.{buffer_of};
 ghost use Rattle.bnc_server.specs.Words.{word, behind};
-ghost use Rattle.chat_page.specs.Page.{page_in};
-ghost use Rattle.chat_page.specs.Query.{latest};
 ghost use Rattle.bnc_server.specs.ChangeLine as line;
-ghost use Rattle.bnc_server.specs.ChangeFields.{is_want_of_memory};
+ghost use Rattle.bnc_server.specs.ChangeLineFault.{is_want_of_memory};
 ghost use Rattle.bnc_server.specs.ClientLine as client;
-ghost use Rattle.bnc_server.specs.Asked.{asked, asked_in_change_line, is_change_line, is_later_kind, of_change, of_client};
+ghost use Rattle.bnc_server.specs.Request.{request_in, request_in_change_line, is_change_line, is_later_kind, of_change, of_client};
 ghost use Rattle.bnc_server.specs.Script as spec;
-ghost use Rattle.bnc_server.specs.HeldScript.{held_of, held_text, held_after};
+ghost use Rattle.bnc_server.specs.HeldNode.{held_node, WritesOf, Prints, Becomes};
+ghost use Rattle.bnc_server.specs.Faults.{of_state, MayRefuse, MayEnd};
 
 use crate::change_line::{ChangeLineFault, read_change};
 use crate::client_line::{ClientLine, client_line};
@@ -39,17 +36,19 @@ pub(crate) struct Node {
 }
 
 impl Model for Node {
-    ghost use Rattle.bnc_server.specs.HeldScript.{HeldNode, coded_node};
+    ghost use Rattle.std.specs.Coded.{codes};
+    ghost use Rattle.chat_state.specs.Codes.{coded_held};
+    ghost use Rattle.bnc_server.specs.HeldNode.{HeldNode};
 
     ghost Value = { HeldNode };
 
-    ghost coded = { coded_node };
+    ghost coded = { Prim.hlevel (codes, coded_held) };
 
     ghost view = { λ n. record {
       account = n.account;
       network = n.network;
       nick = n.nick;
-      history = n.state.history;
+      state = n.state;
       reference = n.reference;
     } };
 }
@@ -102,7 +101,9 @@ fn is_want_of_memory(fault: ChangeFault) -> bool
     }
 }
 
-fn state_fault(fault: StateFault) -> ReplayFault {
+fn state_fault(fault: StateFault) -> ReplayFault
+    ensures { result ≡ of_state fault }
+{
     match fault {
         StateFault::Exhausted => ReplayFault::Read,
         StateFault::NoMemory => ReplayFault::NoMemory,
@@ -116,7 +117,8 @@ impl Node {
         network: &[u8],
         nick: &[u8],
     ) -> Result<Node, AllocError>
-        ensures { IfOk result (λ node. node ≡ held_of (spec.start account.now network.now nick.now)) }
+        ensures { IfOk result
+            (λ node. node ≡ held_node (spec.start account.now network.now nick.now)) }
     {
         let account = Text::new(alloc, account)?;
         let network = Text::new(alloc, network)?;
@@ -132,8 +134,10 @@ impl Node {
 
     // The buffer of a target, if it is a lawful one.
     fn buffer(&self, alloc: Global, given: &[u8]) -> Result<Option<Buffer>, ReplayFault>
-        ensures { IfOk result (λ found. found ≡ (if spec.has_buffer self.now.account self.now.network given.now
+        ensures found { IfOk result
+            (λ found. found ≡ (if spec.has_buffer self.now.account self.now.network given.now
             then Some (buffer_of self.now.account self.now.network given.now) else None)) }
+        ensures fault { IfErr result (λ fault. fault ≡ ReplayFault.NoMemory) }
     {
         match Buffer::new(
             alloc,
@@ -152,10 +156,11 @@ impl Node {
         }
     }
 
-    fn take(&mut self, alloc: Global, change: Change) -> Result<(), ReplayFault>
-        ensures { OnOk result (self.new ≡ held_after self.old (of_change (Ok change))) }
+    fn take(&mut self, change: Change) -> Result<(), ReplayFault>
+        ensures node { Becomes result self.old (of_change (Ok change)) self.new }
+        ensures fault { IfErr result (MayRefuse self.old change) }
     {
-        match self.state.absorb(alloc, change) {
+        match self.state.absorb(change) {
             Ok(_) => Ok(()),
             Err(fault) => Err(state_fault(fault)),
         }
@@ -167,11 +172,13 @@ impl Node {
         text: &[u8],
         writer: &mut W,
     ) -> Result<(), ReplayFault>
-        ensures text { Writes (W.contents writer.old) (W.contents writer.new) result (held_text self.old (of_change (line.read_change text.now))) }
-        ensures node { OnOk result (self.new ≡ held_after self.old (of_change (line.read_change text.now))) }
+        ensures text { Prints W.contents writer.old writer.new result self.old
+            (of_change (line.read_change text.now)) }
+        ensures node { Becomes result self.old (of_change (line.read_change text.now)) self.new }
+        ensures fault { IfErr result (MayEnd self.old (of_change (line.read_change text.now))) }
     {
         match read_change(alloc, text) {
-            Ok(change) => self.take(alloc, change),
+            Ok(change) => self.take(change),
             Err(ChangeLineFault::BadForm) => put_bad_form(writer),
             Err(ChangeLineFault::BadField) => put_bad_field(writer),
             Err(ChangeLineFault::NoMemory) => Err(ReplayFault::NoMemory),
@@ -188,8 +195,9 @@ impl Node {
         writer: &mut W,
     ) -> Result<(), ReplayFault>
         requires { buffer.now ≡ buffer_of self.now.account self.now.network given.now }
-        ensures { Writes (W.contents writer.old) (W.contents writer.new) result (spec.answer_text self.now.reference given.now
-            (page_in self.now.history (spec.scope_of self.now.account self.now.network) (latest (folded given.now) None limit))) }
+        ensures text { WritesOf W.contents writer.old writer.new result self.now
+            (λ node. spec.latest_text node given.now limit) }
+        ensures fault { IfErr result (λ fault. fault ≢ ReplayFault.Read) }
     {
         let Ok(reference) = reference_text(alloc, self.reference) else {
             return Err(ReplayFault::NoMemory);
@@ -208,8 +216,12 @@ impl Node {
         limit: u64,
         writer: &mut W,
     ) -> Result<(), ReplayFault>
-        ensures text { Writes (W.contents writer.old) (W.contents writer.new) result (held_text self.old (of_client (client.latest_of given.now limit))) }
-        ensures node { OnOk result (self.new ≡ held_after self.old (of_client (client.latest_of given.now limit))) }
+        ensures text { Prints W.contents writer.old writer.new result self.old
+            (of_client (client.latest_of given.now limit)) }
+        ensures node { Becomes result self.old
+            (of_client (client.latest_of given.now limit)) self.new }
+        ensures fault { IfErr result
+            (MayEnd self.old (of_client (client.latest_of given.now limit))) }
     {
         match self.buffer(alloc, given) {
             Err(fault) => Err(fault),
@@ -228,7 +240,9 @@ impl Node {
         given: &[u8],
         writer: &mut W,
     ) -> Result<(), ReplayFault>
-        ensures { Writes (W.contents writer.old) (W.contents writer.new) result (held_text self.now (of_client (client.marker_of given.now))) }
+        ensures text { Prints W.contents writer.old writer.new result self.now
+            (of_client (client.marker_of given.now)) }
+        ensures fault { IfErr result (MayEnd self.now (of_client (client.marker_of given.now))) }
     {
         match self.buffer(alloc, given) {
             Err(fault) => Err(fault),
@@ -239,7 +253,9 @@ impl Node {
 
     /// Answers a line that was too long.
     pub(crate) fn serve_too_long<W: Write>(&self, writer: &mut W) -> Result<(), ReplayFault>
-        ensures { Writes (W.contents writer.old) (W.contents writer.new) result (held_text self.now (of_client client.over_long)) }
+        ensures text { Prints W.contents writer.old writer.new result self.now
+            (of_client client.over_long) }
+        ensures fault { IfErr result (MayEnd self.now (of_client client.over_long)) }
     {
         put_too_long(writer, self.nick.as_bytes())
     }
@@ -250,8 +266,10 @@ impl Node {
         text: &[u8],
         writer: &mut W,
     ) -> Result<(), ReplayFault>
-        ensures text { Writes (W.contents writer.old) (W.contents writer.new) result (held_text self.old (of_client (client.client_line text.now))) }
-        ensures node { OnOk result (self.new ≡ held_after self.old (of_client (client.client_line text.now))) }
+        ensures text { Prints W.contents writer.old writer.new result self.old
+            (of_client (client.client_line text.now)) }
+        ensures node { Becomes result self.old (of_client (client.client_line text.now)) self.new }
+        ensures fault { IfErr result (MayEnd self.old (of_client (client.client_line text.now))) }
     {
         match client_line(text) {
             ClientLine::Nothing => Ok(()),
@@ -269,8 +287,10 @@ impl Node {
         text: &[u8],
         writer: &mut W,
     ) -> Result<(), ReplayFault>
-        ensures text { Writes (W.contents writer.old) (W.contents writer.new) result (held_text self.old (asked_in_change_line text.now)) }
-        ensures node { OnOk result (self.new ≡ held_after self.old (asked_in_change_line text.now)) }
+        ensures text { Prints W.contents writer.old writer.new result self.old
+            (request_in_change_line text.now) }
+        ensures node { Becomes result self.old (request_in_change_line text.now) self.new }
+        ensures fault { IfErr result (MayEnd self.old (request_in_change_line text.now)) }
     {
         if is_later_kind(second_word(text)) {
             put_not_yet(writer)
@@ -280,15 +300,17 @@ impl Node {
     }
 
     /// Answers a line, which stands without its ending.
-    #[tactic(auto, unfolding(crate::specs::Asked::asked))]
+    #[tactic(auto, unfolding(crate::specs::Request::request_in))]
     pub(crate) fn serve_line<W: Write>(
         &mut self,
         alloc: Global,
         text: &[u8],
         writer: &mut W,
     ) -> Result<(), ReplayFault>
-        ensures text { Writes (W.contents writer.old) (W.contents writer.new) result (held_text self.old (asked text.now)) }
-        ensures node { OnOk result (self.new ≡ held_after self.old (asked text.now)) }
+        ensures text { Prints W.contents writer.old writer.new result self.old
+            (request_in text.now) }
+        ensures node { Becomes result self.old (request_in text.now) self.new }
+        ensures fault { IfErr result (MayEnd self.old (request_in text.now)) }
     {
         if is_change_line(text) {
             self.serve_change_line(alloc, text, writer)

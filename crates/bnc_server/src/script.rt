@@ -1,11 +1,11 @@
 //! A script: its lines are read, and answered in turn.
-ghost use Rattle.std.specs.Prelude.{◌≡◌, ◌++◌, None, IfSome, OnOk, IfOk, is_some};
+ghost use Rattle.std.specs.Prelude.{◌≡◌, [], None, IfSome, OnOk, IfOk, is_some};
 ghost use Rattle.output.specs.Writes.{Writes};
-ghost use Rattle.irc_line.specs.Stream.{next_item, left_after};
-ghost use Rattle.chat_change.specs.Making.{buffer_fault};
+ghost use Rattle.irc_line.specs.Stream.{next_item, held_without};
+ghost use Rattle.chat_change.specs.Faults.{buffer_fault};
 ghost use Rattle.bnc_server.specs.Script.{script};
-ghost use Rattle.bnc_server.specs.HeldScript.{text_of_next, node_after_next};
-ghost use Rattle.bnc_server.specs.Progress.{to_come, IsDrained, Advances};
+ghost use Rattle.bnc_server.specs.HeldNode.{WritesOf, Leaves};
+ghost use Rattle.bnc_server.specs.Progress.{text_of_next, node_after_next, IsDrained, Serves};
 
 use crate::fault::ReplayFault;
 use crate::node::Node;
@@ -23,9 +23,10 @@ fn serve_next<W: Write>(
     alloc: Global,
     writer: &mut W,
 ) -> Result<bool, ReplayFault>
-    ensures text { Writes (W.contents writer.old) (W.contents writer.new) result (text_of_next node.old (next_item feeder.old)) }
-    ensures node { OnOk result (node.new ≡ node_after_next node.old (next_item feeder.old)) }
-    ensures feeder { feeder.new ≡ left_after (next_item feeder.old) feeder.old }
+    ensures text { WritesOf W.contents writer.old writer.new result node.old
+        (text_of_next (next_item feeder.old)) }
+    ensures node { Leaves result node.old (node_after_next (next_item feeder.old)) node.new }
+    ensures feeder { feeder.new ≡ held_without (next_item feeder.old) feeder.old }
     ensures some { IfOk result (λ more. more ≡ is_some (next_item feeder.old)) }
 {
     match feeder.next_line() {
@@ -48,7 +49,8 @@ fn drain<W: Write>(
     alloc: Global,
     writer: &mut W,
 ) -> Result<(), ReplayFault>
-    ensures advances { Advances (W.contents writer.old) (W.contents writer.new) result (to_come node.old feeder.old) (to_come node.new feeder.new) }
+    ensures serves { Serves W.contents writer.old writer.new result
+        node.old feeder.old [] node.new feeder.new }
     ensures drained { OnOk result (IsDrained feeder.new) }
 {
     'lines: while serve_next(node, feeder, alloc, writer)? {}
@@ -64,7 +66,8 @@ fn feed_piece<W: Write>(
     writer: &mut W,
 ) -> Result<(), ReplayFault>
     requires drained { IsDrained feeder.old }
-    ensures advances { Advances (W.contents writer.old) (W.contents writer.new) result (λ more. to_come node.old feeder.old (piece.now ++ more)) (to_come node.new feeder.new) }
+    ensures serves { Serves W.contents writer.old writer.new result
+        node.old feeder.old piece.now node.new feeder.new }
     ensures drained { OnOk result (IsDrained feeder.new) }
 {
     let mut rest = piece;
@@ -86,7 +89,8 @@ fn serve_piece<W: Write>(
     writer: &mut W,
 ) -> Result<(), ReplayFault>
     requires drained { IsDrained feeder.old }
-    ensures advances { Advances (W.contents writer.old) (W.contents writer.new) result (λ more. to_come node.old feeder.old (piece.now ++ more)) (to_come node.new feeder.new) }
+    ensures serves { Serves W.contents writer.old writer.new result
+        node.old feeder.old piece.now node.new feeder.new }
     ensures drained { OnOk result (IsDrained feeder.new) }
 {
     feed_piece(node, feeder, alloc, piece, writer)?;
@@ -106,7 +110,8 @@ pub(crate) fn replay_within<In: Read, Out: Write>(
     nick: &[u8],
     most_reads: u64,
 ) -> Result<(), ReplayFault>
-    ensures { IfSome (In.remaining reader.old) (λ input. Writes (Out.contents writer.old) (Out.contents writer.new) result (script input account.now network.now nick.now)) }
+    ensures { IfSome (In.remaining reader.old) (λ input.
+        Writes Out.contents writer.old writer.new result (script input account.now network.now nick.now)) }
 {
     let Ok(mut feeder) = Feeder::new(alloc) else {
         return Err(ReplayFault::NoMemory);
@@ -130,7 +135,7 @@ pub(crate) fn replay_within<In: Read, Out: Write>(
 }
 
 /// Answers a script, which is read to its end by at most 16,777,216 reads. At `Ok` all that the script prints was
-/// written, and after a fault a front of it.
+/// written, and after a fault a prefix of it.
 ///
 /// The script is of the account and the network of those names, and the session's nick is a target. Lines end with LF,
 /// and one CR before it is dropped; bytes behind the last LF are ignored where they are fewer than 8703. Each line is
@@ -154,7 +159,8 @@ pub fn replay<In: Read, Out: Write>(
     nick: &[u8],
 ) -> Result<(), ReplayFault>
     requires names { buffer_fault account.now network.now nick.now ≡ None }
-    ensures script { IfSome (In.remaining reader.old) (λ input. Writes (Out.contents writer.old) (Out.contents writer.new) result (script input account.now network.now nick.now)) }
+    ensures script { IfSome (In.remaining reader.old) (λ input.
+        Writes Out.contents writer.old writer.new result (script input account.now network.now nick.now)) }
 {
     replay_within(alloc, reader, writer, account, network, nick, MOST_READS)
 }

@@ -1,7 +1,8 @@
 //! The words of a line.
-ghost use Rattle.std.specs.Prelude.{◌≡◌, ◌<◌, position, length, IfSome, IfOk, List, ℕ};
+ghost use Rattle.std.specs.Prelude.{◌≡◌, IfOk, List, ℕ};
 ghost use Rattle.bnc_server.specs.Words as spec;
 
+use byte_search::find_byte;
 use std::alloc::{AllocError, Global};
 use std::marker::Model;
 
@@ -18,21 +19,13 @@ pub(crate) fn begins_with(byte: u8, text: &[u8]) -> bool
     !text.is_empty() && text[0] == byte
 }
 
-// The place of the first space.
-fn find_space(bytes: &[u8]) -> Option<usize>
-    ensures place { result ≡ position spec.is_space bytes.now }
-    ensures within { IfSome result (λ at. at < length bytes.now) }
-{
-    bytes.iter().position(|b| *b == b' ')
-}
-
 /// The first word, and what stands behind the one space that ends it.
 #[tactic(auto, unfolding(crate::specs::Words::word, crate::specs::Words::behind))]
 pub(crate) fn split_word(bytes: &[u8]) -> (&[u8], &[u8])
     ensures word { result.0.now ≡ spec.word bytes.now }
     ensures behind { result.1.now ≡ spec.behind bytes.now }
 {
-    match find_space(bytes) {
+    match find_byte(bytes, b' ') {
         Some(at) => (&bytes[..at], &bytes[at + 1..]),
         None => (bytes, &bytes[bytes.len()..]),
     }

@@ -1,7 +1,7 @@
 use Rattle.std.proofs.Common.{◌≡◌, sym, ◌∙◌, subst, Ok}
 use Rattle.std.specs.Prelude.{IfOk, IfErr}
-use Rattle.bnc_server.specs.ChangeFields.{IsFaultOf}
-use Rattle.bnc_server.proofs.LineLaws.{of_change, of_none}
+use Rattle.bnc_server.specs.ChangeLineFault.{IsFaultOf}
+use Rattle.bnc_server.proofs.LineLemmas.{of_change, of_none}
 use Rattle.bnc_server.proofs.change_line.read_change.Goals as goal
 
 pub returns-then-is_text-clause-made : goal.returns-then-is_text-clause-made

@@ -1,14 +1,18 @@
 use Rattle.std.proofs.Common.{◌-◌, ◌<◌, length, drop, arith, rules, length-drop}
 use Rattle.std.proofs.lemmas.List.{take_rest, length-take}
-use Rattle.bnc_server.proofs.ProgressLaws.{piece_step, piece_fault, advances_failed, drained_room}
+use Rattle.bnc_server.proofs.ProgressLemmas.{goes-nothing, goes-on, goes-stops, goes-fed, stops-fed, advances_failed, drained_room}
 use Rattle.bnc_server.proofs.script.feed_piece.Goals as goal
+
+pub feeds-init : goal.feeds-init
+feeds-init g c = record { drained = c.requires.drained; written = λ node is. goes-nothing _ _ _ _ node is }
 
 pub feeds-preserved : goal.feeds-preserved
 feeds-preserved g c = record {
   drained = c.in_ok-drain.ensures.drained;
-  written =
-      piece_step _ _ _ _ c.feeds.node c.drain.new.node _ c.feeds.feeder c.feed-n.new.self c.drain.new.feeder c.args.piece.now c.feeds.rest.now _ c.feed-n.result c.feeds.invariant.written
-      c.feed-n.ensures.taken (take_rest c.feeds.rest.now c.feed-n.result) c.in_ok-drain.ensures.advances;
+  written = λ node is.
+      goes-on _ _ _ _ c.feeds.node c.feeds.feeder c.feeds.rest.now (c.feeds.invariant.written node is) _ _ _ (λ now held.
+      goes-fed _ _ _ c.feeds.feeder c.feed-n.new.self _ c.feeds.rest.now _ c.feed-n.result c.feed-n.ensures.taken (take_rest c.feeds.rest.now c.feed-n.result) now
+      (c.in_ok-drain.ensures.serves now held));
 }
 
 pub feeds-smaller : goal.feeds-smaller
@@ -18,8 +22,9 @@ feeds-smaller g c =
     let more = c.feed-n.ensures.progress room some in
     omega (arith, more, some, length-take (length c.feeds.rest.now - c.feed-n.result) (drop c.feed-n.result c.feeds.rest.now), length-drop c.feed-n.result c.feeds.rest.now)
 
-pub returns-in_err-drain-clause-advances : goal.returns-in_err-drain-clause-advances
-returns-in_err-drain-clause-advances g c =
-    advances_failed _ _ _ c.from_residual.result _ _ c.from_residual.ensures.1
-    (piece_fault _ _ _ _ c.feeds.node c.drain.new.node _ c.feeds.feeder c.feed-n.new.self c.drain.new.feeder c.args.piece.now c.feeds.rest.now _ c.feed-n.result c.feeds.invariant.written
-    c.feed-n.ensures.taken (take_rest c.feeds.rest.now c.feed-n.result) c.in_err-drain.ensures.advances)
+pub returns-in_err-drain-clause-serves : goal.returns-in_err-drain-clause-serves
+returns-in_err-drain-clause-serves g c node is =
+    advances_failed _ _ _ c.from_residual.result _ _ _ c.from_residual.ensures.1
+    (goes-stops _ _ _ _ c.feeds.node c.feeds.feeder c.feeds.rest.now (c.feeds.invariant.written node is) (λ now held.
+    stops-fed _ _ c.drain.new.node c.feeds.feeder c.feed-n.new.self c.drain.new.feeder c.feeds.rest.now _ c.feed-n.result c.feed-n.ensures.taken (take_rest c.feeds.rest.now c.feed-n.result) now
+    (c.in_err-drain.ensures.serves now held)))

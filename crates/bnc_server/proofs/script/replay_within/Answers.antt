@@ -1,4 +1,4 @@
-use Rattle.bnc_server.proofs.ProgressLaws.{begun, read_more, read_failed, fault_in_piece, faulted}
+use Rattle.bnc_server.proofs.ProgressLemmas.{begun, read_more, read_failed, fault_in_piece, faulted}
 use Rattle.bnc_server.proofs.script.replay_within.Goals as goal
 use Rattle.bnc_server.proofs.script.replay_within.Goals.{in-Ok-read+in_ok-serve_piece-in-Ok-read, in-Err+else-ne}
 
@@ -10,13 +10,13 @@ reads-preserved g c =
     elim c.match-read.branch [
       | in-Ok-read+in_ok-serve_piece-in-Ok-read w ↦
           rw (w.writer-is, w.feeder-is, w.node-is)
-          (read_more _ _ _ _ _ _ _ _ _ c.reads.node _ c.reads.feeder _ _ c.reads.invariant w.in-Ok-read.ensures.bytes.0
-          w.in_ok-serve_piece-in-Ok-read.ensures.advances w.in_ok-serve_piece-in-Ok-read.ensures.drained)
+          (read_more _ _ _ _ _ _ _ c.reads.node c.reads.feeder c.reads.invariant _ _ _ _ _ w.in-Ok-read.ensures.bytes.0
+          w.in_ok-serve_piece-in-Ok-read.ensures.serves w.in_ok-serve_piece-in-Ok-read.ensures.drained)
       | in-Err+else-ne w ↦
-          rw (w.writer-is, w.feeder-is, w.node-is) (read_failed _ _ _ _ _ _ _ _ c.reads.node c.reads.feeder c.reads.invariant w.in-Err.ensures.bytes)
+          rw (w.writer-is, w.feeder-is, w.node-is) (read_failed _ _ _ _ _ _ _ c.reads.node c.reads.feeder c.reads.invariant _ w.in-Err.ensures.bytes)
     ]
 
 pub returns-in_err-serve_piece-in-Ok-read : goal.returns-in_err-serve_piece-in-Ok-read
 returns-in_err-serve_piece-in-Ok-read g c =
     faulted _ _ _ _ _ _ _ c.from_residual.result c.from_residual.ensures.1
-    (fault_in_piece _ _ _ _ _ _ _ _ _ c.reads.node c.reads.feeder _ c.reads.invariant c.in-Ok-read.ensures.bytes.0 c.in_err-serve_piece-in-Ok-read.ensures.advances)
+    (fault_in_piece _ _ _ _ _ _ _ c.reads.node c.reads.feeder c.reads.invariant _ _ _ c.in-Ok-read.ensures.bytes.0 c.in_err-serve_piece-in-Ok-read.ensures.serves)

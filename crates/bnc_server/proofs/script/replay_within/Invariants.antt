@@ -1,4 +1,4 @@
-use Rattle.bnc_server.proofs.ProgressLaws.{HasRead}
+use Rattle.bnc_server.proofs.ProgressLemmas.{HasRead}
 use Rattle.bnc_server.proofs.script.replay_within.Given as goal
 
 abbrev pub invariant-reads : goal.invariant-reads

@@ -1,10 +1,10 @@
 use Rattle.std.proofs.Common.{◌≡◌, sym, ◌∙◌}
-use Rattle.chat_change.specs.Making.{buffer_of}
-use Rattle.bnc_server.proofs.LatestLaws.{not_found}
+use Rattle.chat_change.specs.Buffer.{buffer_of}
+use Rattle.bnc_server.proofs.NodeLemmas.{not_found}
 use Rattle.bnc_server.proofs.node.Node.buffer.Goals as goal
 
-pub returns-else-is_want_of_memory : goal.returns-else-is_want_of_memory
-returns-else-is_want_of_memory c =
+pub returns-else-is_want_of_memory-clause-found : goal.returns-else-is_want_of_memory-clause-found
+returns-else-is_want_of_memory-clause-found c =
     let self = c.args.self.now in
     let account : c.as_bytes.result.now ≡ self.account = cc in
     let network : c.as_bytes-2.result.now ≡ self.network = cc in

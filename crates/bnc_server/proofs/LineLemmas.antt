@@ -2,12 +2,12 @@
 use Rattle.std.proofs.Common.{◌≡◌, ℕ, Bool, true, false, ◌&&◌, List, Option, None, Some, Err, codes, refl, sym, ap, ◌∙◌, subst}
 use Rattle.std.specs.Prelude.{is_none}
 use Rattle.std.proofs.lemmas.Bool.{cond-true, cond-false}
-use Rattle.chat_change.specs.Making.{fault_or_no_memory}
+use Rattle.chat_change.specs.Faults.{fault_or_no_memory}
 use Rattle.chat_change.specs.declared.faults.ChangeFault.{ChangeFault}
 use Rattle.chat_change.specs.declared.faults.ChangeFault.TheVariants.{BadName, BadTarget, BadId, BadSource, BadBody, LineTooLong, NoMemory}
 use Rattle.bnc_server.specs.Words.{is_text, word, behind}
 use Rattle.bnc_server.specs.ChangeLine.{read_change, change_of_kind, bad_form}
-use Rattle.bnc_server.specs.ChangeFields.{IsPartFault, line_fault}
+use Rattle.bnc_server.specs.ChangeLineFault.{IsPartFault, line_fault}
 use Rattle.bnc_server.specs.declared.change_line.ChangeLineFault.{ChangeLineFault}
 use Rattle.bnc_server.specs.declared.change_line.ChangeLineFault.TheVariants as line
 

@@ -1,19 +1,11 @@
--- What the code's fields of a line stand for.
+-- What the code's fault of a line stands for.
 use Rattle.std.specs.Prelude.{◌≡◌, ⊤, Bool, true, false, Result, Err}
-use Rattle.chat_change.specs.declared.changes.Change.{Change}
+use Rattle.chat_change.specs.declared.change.Change.{Change}
 use Rattle.chat_change.specs.declared.faults.ChangeFault as maker
 use Rattle.chat_change.specs.declared.faults.ChangeFault.TheVariants as made
 use Rattle.bnc_server.specs.ChangeLine as spec
-use Rattle.bnc_server.specs.declared.change_line.BufferFields.{BufferFields}
-use Rattle.bnc_server.specs.declared.change_line.PostFields.{PostFields}
 use Rattle.bnc_server.specs.declared.change_line.ChangeLineFault.{ChangeLineFault}
 use Rattle.bnc_server.specs.declared.change_line.ChangeLineFault.TheVariants.{BadForm, BadField, NoMemory}
-
-abbrev pub names_in : BufferFields → spec.BufferFields
-names_in b = record { account = b.account.now; network = b.network.now; target = b.target.now; rest = b.rest.now }
-
-abbrev pub post_in : PostFields → spec.PostFields
-post_in p = record { id = p.id.now; at = p.at.now; kind = p.kind.now; to = p.to.now; source = p.source.now; body = p.body.now }
 
 -- the fault is the line's own; none is told of a line where there was no memory
 abbrev pub IsFaultOf : Result Change spec.Refusal → ChangeLineFault → Type 0

@@ -1,14 +1,14 @@
 -- What an item of a script asks for.
 use Rattle.std.specs.Prelude.{ℕ, Bool, ◌||◌, List, codes, take, Result, if◌then◌else◌}
 use Rattle.irc_line.specs.Stream.{Item, line, too_long}
-use Rattle.chat_change.specs.declared.changes.Change.{Change}
+use Rattle.chat_change.specs.declared.change.Change.{Change}
 use Rattle.bnc_server.specs.Words.{is_text, begins_with, word, behind}
 use Rattle.bnc_server.specs.ChangeLine.{Refusal, read_change}
 use Rattle.bnc_server.specs.ClientLine.{ClientLine, other, over_long, client_line}
 
-pub data Asked : Type 0 where
-  of_change : Result Change Refusal → Asked
-  of_client : ClientLine → Asked
+pub data Request : Type 0 where
+  of_change : Result Change Refusal → Request
+  of_client : ClientLine → Request
 
 -- a line of a change begins with `C` and a space
 abbrev pub is_change_line : List ℕ → Bool
@@ -18,16 +18,17 @@ is_change_line bytes = is_text (take 2 bytes) (codes "C ")
 abbrev pub is_later_kind : List ℕ → Bool
 is_later_kind kind = is_text kind (codes "REDACT") || is_text kind (codes "FLOOR")
 
-abbrev pub asked_in_change_line : List ℕ → Asked
-asked_in_change_line bytes = if is_later_kind (word (behind bytes)) then of_client other else of_change (read_change bytes)
+abbrev pub request_in_change_line : List ℕ → Request
+request_in_change_line bytes = if is_later_kind
+    (word (behind bytes)) then of_client other else of_change (read_change bytes)
 
 -- lines that begin with `%` aren't served yet
-unfoldable pub asked : List ℕ → Asked
-asked bytes =
-    if is_change_line bytes then asked_in_change_line bytes
+unfoldable pub request_in : List ℕ → Request
+request_in bytes =
+    if is_change_line bytes then request_in_change_line bytes
     else if begins_with 37 bytes then of_client other
     else of_client (client_line bytes)
 
-abbrev pub asked_by : Item → Asked
-asked_by (line bytes) = asked bytes
-asked_by too_long = of_client over_long
+abbrev pub request_of : Item → Request
+request_of (line bytes) = request_in bytes
+request_of too_long = of_client over_long

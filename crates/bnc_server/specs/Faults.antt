@@ -1,0 +1,33 @@
+-- Which fault a script ends with.
+use Rattle.std.specs.Prelude.{◌≡◌, ◌≢◌, ⊤, Ok, Err}
+use Rattle.chat_state.specs.declared.faults.StateFault.{StateFault}
+use Rattle.chat_state.specs.declared.faults.StateFault.TheVariants as state
+use Rattle.chat_change.specs.declared.change.Change.{Change}
+use Rattle.chat_state.specs.Held.{IsPastTheLast}
+use Rattle.bnc_server.specs.declared.fault.ReplayFault.{ReplayFault}
+use Rattle.bnc_server.specs.declared.fault.ReplayFault.TheVariants.{NoMemory, Read, Write}
+use Rattle.bnc_server.specs.ClientLine.{nothing, over_long, unknown, other, latest_of, marker_of}
+use Rattle.bnc_server.specs.Request.{Request, of_change, of_client}
+use Rattle.bnc_server.specs.HeldNode.{HeldNode}
+
+-- of a change that isn't taken
+abbrev pub of_state : StateFault → ReplayFault
+of_state state.Exhausted = Read
+of_state state.NoMemory = NoMemory
+
+-- a change that is taken writes nothing, and is refused as Read exactly where no number is left
+abbrev pub MayRefuse : HeldNode → Change → ReplayFault → Type 0
+MayRefuse held change NoMemory = ⊤
+MayRefuse held change Read = IsPastTheLast held.state change
+MayRefuse held change Write = ⊥
+
+-- the fault may come of a node that is asked: what takes no memory and no change can only fail to write
+abbrev pub MayEnd : HeldNode → Request → ReplayFault → Type 0
+MayEnd held (of_change (Ok change)) fault = MayRefuse held change fault
+MayEnd held (of_change (Err refusal)) fault = fault ≢ Read
+MayEnd held (of_client nothing) fault = ⊥
+MayEnd held (of_client over_long) fault = fault ≡ Write
+MayEnd held (of_client unknown) fault = fault ≡ Write
+MayEnd held (of_client other) fault = fault ≡ Write
+MayEnd held (of_client (latest_of given limit)) fault = fault ≢ Read
+MayEnd held (of_client (marker_of given)) fault = fault ≢ Read
