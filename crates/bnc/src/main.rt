@@ -1,14 +1,15 @@
 //! The bouncer. `bnc replay <account> <network> <nick>` answers the script on standard input.
 #![tactic(auto)]
 
-ghost use Rattle.std.specs.Prelude.{◌≡◌, None, IfOk};
-ghost use Rattle.chat_change.specs.Making.{buffer_fault};
+ghost use Rattle.std.specs.Prelude.{◌≡◌, ◌≢◌, ◌↔◌, None, Ok, Err, IfOk, IfErr, IsTrue};
+ghost use Rattle.chat_change.specs.Faults.{buffer_fault};
+ghost use Rattle.bnc.specs.Status.{status_of};
 
 use bnc_server::{ReplayFault, replay};
 use chat_change::{Buffer, ChangeFault};
 use std::alloc::Global;
 use std::env;
-use std::io::{BufWriter, Write};
+use std::io::{BufWriter, ErrorKind, Read, Write};
 use std::process::ExitCode;
 
 #[cfg(test)]
@@ -23,12 +24,14 @@ enum End {
     Usage,
     /// There was no memory.
     NoMemory,
-    /// Standard input or output failed.
+    /// Standard input or output failed, or a node can take no further change.
     Device,
 }
 
 impl End {
-    fn status(self) -> u8 {
+    fn status(self) -> u8
+        ensures { result ≡ status_of self }
+    {
         match self {
             End::Usage => 2,
             End::NoMemory => 3,
@@ -43,6 +46,32 @@ impl End {
             End::NoMemory => "no memory",
             End::Device => "read or write failed",
         }
+    }
+}
+
+/// How the program ends, by what answering the script and the last flush came to.
+fn end_of(answered: Result<(), ReplayFault>, flushed: bool) -> Result<(), End>
+    ensures done { (result ≡ Ok tt) ↔ ((answered ≡ Ok tt) × IsTrue flushed) }
+    ensures no_memory { (result ≡ Err End.NoMemory) ↔ (answered ≡ Err ReplayFault.NoMemory) }
+    ensures not_words { result ≢ Err End.Usage }
+{
+    match answered {
+        Ok(()) => { if flushed { Ok(()) } else { Err(End::Device) } }
+        Err(ReplayFault::NoMemory) => Err(End::NoMemory),
+        Err(ReplayFault::Read) => Err(End::Device),
+        Err(ReplayFault::Write) => Err(End::Device),
+    }
+}
+
+/// The end of a program whose words can't be had: a word that isn't text is no command.
+fn end_without_words(kind: ErrorKind) -> End
+    ensures no_memory { (result ≡ End.NoMemory) ↔ (kind ≡ ErrorKind.OutOfMemory) }
+    ensures usage { result ≢ End.Device }
+{
+    if kind == ErrorKind::OutOfMemory {
+        End::NoMemory
+    } else {
+        End::Usage
     }
 }
 
@@ -68,7 +97,9 @@ fn names_in<'a>(words: &'a [String]) -> Option<Names<'a>> {
 
 /// The names that the words give, if a node can have them.
 fn chosen<'a>(alloc: Global, words: &'a [String]) -> Result<Names<'a>, End>
-    ensures { IfOk result (λ names. buffer_fault names.account.now names.network.now names.nick.now ≡ None) }
+    ensures lawful { IfOk result
+        (λ names. buffer_fault names.account.now names.network.now names.nick.now ≡ None) }
+    ensures refused { IfErr result (λ end. end ≢ End.Device) }
 {
     match names_in(words) {
         None => Err(End::Usage),
@@ -80,27 +111,35 @@ fn chosen<'a>(alloc: Global, words: &'a [String]) -> Result<Names<'a>, End>
     }
 }
 
-/// Answers standard input on standard output.
-fn answer_input(rt: &HostRuntime, account: &[u8], network: &[u8], nick: &[u8]) -> Result<(), End>
-    requires { buffer_fault account.now network.now nick.now ≡ None }
+/// Answers a script.
+fn answer<In: Read, Out: Write + Drop>(
+    alloc: Global,
+    reader: &mut In,
+    writer: Out,
+    names: Names<'_>,
+) -> Result<(), End>
+    requires { buffer_fault names.account.now names.network.now names.nick.now ≡ None }
 {
-    let mut reader = rt.stdin();
-    let Ok(mut writer) = BufWriter::new(rt.alloc(), rt.stdout()) else {
+    let Ok(mut writer) = BufWriter::new(alloc, writer) else {
         return Err(End::NoMemory);
     };
-    let answered = replay(rt.alloc(), &mut reader, &mut writer, account, network, nick);
+    let answered = replay(
+        alloc,
+        reader,
+        &mut writer,
+        names.account,
+        names.network,
+        names.nick,
+    );
     let flushed = writer.flush().is_ok();
-    match answered {
-        Ok(()) => { if flushed { Ok(()) } else { Err(End::Device) } }
-        Err(ReplayFault::NoMemory) => Err(End::NoMemory),
-        Err(_) => Err(End::Device),
-    }
+    end_of(answered, flushed)
 }
 
 /// The words behind the program's name.
 fn words(rt: &HostRuntime) -> Result<Vec<String>, End> {
-    let Ok(all) = env::args(rt) else {
-        return Err(End::NoMemory);
+    let all = match env::args(rt) {
+        Ok(all) => all,
+        Err(e) => return Err(end_without_words(e.kind())),
     };
     let words: Result<Vec<String>, _> = all.skip(1).collect(rt.alloc());
     match words {
@@ -112,7 +151,7 @@ fn words(rt: &HostRuntime) -> Result<Vec<String>, End> {
 fn run(rt: &HostRuntime) -> Result<(), End> {
     let words = words(rt)?;
     match chosen(rt.alloc(), &words) {
-        Ok(names) => answer_input(rt, names.account, names.network, names.nick),
+        Ok(names) => answer(rt.alloc(), &mut rt.stdin(), rt.stdout(), names),
         Err(end) => Err(end),
     }
 }

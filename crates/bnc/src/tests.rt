@@ -1,7 +1,10 @@
 //! The words of the program, and how it ends.
 
-use super::{End, chosen};
+use super::{End, answer, chosen, end_of, end_without_words, words};
+use bnc_server::ReplayFault;
 use std::alloc::{AllocError, Global};
+use std::io::ErrorKind;
+use test_devices::{Sink, Source};
 
 /// The words of a line.
 fn words_of(alloc: Global, line: &str) -> Result<Vec<String>, AllocError> {
@@ -47,6 +50,59 @@ fn names_are_found(rt: HostRuntime) {
         }
         Err(_) => assert!(rt; false),
     }
+}
+
+#[test]
+fn failing_devices_are_told(rt: HostRuntime) {
+    for (reads, flushes, want) in [
+        (9, 9, Ok(())),
+        (1, 9, Err(End::Device)),
+        (9, 0, Err(End::Device)),
+        (1, 0, Err(End::Device)),
+    ] {
+        let words = words_of(rt.alloc(), "replay demo net al").expect(&rt, "memory");
+        let mut reader = Source::new(b"MARKREAD #a\n").failing_after(reads);
+        let writer = Sink::new(rt.alloc()).failing_after_flushes(flushes);
+        match chosen(rt.alloc(), &words) {
+            Ok(names) => {
+                let end = answer(rt.alloc(), &mut reader, writer, names);
+                assert!(rt; end == want, "at {reads} {flushes}");
+            }
+            Err(_) => assert!(rt; false),
+        }
+    }
+}
+
+#[test]
+fn each_answer_has_its_end(rt: HostRuntime) {
+    for (answered, flushed, want) in [
+        (Ok(()), true, Ok(())),
+        (Ok(()), false, Err(End::Device)),
+        (Err(ReplayFault::NoMemory), true, Err(End::NoMemory)),
+        (Err(ReplayFault::NoMemory), false, Err(End::NoMemory)),
+        (Err(ReplayFault::Read), true, Err(End::Device)),
+        (Err(ReplayFault::Write), false, Err(End::Device)),
+    ] {
+        assert!(rt; end_of(answered, flushed) == want);
+    }
+}
+
+// The words of the program that runs the tests aren't those of a script.
+#[test]
+fn words_of_another_program_are_refused(rt: HostRuntime) {
+    match words(&rt) {
+        Ok(words) => match chosen(rt.alloc(), &words) {
+            Ok(_) => assert!(rt; false),
+            Err(end) => assert!(rt; end == End::Usage),
+        },
+        Err(_) => assert!(rt; false),
+    }
+}
+
+#[test]
+fn a_word_that_is_no_text_is_no_command(rt: HostRuntime) {
+    assert!(rt; end_without_words(ErrorKind::InvalidData) == End::Usage);
+    assert!(rt; end_without_words(ErrorKind::OutOfMemory) == End::NoMemory);
 }
 
 #[test]
