@@ -18,7 +18,7 @@ const EXHAUSTED_AFTER_1: TakeFault = TakeFault {
 
 fn take(alloc: Global, state: &mut State, steps: &[Step]) -> Result<(), Fail> {
     let changes = changes_of(alloc, steps)?;
-    state.take(alloc, &changes)?;
+    state.take(&changes)?;
     Ok(())
 }
 
@@ -131,7 +131,7 @@ fn a_redaction_holds_before_and_after_its_post(rt: HostRuntime) -> Result<(), Fa
 fn early_state(alloc: Global) -> Result<State, Fail> {
     let mut state = state_of(alloc, &[message(b"#a", b"m1", 1000, b"a")])?;
     let change = change_of(alloc, &floor(b"#a", 1500))?;
-    state.absorb(alloc, change.try_clone()?)?;
+    state.absorb(change.try_clone()?)?;
     Ok(state)
 }
 
@@ -145,9 +145,9 @@ fn late_state(alloc: Global) -> Result<State, Fail> {
 // A copy of a state, which has then taken another twice. None where the second time left a higher front.
 fn merged_twice(alloc: Global, state: &State, other: &State) -> Result<Option<State>, Fail> {
     let mut both = state.try_clone(alloc)?;
-    both.merge(alloc, other)?;
+    both.merge(other)?;
     let front = both.front();
-    both.merge(alloc, other)?;
+    both.merge(other)?;
     if both.front() == front {
         Ok(Some(both))
     } else {
@@ -193,8 +193,8 @@ fn floors_that_are_due_are_due_once(rt: HostRuntime) -> Result<(), Fail> {
     )?;
     let floors = state.due_floors(alloc, now, 1)?;
     assert_eq!(rt; floors.len(), 2);
-    assert_eq!(rt; floors[0].buffer().target(), b"#a".as_slice());
-    state.take(alloc, &floors)?;
+    assert_eq!(rt; floors[0].key().buffer().target(), b"#a".as_slice());
+    state.take(&floors)?;
     let left = [
         message(b"#a", b"m2", 2000, b"c"),
         floor(b"#a", 2000),
@@ -211,12 +211,12 @@ fn floors_that_are_due_are_due_once(rt: HostRuntime) -> Result<(), Fail> {
 fn no_change_is_taken_past_the_last_number(rt: HostRuntime) -> Result<(), Fail> {
     let alloc = rt.alloc();
     let mut state = State::new_at(alloc, LAST);
-    let refused = state.absorb(alloc, change_of(alloc, &mark(b"#a", 0))?);
+    let refused = state.absorb(change_of(alloc, &mark(b"#a", 0))?);
     assert_eq!(rt; refused.err(), Some(StateFault::Exhausted));
-    let refused = state.absorb(alloc, change_of(alloc, &redact(b"#a", b"m1"))?);
+    let refused = state.absorb(change_of(alloc, &redact(b"#a", b"m1"))?);
     assert_eq!(rt; refused.err(), Some(StateFault::Exhausted));
     assert_eq!(rt; wrong_look_up(alloc, &mut state, &[])?, None);
-    assert!(rt; !state.absorb(alloc, change_of(alloc, &floor(b"#a", 0))?)?);
+    assert!(rt; !state.absorb(change_of(alloc, &floor(b"#a", 0))?)?);
     assert_eq!(rt; wrong_look_up(alloc, &mut state, &[])?, None);
     assert_eq!(rt; state.front(), LAST);
     Ok(())
@@ -228,10 +228,10 @@ fn what_was_taken_before_the_last_number_stands(rt: HostRuntime) -> Result<(), F
     let mut state = State::new_at(alloc, LAST - 1);
     let steps = [mark(b"#a", 1000), message(b"#a", b"m1", 1000, b"a")];
     let changes = changes_of(alloc, &steps)?;
-    let refused = state.take(alloc, &changes);
+    let refused = state.take(&changes);
     assert_eq!(rt; refused.err(), Some(EXHAUSTED_AFTER_1));
     assert_eq!(rt; wrong_look_up(alloc, &mut state, &steps[..1])?, None);
-    let refused = state.take(alloc, &changes);
+    let refused = state.take(&changes);
     assert_eq!(rt; refused.err(), Some(EXHAUSTED_AFTER_1));
     assert_eq!(rt; wrong_look_up(alloc, &mut state, &steps[..1])?, None);
     assert_eq!(rt; state.front(), LAST);
@@ -247,12 +247,12 @@ fn a_merge_goes_by_number_up_to_the_last(rt: HostRuntime) -> Result<(), Fail> {
     let late = message(b"#a", b"m1", 2000, b"b");
     let other = state_of(alloc, &[early, redaction, mark(b"#a", 1000), late])?;
     let mut state = State::new_at(alloc, LAST - 1);
-    let refused = state.merge(alloc, &other);
+    let refused = state.merge(&other);
     assert_eq!(rt; refused.err(), Some(EXHAUSTED_AFTER_1));
     assert_eq!(rt; wrong_look_up(alloc, &mut state, &[redaction])?, None);
     assert_eq!(rt; state.front(), LAST);
     let part = state_of(alloc, &[redaction])?;
-    state.merge(alloc, &part)?;
+    state.merge(&part)?;
     assert_eq!(rt; wrong_look_up(alloc, &mut state, &[redaction])?, None);
     Ok(())
 }

@@ -145,7 +145,7 @@ fn wrong_absorb(
     changes: bool,
 ) -> Result<Option<&'static str>, Fail> {
     let front = state.front();
-    let changed = state.absorb(alloc, change_of(alloc, step)?)?;
+    let changed = state.absorb(change_of(alloc, step)?)?;
     if changed != changes {
         return Ok(Some("absorb"));
     }
@@ -201,14 +201,14 @@ fn wrong_in_lists(
 fn taken(alloc: Global, steps: &[Step]) -> Result<State, Fail> {
     let changes = changes_of(alloc, steps)?;
     let mut state = State::new(alloc);
-    state.take(alloc, &changes)?;
+    state.take(&changes)?;
     Ok(state)
 }
 
 fn wrong_in_merge(alloc: Global, turn: &[Step]) -> Result<Option<&'static str>, Fail> {
     let other = taken(alloc, &turn[turn.len().min(2)..])?;
     let mut state = taken(alloc, &turn[..turn.len().min(2)])?;
-    state.merge(alloc, &other)?;
+    state.merge(&other)?;
     wrong_look_up(alloc, &mut state, turn)
 }
 

@@ -1,5 +1,5 @@
 //! Changes in plain numbers and texts, and the changes that are made of them.
-use chat_change::{Buffer, Change, Kind, MsgId, Record};
+use chat_change::{Buffer, Change, Kind, Message, MsgId, Record};
 use irc_time::Moment;
 use std::alloc::Global;
 use std::test::Fail;
@@ -115,16 +115,13 @@ fn record_of(alloc: Global, post: &Post) -> Result<Record, Fail> {
     let kind = kind_of(post.letter);
     let buffer = buffer_of(alloc, post.channel)?;
     let id = MsgId::new(alloc, post.id)?;
-    Ok(Record::new(
-        alloc,
-        buffer,
-        id,
-        at,
+    let message = Message {
         kind,
-        post.source,
-        post.target,
-        post.body,
-    )?)
+        source: post.source,
+        target: post.target,
+        body: post.body,
+    };
+    Ok(Record::new(alloc, buffer, id, at, message)?)
 }
 
 fn redaction_of(

@@ -10,6 +10,12 @@ mod history_model;
 #[cfg(test)]
 mod history_orders;
 #[cfg(test)]
+mod history_random;
+#[cfg(test)]
 mod history_steps;
+#[cfg(test)]
+mod limits;
+#[cfg(test)]
+mod reads;
 #[cfg(test)]
 mod tests;

@@ -2,78 +2,10 @@
 use bnc_server::{ReplayFault, replay};
 use std::alloc::Global;
 use std::io;
-use std::io::{ErrorKind, Read, Write};
-
-/// Gives a script in reads of so many bytes at most, and fails at each read once it has made so many.
-#[derive(Drop)]
-struct Pieces<'a> {
-    rest: &'a [u8],
-    most: usize,
-    reads_left: usize,
-}
-
-impl<'a> Read for Pieces<'a> {
-    fn read(&mut self, buf: &mut [u8]) -> io::Result<usize> {
-        if self.reads_left == 0 {
-            return Err(io::Error::from(ErrorKind::BrokenPipe));
-        }
-        self.reads_left -= 1;
-        let all = self.rest;
-        let n = all.len().min(self.most).min(buf.len());
-        buf[..n].copy_from_slice(&all[..n]);
-        self.rest = &all[n..];
-        Ok(n)
-    }
-}
-
-/// Takes so many bytes a write at most, and fails at each write once it has made so many.
-#[derive(Drop)]
-struct Kept {
-    bytes: Vec<u8>,
-    most: usize,
-    writes_left: usize,
-}
-
-impl Write for Kept {
-    fn write(&mut self, buf: &[u8]) -> io::Result<usize> {
-        if self.writes_left == 0 {
-            return Err(io::Error::from(ErrorKind::BrokenPipe));
-        }
-        let n = buf.len().min(self.most);
-        match self.bytes.extend_from_slice(&buf[..n]) {
-            Ok(()) => {
-                self.writes_left -= 1;
-                Ok(n)
-            }
-            Err(_) => Err(io::Error::from(ErrorKind::OutOfMemory)),
-        }
-    }
-
-    fn flush(&mut self) -> io::Result<()> {
-        Ok(())
-    }
-}
-
-const MANY: usize = 1_000_000;
-
-fn whole(script: &[u8]) -> Pieces<'_> {
-    Pieces {
-        rest: script,
-        most: MANY,
-        reads_left: MANY,
-    }
-}
-
-fn empty_writer(alloc: Global) -> Kept {
-    Kept {
-        bytes: Vec::new(alloc),
-        most: MANY,
-        writes_left: MANY,
-    }
-}
+use test_devices::{Event, Log, Sink, Source};
 
 /// Runs a script of the account demo on the network net, whose nick is al.
-fn run(alloc: Global, mut reader: Pieces<'_>, writer: &mut Kept) -> Result<(), ReplayFault> {
+fn run(alloc: Global, mut reader: Source<'_>, writer: &mut Sink<'_>) -> Result<(), ReplayFault> {
     replay(alloc, &mut reader, writer, b"demo", b"net", b"al")
 }
 
@@ -109,12 +41,12 @@ fn pages_are_printed(rt: HostRuntime) {
         ),
     ];
     for (i, (script, want)) in rows.iter().enumerate() {
-        let mut writer = empty_writer(rt.alloc());
+        let mut writer = Sink::new(rt.alloc());
         assert!(rt;
-            run(rt.alloc(), whole(script), &mut writer).is_ok(),
+            run(rt.alloc(), Source::new(script), &mut writer).is_ok(),
             "at {i}"
         );
-        assert!(rt; writer.bytes.as_slice() == *want, "at {i}");
+        assert!(rt; writer.bytes() == *want, "at {i}");
     }
 }
 
@@ -161,12 +93,12 @@ fn other_lines_are_answered(rt: HostRuntime) {
         ),
     ];
     for (i, (script, want)) in rows.iter().enumerate() {
-        let mut writer = empty_writer(rt.alloc());
+        let mut writer = Sink::new(rt.alloc());
         assert!(rt;
-            run(rt.alloc(), whole(script), &mut writer).is_ok(),
+            run(rt.alloc(), Source::new(script), &mut writer).is_ok(),
             "at {i}"
         );
-        assert!(rt; writer.bytes.as_slice() == *want, "at {i}");
+        assert!(rt; writer.bytes() == *want, "at {i}");
     }
 }
 
@@ -197,61 +129,111 @@ fn long_lines_are_refused(rt: HostRuntime) {
     ];
     for (i, (front, count, end, want)) in rows.iter().enumerate() {
         let script = long_script(rt.alloc(), front, *count, end).expect(&rt, "memory");
-        let mut writer = empty_writer(rt.alloc());
+        let mut writer = Sink::new(rt.alloc());
         assert!(rt;
-            run(rt.alloc(), whole(&script), &mut writer).is_ok(),
+            run(rt.alloc(), Source::new(&script), &mut writer).is_ok(),
             "at {i}"
         );
-        assert!(rt; writer.bytes.as_slice() == *want, "at {i}");
+        assert!(rt; writer.bytes() == *want, "at {i}");
     }
 }
 
 #[test]
 fn cutting_does_not_show(rt: HostRuntime) {
-    let reader = Pieces {
-        rest: ONE_MESSAGE,
-        most: 1,
-        reads_left: MANY,
-    };
-    let mut writer = Kept {
-        bytes: Vec::new(rt.alloc()),
-        most: 1,
-        writes_left: MANY,
-    };
+    let reader = Source::new(ONE_MESSAGE).at_most(1);
+    let mut writer = Sink::new(rt.alloc()).at_most(1);
     assert!(rt; run(rt.alloc(), reader, &mut writer).is_ok());
-    assert!(rt; writer.bytes.as_slice() == ONE_PAGE);
+    assert!(rt; writer.bytes() == ONE_PAGE);
+}
+
+#[test]
+fn an_interruption_does_not_show(rt: HostRuntime) {
+    let reader = Source::new(ONE_MESSAGE).at_most(7).interrupted();
+    let mut writer = Sink::new(rt.alloc()).interrupted();
+    assert!(rt; run(rt.alloc(), reader, &mut writer).is_ok());
+    assert!(rt; writer.bytes() == ONE_PAGE);
+}
+
+// Whoever asked sees the answers before more is read.
+#[test]
+fn answers_are_sent_before_more_is_read(rt: HostRuntime) {
+    let log = Log::new(rt.alloc());
+    let reader = Source::new(b"x\ny\nz\n").at_most(4).logged(&log);
+    let mut writer = Sink::new(rt.alloc()).logged(&log);
+    assert!(rt; run(rt.alloc(), reader, &mut writer).is_ok());
+    assert!(rt; writer.bytes() == b"% NotYet\r\n% NotYet\r\n% NotYet\r\n".as_slice());
+    assert!(rt;
+        log.is(&[
+            Event::Read(4),
+            Event::Write(10),
+            Event::Write(10),
+            Event::Flush,
+            Event::Read(2),
+            Event::Write(10),
+            Event::Flush,
+            Event::Read(0),
+        ])
+    );
 }
 
 #[test]
 fn a_failing_reader_is_told(rt: HostRuntime) {
     for k in 0..ONE_MESSAGE.len() + 1 {
-        let reader = Pieces {
-            rest: ONE_MESSAGE,
-            most: 1,
-            reads_left: k,
-        };
-        let mut writer = empty_writer(rt.alloc());
+        let reader = Source::new(ONE_MESSAGE).at_most(1).failing_after(k);
+        let mut writer = Sink::new(rt.alloc());
         match run(rt.alloc(), reader, &mut writer) {
             Ok(()) => assert!(rt; false, "at {k}"),
             Err(fault) => assert!(rt; fault == ReplayFault::Read, "at {k}"),
         }
         let want: &[u8] = if k < ONE_MESSAGE.len() { b"" } else { ONE_PAGE };
-        assert!(rt; writer.bytes.as_slice() == want, "at {k}");
+        assert!(rt; writer.bytes() == want, "at {k}");
+    }
+}
+
+// One line of each kind that is answered, and the answers.
+const EACH_KIND: &[u8] =
+    b"C POST demo net #a m1 1000 P #a bob!b@h :hi\nCHATHISTORY LATEST #a * 10\nMARKREAD #a\nC MARK demo net #a 5000\nMARKREAD #a\nC X\nC MARK demo net #a x\n12 x\nPRIVMSG #a :hi\n";
+
+const EACH_ANSWER: &[u8] =
+    b":bnc.example BATCH +r1 chathistory #a\r\n@batch=r1;msgid=m1;time=1970-01-01T00:00:01.000Z :bob!b@h PRIVMSG #a :hi\r\n:bnc.example BATCH -r1\r\n:bnc.example MARKREAD #a *\r\n:bnc.example MARKREAD #a timestamp=1970-01-01T00:00:05.000Z\r\n% BadForm\r\n% BadField\r\n:bnc.example 421 al * :Unknown command\r\n% NotYet\r\n";
+
+#[test]
+fn a_failing_writer_is_told(rt: HostRuntime) {
+    for k in 0..EACH_ANSWER.len() {
+        let mut writer = Sink::new(rt.alloc()).at_most(1).failing_after(k);
+        match run(rt.alloc(), Source::new(EACH_KIND), &mut writer) {
+            Ok(()) => assert!(rt; false, "at {k}"),
+            Err(fault) => assert!(rt; fault == ReplayFault::Write, "at {k}"),
+        }
+        assert!(rt; writer.bytes() == &EACH_ANSWER[..k], "at {k}");
+    }
+    let mut writer = Sink::new(rt.alloc()).at_most(1);
+    assert!(rt; run(rt.alloc(), Source::new(EACH_KIND), &mut writer).is_ok());
+    assert!(rt; writer.bytes() == EACH_ANSWER);
+}
+
+#[test]
+fn a_writer_that_fails_at_a_line_that_is_too_long_is_told(rt: HostRuntime) {
+    let script = long_script(rt.alloc(), b"%", 8702, b"\n").expect(&rt, "memory");
+    for k in 0..TOO_LONG.len() {
+        let mut writer = Sink::new(rt.alloc()).at_most(1).failing_after(k);
+        match run(rt.alloc(), Source::new(&script), &mut writer) {
+            Ok(()) => assert!(rt; false, "at {k}"),
+            Err(fault) => assert!(rt; fault == ReplayFault::Write, "at {k}"),
+        }
+        assert!(rt; writer.bytes() == &TOO_LONG[..k], "at {k}");
     }
 }
 
 #[test]
-fn a_failing_writer_is_told(rt: HostRuntime) {
-    for k in 0..ONE_PAGE.len() {
-        let mut writer = Kept {
-            bytes: Vec::new(rt.alloc()),
-            most: 1,
-            writes_left: k,
-        };
-        match run(rt.alloc(), whole(ONE_MESSAGE), &mut writer) {
-            Ok(()) => assert!(rt; false, "at {k}"),
-            Err(fault) => assert!(rt; fault == ReplayFault::Write, "at {k}"),
-        }
-        assert!(rt; writer.bytes.as_slice() == &ONE_PAGE[..k], "at {k}");
+fn a_failing_flush_is_told(rt: HostRuntime) {
+    let mut writer = Sink::new(rt.alloc()).failing_after_flushes(1);
+    let reader = Source::new(b"MARKREAD #a\nMARKREAD #b\n").at_most(12);
+    match run(rt.alloc(), reader, &mut writer) {
+        Ok(()) => assert!(rt; false),
+        Err(fault) => assert!(rt; fault == ReplayFault::Write),
     }
+    assert!(rt;
+        writer.bytes() == b":bnc.example MARKREAD #a *\r\n:bnc.example MARKREAD #b *\r\n".as_slice()
+    );
 }
