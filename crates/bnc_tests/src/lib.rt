@@ -18,4 +18,6 @@ mod limits;
 #[cfg(test)]
 mod reads;
 #[cfg(test)]
+mod state_limits;
+#[cfg(test)]
 mod tests;

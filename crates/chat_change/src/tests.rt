@@ -482,22 +482,48 @@ fn changes_have_copies(rt: HostRuntime) -> Result<(), Fail> {
     Ok(())
 }
 
+// A change of each kind: in the channel #b but for one post.
+fn change_named(alloc: Global, name: &str) -> Result<Change, Fail> {
+    let at = Moment::from_ms(2000).ok_or("no moment")?;
+    match name {
+        "post" => Ok(post(alloc, b"#B")?),
+        "post in another channel" => Ok(post(alloc, b"#c")?),
+        "redaction" => Ok(redaction(alloc, b"m1", Some(at))?),
+        "redaction of another message" => Ok(redaction(alloc, b"M1", None)?),
+        "marker" => Ok(marker(alloc, at)?),
+        _ => Ok(floor(alloc, at)?),
+    }
+}
+
+fn share_a_key(alloc: Global, one: &str, other: &str) -> Result<bool, Fail> {
+    let one = change_named(alloc, one)?;
+    let other = change_named(alloc, other)?;
+    Ok(one.key().is_same(&other.key()))
+}
+
 #[test]
 fn keys_tell_changes_apart(rt: HostRuntime) -> Result<(), Fail> {
-    let at = Moment::from_ms(2000).ok_or("no moment")?;
-    let post_in_b = post(rt.alloc(), b"#B")?;
-    let post_in_c = post(rt.alloc(), b"#c")?;
-    let redaction_in_b = redaction(rt.alloc(), b"m1", Some(at))?;
-    let other_redaction = redaction(rt.alloc(), b"M1", None)?;
-    let marker_in_b = marker(rt.alloc(), at)?;
-    let floor_in_b = floor(rt.alloc(), at)?;
-    let key = post_in_b.key();
-    assert_eq!(rt; key.buffer().target(), b"#b".as_slice());
-    assert!(rt; key.is_same(&redaction_in_b.key()));
-    assert!(rt; !key.is_same(&post_in_c.key()));
-    assert!(rt; !key.is_same(&other_redaction.key()));
-    assert!(rt; !key.is_same(&marker_in_b.key()));
-    assert!(rt; !marker_in_b.key().is_same(&floor_in_b.key()));
-    assert!(rt; !floor_in_b.key().is_same(&key));
+    for (one, other, same) in [
+        ("post", "redaction", true),
+        ("post", "post in another channel", false),
+        ("post", "redaction of another message", false),
+        ("post", "marker", false),
+        ("marker", "floor", false),
+        ("floor", "post", false),
+        ("floor", "floor", true),
+    ] {
+        assert_eq!(rt;
+            share_a_key(rt.alloc(), one, other)?,
+            same,
+            "{one}, {other}"
+        );
+    }
+    Ok(())
+}
+
+#[test]
+fn a_key_has_the_buffer_of_its_change(rt: HostRuntime) -> Result<(), Fail> {
+    let change = post(rt.alloc(), b"#B")?;
+    assert_eq!(rt; change.key().buffer().target(), b"#b".as_slice());
     Ok(())
 }
