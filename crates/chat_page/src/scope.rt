@@ -20,7 +20,11 @@ impl<'a> Model for Scope<'a> {
 
     ghost Value = { spec.Scope };
 
-    ghost view = { λ s. record { account = s.account.now; network = s.network.now; maximum = s.maximum } };
+    ghost view = { λ s. record {
+      account = s.account.now;
+      network = s.network.now;
+      maximum = s.maximum;
+    } };
 
     ghost invariant = { λ s. (words.is_name s.account.now ≡ true) × (words.is_name s.network.now
         ≡ true) };

@@ -31,7 +31,8 @@ pub struct Feeder {
 impl Model for Feeder {
     ghost Value = { Held };
 
-    ghost view = { λ f. if f.in_long_line then skipping else holding (drop f.start f.buffer.items) };
+    ghost view = { λ f. if f.in_long_line then skipping
+        else holding (drop f.start f.buffer.items) };
 
     ghost invariant = { λ f. record {
       in_order : f.start ≤ f.searched;

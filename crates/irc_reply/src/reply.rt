@@ -28,7 +28,8 @@ pub fn write_reply<'a, W: Write>(
     writer: &mut W,
 ) -> io::Result<()>
     ensures { Writes W.contents writer.old writer.new result
-        (reply cluster.now command.now (map (λ p. p.now) middles.now) (option_copied trailing.entry)) }
+        (reply cluster.now command.now (map (λ p. p.now) middles.now)
+        (option_copied trailing.entry)) }
 {
     let line = OutLine {
         tags: None,
