@@ -10,10 +10,10 @@ use Rattle.chat_change.specs.Faults.{buffer_fault, fault_or_no_memory}
 use Rattle.chat_change.specs.Buffer.{buffer_of}
 use Rattle.chat_change.specs.declared.change.Change.{Change}
 use Rattle.chat_change.specs.declared.faults.ChangeFault.{ChangeFault}
-use Rattle.chat_state.specs.History.{changes_of, mark}
-use Rattle.chat_state.specs.Held.{Held, HasTaken}
-use Rattle.chat_state.specs.Visible.{records_in}
-use Rattle.chat_state.proofs.CallerLemmas.{mark-norm}
+use Rattle.chat_history.specs.History.{changes_of, mark}
+use Rattle.chat_history.specs.Held.{Held, HasTaken}
+use Rattle.chat_history.specs.Visible.{records_in}
+use Rattle.chat_history.proofs.CallerLemmas.{mark-norm}
 use Rattle.chat_page.specs.declared.query.Query.TheVariants.{Latest}
 use Rattle.chat_page.specs.Page.{page, page_in, last}
 use Rattle.chat_batch.specs.Batch.{history_text}

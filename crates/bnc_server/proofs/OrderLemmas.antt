@@ -8,8 +8,8 @@ use Rattle.irc_line.specs.Stream.{Item}
 use Rattle.chat_change.specs.Words.{lower_case_of}
 use Rattle.chat_change.specs.Buffer.{buffer_of}
 use Rattle.chat_change.specs.declared.change.Change.{Change}
-use Rattle.chat_state.specs.History.{norm, changes_of, mark, SameSet}
-use Rattle.chat_state.proofs.CallerLemmas.{norm_left, norm_of_set, mark-norm}
+use Rattle.chat_history.specs.History.{norm, changes_of, mark, SameSet}
+use Rattle.chat_history.proofs.CallerLemmas.{norm_left, norm_of_set, mark-norm}
 use Rattle.chat_page.specs.declared.query.Query.TheVariants.{Latest}
 use Rattle.chat_page.specs.Page.{page_in}
 use Rattle.irc_reply.specs.Reply.{mark_text, too_long_text, unknown_text}

@@ -3,7 +3,7 @@ use Rattle.std.specs.Prelude.{◌≡◌, ⊤, List, [], ◌∷◌, Option, None,
 use Rattle.std.specs.List.{filter_map, AllByRecursion}
 use Rattle.irc_line.specs.Stream.{Item}
 use Rattle.chat_change.specs.declared.change.Change.{Change}
-use Rattle.chat_state.specs.History.{SameSet}
+use Rattle.chat_history.specs.History.{SameSet}
 use Rattle.bnc_server.specs.Request.{Request, of_change, of_client, request_of}
 use Rattle.bnc_server.specs.Script.{Node, outcome}
 

@@ -1,7 +1,7 @@
 -- The code's node: the node of a script, with what is held in place of the changes that it took.
 use Rattle.std.specs.Prelude.{◌≡◌, ℕ, List, Option, Result, OnOk}
 use Rattle.output.specs.Writes.{WritesKnown}
-use Rattle.chat_state.specs.Held.{Held, held}
+use Rattle.chat_history.specs.Held.{Held, held}
 use Rattle.bnc_server.specs.Request.{Request}
 use Rattle.bnc_server.specs.Script.{Node, outcome}
 

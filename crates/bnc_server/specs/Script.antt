@@ -7,7 +7,7 @@ use Rattle.chat_change.specs.Words.{lower_case_of}
 use Rattle.chat_change.specs.Faults.{buffer_fault}
 use Rattle.chat_change.specs.Buffer.{buffer_of}
 use Rattle.chat_change.specs.declared.change.Change.{Change}
-use Rattle.chat_state.specs.History.{mark}
+use Rattle.chat_history.specs.History.{mark}
 use Rattle.chat_page.specs.Scope.{Scope}
 use Rattle.chat_page.specs.declared.query.Query.TheVariants.{Latest}
 use Rattle.chat_page.specs.Page.{Page, page}

@@ -1,7 +1,7 @@
 //! Laws of scripts. Their contracts are the laws, and their bodies are empty.
 ghost use Rattle.std.specs.Prelude.{◌≡◌, ◌++◌, List};
 ghost use Rattle.irc_line.specs.Stream.{Item};
-ghost use Rattle.chat_state.specs.History.{SameSet};
+ghost use Rattle.chat_history.specs.History.{SameSet};
 ghost use Rattle.bnc_server.specs.Script.{Node, text_of};
 ghost use Rattle.bnc_server.specs.ChangeLines.{AreChangeLines, TookTheSame, changes_in, node_after};
 

@@ -37,7 +37,7 @@ pub(crate) struct Node {
 
 impl Model for Node {
     ghost use Rattle.std.specs.Coded.{codes};
-    ghost use Rattle.chat_state.specs.Codes.{coded_held};
+    ghost use Rattle.chat_history.specs.Codes.{coded_held};
     ghost use Rattle.bnc_server.specs.HeldNode.{HeldNode};
 
     ghost Value = { HeldNode };

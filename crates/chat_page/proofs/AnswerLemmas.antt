@@ -6,12 +6,12 @@ use Rattle.std.specs.Borrow.{Bor}
 use Rattle.std.proofs.lemmas.Bool.{false≢true, cond-false}
 use Rattle.std.proofs.lemmas.Bool.Decides.{nat_tests}
 use Rattle.chat_change.specs.Record.{Record}
-use Rattle.chat_state.specs.Cut.{is_after as is_after_cut}
-use Rattle.chat_state.specs.declared.cut.Cut.{Cut}
-use Rattle.chat_state.specs.declared.cut.Cut.TheVariants.{Bottom, Top}
+use Rattle.chat_history.specs.Cut.{is_after as is_after_cut}
+use Rattle.chat_history.specs.declared.cut.Cut.{Cut}
+use Rattle.chat_history.specs.declared.cut.Cut.TheVariants.{Bottom, Top}
 use Rattle.chat_page.specs.Cuts.{between_cuts}
 use Rattle.chat_change.specs.declared.change.Change.{Change}
-use Rattle.chat_state.specs.History.{norm}
+use Rattle.chat_history.specs.History.{norm}
 use Rattle.chat_page.specs.Scope.{Scope}
 use Rattle.chat_page.specs.declared.query.Selector.{Selector}
 use Rattle.chat_page.specs.declared.query.Query.TheVariants as queries

@@ -14,8 +14,8 @@ use Rattle.std.specs.FinMap.Entries.{below_all}
 use Rattle.std.proofs.lemmas.List.Kept.{IsStrictlySortedBy-filter}
 use Rattle.std.proofs.lemmas.Map.Lookups.{btree_set_from_contains}
 use Rattle.chat_change.specs.Order.{text_cmp}
-use Rattle.chat_state.specs.Visible.{spot_cmp}
-use Rattle.chat_state.proofs.CallerLemmas.{spot_total}
+use Rattle.chat_history.specs.Visible.{spot_cmp}
+use Rattle.chat_history.proofs.CallerLemmas.{spot_total}
 
 abbrev Listed : Type 0
 Listed = ℕ × List ℕ

@@ -4,8 +4,8 @@ use Rattle.std.specs.Prelude.{filter, not}
 use Rattle.std.proofs.lemmas.Bool.{leb-true, leb-false}
 use Rattle.std.proofs.lemmas.List.{take_all, take_at, take-append-drop, reverse-append, reverse-reverse, length-reverse, map-append}
 use Rattle.chat_change.specs.Record.{Record}
-use Rattle.chat_state.specs.Cut.{before}
-use Rattle.chat_state.specs.declared.cut.Cut.TheVariants.{Top}
+use Rattle.chat_history.specs.Cut.{before}
+use Rattle.chat_history.specs.declared.cut.Cut.TheVariants.{Top}
 use Rattle.chat_page.specs.Page.{last}
 
 pub map_reverse : {A B : Type 0} (f : A → B) (xs : List A) → map f (reverse xs) ≡ reverse (map f xs)

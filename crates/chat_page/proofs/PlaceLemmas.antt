@@ -7,12 +7,12 @@ use Rattle.std.specs.Option.{option_map}
 use Rattle.chat_change.specs.Buffer.{Buffer}
 use Rattle.chat_change.specs.Record.{Record}
 use Rattle.chat_change.specs.declared.change.Change.{Change}
-use Rattle.chat_state.specs.History.{norm, position_of}
-use Rattle.chat_state.specs.Lookups.{position_in}
-use Rattle.chat_state.specs.Visible.{spot_cmp}
-use Rattle.chat_state.specs.Cut.{cut_cmp, of_record}
-use Rattle.chat_state.specs.declared.cut.Spot.{Spot}
-use Rattle.chat_state.proofs.CallerLemmas.{spot_total, position_in-norm}
+use Rattle.chat_history.specs.History.{norm, position_of}
+use Rattle.chat_history.specs.Lookups.{position_in}
+use Rattle.chat_history.specs.Visible.{spot_cmp}
+use Rattle.chat_history.specs.Cut.{cut_cmp, of_record}
+use Rattle.chat_history.specs.declared.cut.Spot.{Spot}
+use Rattle.chat_history.proofs.CallerLemmas.{spot_total, position_in-norm}
 use Rattle.chat_page.specs.Page.{Point, spot, point_of, is_before}
 use Rattle.chat_page.specs.declared.query.Selector.{Selector}
 use Rattle.chat_page.specs.declared.query.Selector.TheVariants.{Message}

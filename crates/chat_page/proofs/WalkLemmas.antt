@@ -10,12 +10,12 @@ use Rattle.std.proofs.lemmas.List.{reverse-append, length-take}
 use Rattle.std.proofs.lemmas.List.Concat.{flat_map-append}
 use Rattle.chat_change.specs.Record.{Record}
 use Rattle.chat_change.specs.declared.change.Change.{Change}
-use Rattle.chat_state.specs.History.{norm, message_moment}
-use Rattle.chat_state.specs.Visible.{records_in, spot_cmp, spot_of}
-use Rattle.chat_state.specs.Lookups.{position_in}
-use Rattle.chat_state.specs.Choice.{Among}
-use Rattle.chat_state.proofs.CallerLemmas.{norm_keyed}
-use Rattle.chat_state.proofs.CallerLemmas.{spot_total, record_of, records_sorted}
+use Rattle.chat_history.specs.History.{norm, message_moment}
+use Rattle.chat_history.specs.Visible.{records_in, spot_cmp, spot_of}
+use Rattle.chat_history.specs.Lookups.{position_in}
+use Rattle.chat_history.specs.Choice.{Among}
+use Rattle.chat_history.proofs.CallerLemmas.{norm_keyed}
+use Rattle.chat_history.proofs.CallerLemmas.{spot_total, record_of, records_sorted}
 use Rattle.chat_page.specs.Scope.{Scope}
 use Rattle.chat_page.specs.declared.query.Selector.TheVariants.{Message}
 use Rattle.chat_page.specs.declared.query.Query.TheVariants.{Latest, Before, After}

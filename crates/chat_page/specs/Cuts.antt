@@ -1,8 +1,8 @@
 -- The records of a buffer between two cuts.
 use Rattle.std.specs.Prelude.{not, ◌&&◌, List, filter}
 use Rattle.chat_change.specs.Record.{Record}
-use Rattle.chat_state.specs.Cut.{is_after as is_after_cut}
-use Rattle.chat_state.specs.declared.cut.Cut.{Cut}
+use Rattle.chat_history.specs.Cut.{is_after as is_after_cut}
+use Rattle.chat_history.specs.declared.cut.Cut.{Cut}
 
 -- those above the one and below the other, in their order
 abbrev pub between_cuts : Cut → Cut → List Record → List Record

@@ -3,7 +3,7 @@ use Rattle.std.specs.Prelude.{ℕ, List}
 use Rattle.std.specs.declared.cmp.Ordering.{Ordering}
 use Rattle.std.specs.Cmp.{IsTotalOrder, then_total, on_total, nat_cmp_total}
 use Rattle.std.specs.Cmp.Lexicographic.{lists_total}
-use Rattle.chat_state.specs.Visible.{spot_cmp}
+use Rattle.chat_history.specs.Visible.{spot_cmp}
 
 pub listed_total : IsTotalOrder spot_cmp
 listed_total = then_total (on_total (λ (s : ℕ × List ℕ). s.0) nat_cmp_total) (on_total (λ (s : ℕ × List ℕ). s.1) (lists_total nat_cmp_total))

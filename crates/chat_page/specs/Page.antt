@@ -7,10 +7,10 @@ use Rattle.std.specs.FinMap.{from_entries, keys}
 use Rattle.chat_change.specs.Buffer.{Buffer}
 use Rattle.chat_change.specs.Record.{Record}
 use Rattle.chat_change.specs.declared.change.Change.{Change}
-use Rattle.chat_state.specs.History.{History, norm, changes_of}
-use Rattle.chat_state.specs.Latest.{latest_in}
-use Rattle.chat_state.specs.Lookups.{position_in}
-use Rattle.chat_state.specs.Visible.{records_in, spot_cmp}
+use Rattle.chat_history.specs.History.{History, norm, changes_of}
+use Rattle.chat_history.specs.Latest.{latest_in}
+use Rattle.chat_history.specs.Lookups.{position_in}
+use Rattle.chat_history.specs.Visible.{records_in, spot_cmp}
 use Rattle.chat_page.specs.Scope.{Scope}
 use Rattle.chat_page.specs.declared.query.Selector.{Selector}
 use Rattle.chat_page.specs.declared.query.Selector.TheVariants.{Timestamp, Message}

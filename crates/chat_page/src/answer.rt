@@ -2,8 +2,8 @@
 ghost use Rattle.std.specs.Prelude.{◌≡◌, Some, Ok, Err, IfOk, IfErr, OnErr, Option, List, map, min};
 ghost use Rattle.std.specs.Option.{option_map};
 ghost use Rattle.chat_change.specs.declared.change.Change.{Change};
-ghost use Rattle.chat_state.specs.History.{norm};
-ghost use Rattle.chat_state.specs.Visible.{records_in};
+ghost use Rattle.chat_history.specs.History.{norm};
+ghost use Rattle.chat_history.specs.Visible.{records_in};
 ghost use Rattle.chat_page.specs.Page as spec;
 ghost use Rattle.chat_page.specs.Answer.{IsAnswer, AreRecords, side_of, between_of};
 

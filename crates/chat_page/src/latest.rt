@@ -1,6 +1,6 @@
 //! The latest records of a buffer.
 ghost use Rattle.std.specs.Prelude.{◌≡◌, IfOk, map};
-ghost use Rattle.chat_state.specs.Visible.{records_in};
+ghost use Rattle.chat_history.specs.Visible.{records_in};
 ghost use Rattle.chat_page.specs.Page.{last};
 
 use chat_change::{Buffer, Record};

@@ -4,8 +4,8 @@ ghost use Rattle.std.specs.Prelude.{◌≡◌, ◌<◌, ◌∷◌, ◌++◌, ℕ
 ghost use Rattle.std.specs.List.{flat_map};
 ghost use Rattle.chat_change.specs.Record.{Record};
 ghost use Rattle.chat_change.specs.declared.change.Change.{Change};
-ghost use Rattle.chat_state.specs.History.{norm, changes_of};
-ghost use Rattle.chat_state.specs.Visible.{visible};
+ghost use Rattle.chat_history.specs.History.{norm, changes_of};
+ghost use Rattle.chat_history.specs.Visible.{visible};
 ghost use Rattle.chat_page.specs.Scope.{Scope};
 ghost use Rattle.chat_page.specs.declared.query.Query.{Query};
 ghost use Rattle.chat_page.specs.Page.{page, buffer_of};

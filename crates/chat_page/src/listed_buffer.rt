@@ -5,7 +5,7 @@ ghost use Rattle.std.specs.Map.Iter.{TakesFirst};
 ghost use Rattle.std.proofs.Common.{rules};
 ghost use Rattle.std.specs.Cmp.Rules.{comparing};
 ghost use Rattle.std.specs.Ordering.{as_partial_cmp, eq_by_cmp};
-ghost use Rattle.chat_state.specs.Visible.{spot_cmp};
+ghost use Rattle.chat_history.specs.Visible.{spot_cmp};
 ghost use Rattle.chat_page.specs.ListedBuffer.{listed_total};
 ghost use Rattle.chat_page.specs.Page.{buffers_in, lies_between, targets_cut};
 

@@ -2,8 +2,8 @@
 ghost use Rattle.std.specs.Prelude.{◌≡◌, Some, None, Err, IfOk, IsSome, List, not};
 ghost use Rattle.chat_change.specs.declared.change.Change.{Change};
 ghost use Rattle.chat_change.specs.Record.{Record};
-ghost use Rattle.chat_state.specs.History.{norm};
-ghost use Rattle.chat_state.specs.Cut.{is_after as is_after_cut};
+ghost use Rattle.chat_history.specs.History.{norm};
+ghost use Rattle.chat_history.specs.Cut.{is_after as is_after_cut};
 ghost use Rattle.chat_page.specs.Page.{Point, point_of, is_before, is_after};
 
 use crate::pages::PageFault;

@@ -1,7 +1,7 @@
 //! Walks between two cuts of a buffer, which look at no more records than they answer, and one more.
 ghost use Rattle.std.specs.Prelude.{◌≡◌, IfOk, map, take, reverse};
-ghost use Rattle.chat_state.specs.Cut.{cut_cmp, of_record, is_after as is_after_cut, after as after_cut, before as before_cut};
-ghost use Rattle.chat_state.specs.Visible.{records_in};
+ghost use Rattle.chat_history.specs.Cut.{cut_cmp, of_record, is_after as is_after_cut, after as after_cut, before as before_cut};
+ghost use Rattle.chat_history.specs.Visible.{records_in};
 ghost use Rattle.chat_page.specs.Cuts.{between_cuts};
 ghost use Rattle.chat_page.specs.Page.{last};
 

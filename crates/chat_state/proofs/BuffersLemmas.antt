@@ -11,13 +11,14 @@ use Rattle.std.specs.List.Sorted.{IsStrictlySortedBy}
 use Rattle.chat_change.specs.Buffer.{Buffer}
 use Rattle.chat_change.specs.Order.{buffer_cmp}
 use Rattle.chat_change.proofs.CallerLemmas.{buffer_total, buffer_exact}
-use Rattle.chat_state.specs.declared.buffers.Sought.{Sought}
-use Rattle.chat_state.specs.History.{History, changes_of}
-use Rattle.chat_state.specs.Choice.{keep, Among, IsFirst}
-use Rattle.chat_state.specs.Buffers.{sought_in, in_buffer_order, sought_buffers, is_past, sought_past, all_past}
-use Rattle.chat_state.proofs.MemberLemmas.{among-filter_map, among_made}
-use Rattle.chat_state.proofs.EntryLemmas.{ordered_member, member_ordered, ordered_by_key}
-use Rattle.chat_state.proofs.SortedLemmas.{less_upto, from_member, passing_from, none_passing}
+use Rattle.chat_store.specs.declared.buffers.Sought.{Sought}
+use Rattle.chat_history.specs.History.{History, changes_of}
+use Rattle.chat_history.specs.Choice.{keep, Among, IsFirst}
+use Rattle.chat_store.specs.Buffers.{sought_in, sought_buffers, is_past, sought_past, all_past}
+use Rattle.chat_history.specs.Buffers.{in_buffer_order}
+use Rattle.chat_history.proofs.CallerLemmas.{among-filter_map, among_made}
+use Rattle.chat_history.proofs.CallerLemmas.{ordered_member, member_ordered, ordered_by_key}
+use Rattle.chat_history.proofs.CallerLemmas.{less_upto, from_member, passing_from, none_passing}
 use Rattle.chat_state.proofs.CursorLemmas.{passed}
 
 -- ---- buffers in their order

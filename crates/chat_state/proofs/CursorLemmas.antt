@@ -15,21 +15,23 @@ use Rattle.chat_change.specs.Buffer.{Buffer}
 use Rattle.chat_change.specs.Record.{Record}
 use Rattle.chat_change.specs.Order.{text_cmp}
 use Rattle.chat_change.specs.declared.change.Change.TheVariants.{Post}
-use Rattle.chat_state.specs.declared.nearest.Edge.{Edge}
-use Rattle.chat_state.specs.declared.nearest.Edge.TheVariants.{AfterCut, BeforeCut, AfterRecord, BeforeRecord}
-use Rattle.chat_state.specs.declared.cut.Cut.{Cut}
-use Rattle.chat_state.specs.declared.cut.Cut.TheVariants.{Bottom, UnderTime, OverTime, UnderMsg, OverMsg, Top}
+use Rattle.chat_store.specs.declared.nearest.Edge.{Edge}
+use Rattle.chat_store.specs.declared.nearest.Edge.TheVariants.{AfterCut, BeforeCut, AfterRecord, BeforeRecord}
+use Rattle.chat_history.specs.declared.cut.Cut.{Cut}
+use Rattle.chat_history.specs.declared.cut.Cut.TheVariants.{Bottom, UnderTime, OverTime, UnderMsg, OverMsg, Top}
 use Rattle.chat_change.specs.Key.{MessageOf, key_of}
-use Rattle.chat_state.specs.History.{History, changes_of, IsKeyed}
-use Rattle.chat_state.specs.Visible.{posted_in, records_in}
-use Rattle.chat_state.specs.Cut.{cut_cmp, cut_total, of_record, is_after, after, before}
-use Rattle.chat_state.specs.Choice.{keep, Among, IsFirst}
-use Rattle.chat_state.specs.Nearest.{rising, is_beyond, nearer_cmp, candidate, candidates}
+use Rattle.chat_history.specs.History.{History, changes_of, IsKeyed}
+use Rattle.chat_history.specs.Visible.{posted_in, records_in}
+use Rattle.chat_history.specs.Cut.{cut_cmp, cut_total, of_record, is_after, after, before}
+use Rattle.chat_history.specs.Choice.{keep, Among, IsFirst}
+use Rattle.chat_history.specs.Visible.{rising}
+use Rattle.chat_store.specs.Nearest.{is_beyond, nearer_cmp, candidate, candidates}
 use Rattle.chat_state.specs.Cursor.{up_from, down_from, IsAtRecord}
-use Rattle.chat_state.proofs.MemberLemmas.{among-filter_map, among_made}
-use Rattle.chat_state.proofs.VisibleLemmas.{change_held, held_change, IsRecordOf, posted_is, posted_here, record_of, of_record as record_among, records_sorted}
-use Rattle.chat_state.proofs.NearestLemmas.{rising_total, nearer_total}
-use Rattle.chat_state.proofs.SortedLemmas.{less_upto, upto_less, from_member, passing_from, none_passing, filter-reverse, sorted_reverse, among-reverse, reverse_among}
+use Rattle.chat_history.proofs.CallerLemmas.{among-filter_map, among_made}
+use Rattle.chat_history.proofs.CallerLemmas.{change_held, held_change, IsRecordOf, posted_is, posted_here, record_of, of_record as record_among, records_sorted}
+use Rattle.chat_history.proofs.CallerLemmas.{rising_total}
+use Rattle.chat_store.proofs.CallerLemmas.{nearer_total}
+use Rattle.chat_history.proofs.CallerLemmas.{less_upto, upto_less, from_member, passing_from, none_passing, filter-reverse, sorted_reverse, among-reverse, reverse_among}
 
 -- ---- candidates
 

@@ -12,21 +12,23 @@ use Rattle.chat_change.specs.Order.{text_cmp, buffer_cmp}
 use Rattle.chat_change.specs.declared.change.Change.{Change}
 use Rattle.chat_change.specs.declared.change.Change.TheVariants.{Post, Redact, Mark, Floor}
 use Rattle.chat_change.proofs.CallerLemmas.{text_exact, buffer_total}
-use Rattle.chat_state.specs.Choice.{Among, IsFirst}
-use Rattle.chat_state.specs.declared.nearest.Edge.TheVariants.{BeforeCut}
-use Rattle.chat_state.specs.declared.cut.Cut.{Cut}
-use Rattle.chat_state.specs.declared.cut.Cut.TheVariants.{Top}
-use Rattle.chat_state.specs.declared.buffers.Sought.TheVariants.{OfNetwork}
-use Rattle.chat_state.specs.Cut.{is_after}
-use Rattle.chat_state.specs.History.{History, changes_of, IsKeyed}
-use Rattle.chat_state.specs.Latest.{latest_moment, with_moment, network_buffers, latest_in, latest_from, IsAtBuffer}
-use Rattle.chat_state.specs.Nearest.{nearer_cmp, candidates}
-use Rattle.chat_state.specs.Visible.{records_in}
-use Rattle.chat_state.specs.Buffers.{is_of_network, buffer_where, is_past, all_past}
-use Rattle.chat_state.proofs.MemberLemmas.{among-filter_map, none_first, mapped, image}
-use Rattle.chat_state.proofs.StandingLemmas.{most_greatest}
-use Rattle.chat_state.proofs.NormLemmas.{latest_total, latest_exact}
-use Rattle.chat_state.proofs.SortedLemmas.{from_member, passing_from}
+use Rattle.chat_history.specs.Choice.{Among, IsFirst}
+use Rattle.chat_store.specs.declared.nearest.Edge.TheVariants.{BeforeCut}
+use Rattle.chat_history.specs.declared.cut.Cut.{Cut}
+use Rattle.chat_history.specs.declared.cut.Cut.TheVariants.{Top}
+use Rattle.chat_store.specs.declared.buffers.Sought.TheVariants.{OfNetwork}
+use Rattle.chat_history.specs.Cut.{is_after}
+use Rattle.chat_history.specs.History.{History, changes_of, IsKeyed}
+use Rattle.chat_history.specs.Latest.{latest_moment, with_moment, network_buffers, latest_in}
+use Rattle.chat_state.specs.Latest.{latest_from, IsAtBuffer}
+use Rattle.chat_store.specs.Nearest.{nearer_cmp, candidates}
+use Rattle.chat_history.specs.Visible.{records_in}
+use Rattle.chat_history.specs.Buffers.{is_of_network, buffer_where}
+use Rattle.chat_store.specs.Buffers.{is_past, all_past}
+use Rattle.chat_history.proofs.CallerLemmas.{among-filter_map, none_first, mapped, image}
+use Rattle.chat_history.proofs.CallerLemmas.{most_greatest}
+use Rattle.chat_history.proofs.CallerLemmas.{latest_total, latest_exact}
+use Rattle.chat_history.proofs.CallerLemmas.{from_member, passing_from}
 use Rattle.chat_state.proofs.CursorLemmas.{no_later, candidate_record}
 use Rattle.chat_state.proofs.BuffersLemmas.{in_order_member, buffers_sorted, past_buffer, past_closed, walk_end, is_one, filter_all}
 

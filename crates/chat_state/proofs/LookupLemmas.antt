@@ -8,19 +8,21 @@ use Rattle.std.specs.FinMap.{get}
 use Rattle.chat_change.specs.Buffer.{Buffer}
 use Rattle.chat_change.specs.declared.change.Change.{Change}
 use Rattle.chat_change.specs.declared.change.Change.TheVariants.{Post, Redact, Mark, Floor}
-use Rattle.chat_state.specs.Choice.{greatest, Among}
+use Rattle.chat_history.specs.Choice.{greatest, Among}
 use Rattle.chat_change.specs.Key.{Key, FloorOf, MarkerOf, MessageOf, key_of, bearers_of}
-use Rattle.chat_state.specs.History.{History, floor, mark, is_gone, position_of, floor_moment, marker_moment, message_moment, is_redaction, norm, changes_of, IsKeyed}
-use Rattle.chat_state.specs.Lookups.{position_in, is_redacted, is_posted, IsShown}
-use Rattle.chat_state.specs.Held.{Held}
-use Rattle.chat_state.specs.Store.{Store, change_at, value_of, IsSound}
-use Rattle.chat_state.proofs.PieceLemmas.{bearers_of-changes_of}
-use Rattle.chat_state.proofs.StoreLemmas.{keyed, get-history}
-use Rattle.chat_state.proofs.NormLemmas.{mark-norm, floor-norm}
-use Rattle.chat_state.proofs.MemberLemmas.{among, contained}
-use Rattle.chat_state.proofs.StandingLemmas.{among-bearers_of}
-use Rattle.chat_state.proofs.VisibleLemmas.{record_of, of_record}
-use Rattle.chat_state.proofs.NormReadLemmas.{gone-norm, position-norm, position_in-norm}
+use Rattle.chat_history.specs.History.{History, floor, mark, is_gone, position_of, floor_moment, marker_moment, message_moment, is_redaction, norm, changes_of, IsKeyed}
+use Rattle.chat_history.specs.Lookups.{position_in, is_redacted, is_posted, IsShown}
+use Rattle.chat_history.specs.Held.{Held}
+use Rattle.chat_store.specs.Store.{Store, change_at}
+use Rattle.chat_state.specs.State.{value_of, IsSound}
+use Rattle.chat_history.proofs.CallerLemmas.{bearers_of-changes_of}
+use Rattle.chat_state.proofs.StateLemmas.{keyed}
+use Rattle.chat_store.proofs.CallerLemmas.{get-history}
+use Rattle.chat_history.proofs.CallerLemmas.{mark-norm, floor-norm}
+use Rattle.chat_history.proofs.CallerLemmas.{among, contained}
+use Rattle.chat_history.proofs.CallerLemmas.{among-bearers_of}
+use Rattle.chat_history.proofs.CallerLemmas.{record_of, of_record}
+use Rattle.chat_history.proofs.CallerLemmas.{gone-norm, position-norm, position_in-norm}
 
 greatest_one : (u : Option ℕ) → greatest (cons_option u []) ≡ u
 greatest_one None = refl

@@ -19,18 +19,20 @@ use Rattle.std.specs.Prelude.{nat_lt, ◌↔◌}
 use Rattle.chat_change.specs.Key.{Key, key_of, same_key}
 use Rattle.chat_change.specs.declared.change.Change.{Change}
 use Rattle.chat_change.proofs.CallerLemmas.{key_total, key_exact, same_key_is}
-use Rattle.chat_state.specs.Choice.{Among, IsFirst}
-use Rattle.chat_state.specs.Held.{Held, StoppedAt, IsPastTheLast}
-use Rattle.chat_state.specs.History.{norm, changes_of, SameSet, join, IsKeyed}
-use Rattle.chat_state.specs.Merging.{number_in, IsByNumber}
-use Rattle.chat_state.specs.Store.{Store, Numbered, value_of, history_in, numbers_in, IsSound, by_number, pieces_above}
-use Rattle.chat_state.proofs.EntryLemmas.{valued, value_among, got, get_entry, ordered_member, member_ordered, ordered_by_key}
-use Rattle.chat_state.proofs.MemberLemmas.{among, contained, among-filter, among_passing, mapped, image, member}
-use Rattle.chat_state.proofs.NearestLemmas.{by_number_total}
-use Rattle.chat_state.proofs.SetLemmas.{norm_of_set}
-use Rattle.chat_state.proofs.SortedLemmas.{filter_alike, from_member, passing_from, none_passing}
-use Rattle.chat_state.proofs.StoreLemmas.{keyed, get-history, get-numbers_in, change_bears}
-use Rattle.chat_state.proofs.VisibleLemmas.{change_held, held_change}
+use Rattle.chat_history.specs.Choice.{Among, IsFirst}
+use Rattle.chat_history.specs.Held.{Held, StoppedAt, IsPastTheLast}
+use Rattle.chat_history.specs.History.{norm, changes_of, SameSet, join, IsKeyed}
+use Rattle.chat_history.specs.Merging.{number_in, IsByNumber}
+use Rattle.chat_store.specs.Store.{Store, Numbered, history_in, numbers_in, by_number, pieces_above}
+use Rattle.chat_state.specs.State.{value_of, IsSound}
+use Rattle.chat_history.proofs.CallerLemmas.{valued, value_among, got, get_entry, ordered_member, member_ordered, ordered_by_key}
+use Rattle.chat_history.proofs.CallerLemmas.{among, contained, among-filter, among_passing, mapped, image, member}
+use Rattle.chat_store.proofs.CallerLemmas.{by_number_total}
+use Rattle.chat_history.proofs.CallerLemmas.{norm_of_set}
+use Rattle.chat_history.proofs.CallerLemmas.{filter_alike, from_member, passing_from, none_passing}
+use Rattle.chat_state.proofs.StateLemmas.{keyed, change_bears}
+use Rattle.chat_store.proofs.CallerLemmas.{get-history, get-numbers_in}
+use Rattle.chat_history.proofs.CallerLemmas.{change_held, held_change}
 
 abbrev pub change : Numbered → Change
 change p = p.change

@@ -11,15 +11,17 @@ use Rattle.std.specs.Prelude.{nat_lt}
 use Rattle.chat_change.specs.Key.{key_of, same_key}
 use Rattle.chat_change.specs.declared.change.Change.{Change}
 use Rattle.chat_change.proofs.CallerLemmas.{key_total, key_exact}
-use Rattle.chat_state.specs.Choice.{Among}
-use Rattle.chat_state.specs.Newer.{entry_of, HasPiece, IsNewer}
-use Rattle.chat_state.specs.Pieces.{lent}
-use Rattle.chat_state.specs.Store.{Store, Numbered, value_of, IsSound, by_number}
-use Rattle.chat_state.specs.declared.store.Piece.{Piece}
-use Rattle.chat_state.proofs.EntryLemmas.{value_among, got}
-use Rattle.chat_state.proofs.MemberLemmas.{among, contained, among-filter, among_passing, mapped, image}
+use Rattle.chat_history.specs.Choice.{Among}
+use Rattle.chat_store.specs.Pieces.{entry_of}
+use Rattle.chat_history.specs.Newer.{HasPiece, IsNewer}
+use Rattle.chat_store.specs.Pieces.{lent}
+use Rattle.chat_store.specs.Store.{Store, Numbered, by_number}
+use Rattle.chat_state.specs.State.{value_of, IsSound}
+use Rattle.chat_store.specs.declared.store.Piece.{Piece}
+use Rattle.chat_history.proofs.CallerLemmas.{value_among, got}
+use Rattle.chat_history.proofs.CallerLemmas.{among, contained, among-filter, among_passing, mapped, image}
 use Rattle.chat_state.proofs.MergeLemmas.{change, number, turn, left, held_at, number_of, in_turn, turn_sorted, once_in, rising_at, some_of}
-use Rattle.chat_state.proofs.StoreLemmas.{get-history, get-numbers_in}
+use Rattle.chat_store.proofs.CallerLemmas.{get-history, get-numbers_in}
 
 abbrev entry : Numbered → ℕ × Change
 entry p = (p.number, p.change)

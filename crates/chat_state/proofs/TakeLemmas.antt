@@ -5,15 +5,15 @@ use Rattle.std.specs.declared.alloc.Global.{Global}
 use Rattle.std.proofs.Math.Seq.{take-append-add}
 use Rattle.std.proofs.Math.ListN.{get_or-append}
 use Rattle.std.proofs.lemmas.Option.{slice_get-get_or}
-use Rattle.chat_state.specs.Deltas.{all_changes}
+use Rattle.chat_history.specs.Deltas.{all_changes}
 use Rattle.std.proofs.lemmas.List.{take_more, take-append-le, take-append-drop}
 use Rattle.std.proofs.lemmas.Grind.{flat_map-append}
 use Rattle.std.specs.List.{flat_map}
 use Rattle.chat_change.specs.declared.change.Change.{Change}
-use Rattle.chat_state.specs.Held.{Held, held, HasTaken, StoppedAt, IsPastTheLast}
-use Rattle.chat_state.specs.History.{History, norm, changes_of}
-use Rattle.chat_state.proofs.SetLemmas.{norm_left}
-use Rattle.chat_state.proofs.AbsorbLemmas.{append_none}
+use Rattle.chat_history.specs.Held.{Held, held, HasTaken, StoppedAt, IsPastTheLast}
+use Rattle.chat_history.specs.History.{History, norm, changes_of}
+use Rattle.chat_history.proofs.CallerLemmas.{norm_left}
+use Rattle.chat_history.proofs.CallerLemmas.{append_none}
 
 -- what a history takes after it took others, it takes with them
 pub taken_after : (set : List Change) (h then' : History) (more : List Change) → h ≡ norm set → then' ≡ norm (changes_of h ++ more) → then' ≡ norm (set ++ more)

@@ -1,28 +1,9 @@
 -- ---- what a reader has to believe
 
--- the history that a set of changes makes
-pub mod Choice
-pub mod History
-pub mod Members
-pub mod Visible
-pub mod Lookups
-pub mod Cut
-pub mod Latest
-pub mod Retention
--- what a state holds of it, and under which numbers
-pub mod Numbering
-pub mod Held
-pub mod Deltas
-pub mod Merging
-pub mod Newer
+-- where a run through deltas stops that is refused
+pub mod Run
 -- ---- what only the proofs use of the code
 
-pub mod Same
-pub mod Codes
-pub mod Buffers
-pub mod Store
-pub mod Fate
-pub mod Form
-pub mod Pieces
-pub mod Nearest
+pub mod State
 pub mod Cursor
+pub mod Latest

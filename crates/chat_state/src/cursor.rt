@@ -3,16 +3,15 @@
 ghost use Rattle.std.specs.Prelude.{◌≡◌, length, reverse};
 ghost use Rattle.std.specs.Iterator.{at_most};
 ghost use Rattle.std.specs.Map.Iter.{TakesFirst, deref};
-ghost use Rattle.chat_state.specs.Cut.{after, before};
-ghost use Rattle.chat_state.specs.History.{IsKeyed};
-ghost use Rattle.chat_state.specs.Store.{history_in};
-ghost use Rattle.chat_state.specs.Visible.{records_in};
+ghost use Rattle.chat_history.specs.Cut.{after, before};
+ghost use Rattle.chat_history.specs.History.{IsKeyed};
+ghost use Rattle.chat_store.specs.Store.{history_in};
+ghost use Rattle.chat_history.specs.Visible.{records_in};
 
-use crate::cut::Cut;
-use crate::nearest::Edge;
 use crate::state::State;
-use crate::store::Store;
 use chat_change::{Buffer, Record};
+use chat_history::Cut;
+use chat_store::{Edge, Store};
 use std::marker::Model;
 
 /// The visible records of a buffer after a cut, by rising (moment, id). It is seen as the list of what is left.
@@ -26,7 +25,7 @@ impl<'a> Model for Up<'a> {
     ghost use Rattle.std.specs.Prelude.{List};
     ghost use Rattle.chat_change.specs.Record as spec;
     ghost use Rattle.chat_state.specs.Cursor.{up_from, IsAtRecord};
-    ghost use Rattle.chat_state.specs.Store.{history_in};
+    ghost use Rattle.chat_store.specs.Store.{history_in};
 
     ghost Value = { List spec.Record };
 
@@ -63,7 +62,7 @@ impl<'a> Model for Down<'a> {
     ghost use Rattle.std.specs.Prelude.{List};
     ghost use Rattle.chat_change.specs.Record as spec;
     ghost use Rattle.chat_state.specs.Cursor.{down_from, IsAtRecord};
-    ghost use Rattle.chat_state.specs.Store.{history_in};
+    ghost use Rattle.chat_store.specs.Store.{history_in};
 
     ghost Value = { List spec.Record };
 

@@ -3,17 +3,15 @@
 ghost use Rattle.std.specs.Prelude.{◌≡◌, length};
 ghost use Rattle.std.specs.Iterator.{at_most};
 ghost use Rattle.std.specs.Map.Iter.{TakesFirst};
-ghost use Rattle.chat_state.specs.Latest.{latest_moment, latest_in};
-ghost use Rattle.chat_state.specs.History.{IsKeyed};
-ghost use Rattle.chat_state.specs.Store.{history_in};
+ghost use Rattle.chat_history.specs.Latest.{latest_moment, latest_in};
+ghost use Rattle.chat_history.specs.History.{IsKeyed};
+ghost use Rattle.chat_store.specs.Store.{history_in};
 
-use crate::buffers::Sought;
-use crate::cut::Cut;
 use crate::lookups::first_moment;
-use crate::nearest::Edge;
 use crate::state::State;
-use crate::store::Store;
 use chat_change::{Buffer, Moment};
+use chat_history::Cut;
+use chat_store::{Edge, Sought, Store};
 use std::marker::Model;
 
 /// Buffers that have a visible record, each with the moment of its latest, by target. It is seen as the list of what is
@@ -28,7 +26,7 @@ impl<'a> Model for Latest<'a> {
     ghost use Rattle.std.specs.Prelude.{List, ℕ};
     ghost use Rattle.chat_change.specs.Buffer as spec;
     ghost use Rattle.chat_state.specs.Latest.{latest_from, IsAtBuffer};
-    ghost use Rattle.chat_state.specs.Store.{history_in};
+    ghost use Rattle.chat_store.specs.Store.{history_in};
 
     ghost Value = { List (spec.Buffer × ℕ) };
 

@@ -1,12 +1,12 @@
 //! Look-ups: markers, floors, positions of messages, and which messages are shown or gone. They take no memory.
 
 ghost use Rattle.std.specs.Prelude.{◌≡◌, ◌↔◌, IsTrue, List};
-ghost use Rattle.chat_state.specs.History as spec;
-ghost use Rattle.chat_state.specs.Lookups.{IsShown};
+ghost use Rattle.chat_history.specs.History as spec;
+ghost use Rattle.chat_history.specs.Lookups.{IsShown};
 
 use crate::state::State;
-use crate::store::Fate;
 use chat_change::{Buffer, Moment, MsgId};
+use chat_store::Fate;
 
 // The moment at which 1970 began.
 pub(crate) fn first_moment() -> Moment

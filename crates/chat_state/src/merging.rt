@@ -1,7 +1,7 @@
 //! Merging one state into another.
 
 ghost use Rattle.std.specs.Prelude.{◌≡◌, OnOk, IfErr};
-ghost use Rattle.chat_state.specs.Merging.{history_of_both, TakesFirst, TakesAll};
+ghost use Rattle.chat_history.specs.Merging.{history_of_both, TakesFirst, TakesAll};
 ghost use Rattle.chat_state.specs.declared.faults.StateFault.TheVariants as fault;
 
 use crate::faults::TakeFault;
@@ -19,10 +19,10 @@ impl State {
         let mut taken: usize = 0;
         let mut last: u64 = 0;
         while let Some(piece) = other.store.next_above(last) {
-            if let Err(cause) = self.absorb_copy(&piece.change) {
+            if let Err(cause) = self.absorb_copy(piece.change()) {
                 return Err(TakeFault { taken, cause });
             }
-            last = piece.number;
+            last = piece.number();
             taken += 1;
         }
         Ok(())

@@ -1,29 +1,13 @@
 //! The pieces that are newer than a number.
 
 ghost use Rattle.std.specs.Prelude.{◌≡◌, map, IfOk};
-ghost use Rattle.chat_state.specs.Newer.{entry_of, IsNewer};
+ghost use Rattle.chat_store.specs.Pieces.{entry_of};
+ghost use Rattle.chat_history.specs.Newer.{IsNewer};
 
 use crate::state::State;
-use crate::store::Piece;
-use chat_change::Change;
+use chat_store::Piece;
 use memory::NoMemory;
 use std::alloc::Global;
-
-impl Piece {
-    /// Its number.
-    pub fn number(&self) -> u64
-        ensures { result ≡ self.now.number }
-    {
-        self.number
-    }
-
-    /// The change under that number.
-    pub fn change(&self) -> &Change
-        ensures { result.now ≡ self.now.change }
-    {
-        &self.change
-    }
-}
 
 impl State {
     /// The pieces with numbers above `from`, by rising number.
@@ -36,7 +20,7 @@ impl State {
             let Ok(()) = newer.push(piece) else {
                 return Err(NoMemory);
             };
-            last = piece.number;
+            last = piece.number();
         }
         Ok(newer)
     }

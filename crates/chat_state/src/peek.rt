@@ -2,7 +2,7 @@
 
 ghost use Rattle.std.specs.Prelude.{◌≡◌, ◌↔◌, ℕ, Bool, List, IsTrue, IsOk, IfOk, OnErr};
 ghost use Rattle.chat_change.specs.Buffer as buffers;
-ghost use Rattle.chat_state.specs.Lookups.{IsShown};
+ghost use Rattle.chat_history.specs.Lookups.{IsShown};
 
 use crate::faults::NoEntry;
 use crate::state::State;

@@ -1,14 +1,14 @@
 //! A state: the pieces of a history, each with its number.
 
 ghost use Rattle.std.specs.Prelude.{◌≡◌, ◌≢◌, ◌↔◌, ◌∷◌, [], ◌+◌, IsTrue, IfOk, OnOk, OnErr, IfErr, if◌then◌else◌, take};
-ghost use Rattle.chat_state.specs.Deltas.{all_changes, IsStoppedRun};
-ghost use Rattle.chat_state.specs.Held as spec;
+ghost use Rattle.chat_history.specs.Deltas.{all_changes};
+ghost use Rattle.chat_state.specs.Run.{IsStoppedRun};
+ghost use Rattle.chat_history.specs.Held as spec;
 ghost use Rattle.chat_state.specs.declared.faults.StateFault.TheVariants as fault;
 
 use crate::faults::{StateFault, TakeFault};
-use crate::form::{form_of, piece_in};
-use crate::store::Store;
 use chat_change::Change;
+use chat_store::{Store, form_of, piece_in};
 use memory::NoMemory;
 use std::alloc::Global;
 use std::marker::Model;
@@ -21,14 +21,14 @@ pub struct State {
 }
 
 impl Model for State {
-    ghost use Rattle.chat_state.specs.Held.{Held};
-    ghost use Rattle.chat_state.specs.Codes.{coded_held};
+    ghost use Rattle.chat_history.specs.Held.{Held};
+    ghost use Rattle.chat_history.specs.Codes.{coded_held};
 
     ghost Value = { Held };
 
     ghost coded = { coded_held };
 
-    ghost use Rattle.chat_state.specs.Store.{value_of, IsSound};
+    ghost use Rattle.chat_state.specs.State.{value_of, IsSound};
 
     ghost view = { λ s. value_of s.store s.front };
 
@@ -36,7 +36,7 @@ impl Model for State {
 }
 
 impl State {
-    ghost use Rattle.chat_state.specs.Held.{held, history_with, AreNumbersWith, HasTaken, StoppedAt, IsPastTheLast};
+    ghost use Rattle.chat_history.specs.Held.{held, history_with, AreNumbersWith, HasTaken, StoppedAt, IsPastTheLast};
 
     /// An empty state.
     pub fn new(alloc: Global) -> Self

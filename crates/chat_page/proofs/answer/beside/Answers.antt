@@ -1,7 +1,7 @@
 use Rattle.std.proofs.Common.{◌≡◌, sym, subst, map}
 use Rattle.std.specs.Prelude.{IfOk}
 use Rattle.std.specs.Map.Iter.{deref}
-use Rattle.chat_state.specs.Visible.{records_in}
+use Rattle.chat_history.specs.Visible.{records_in}
 use Rattle.chat_page.specs.Answer.{side_cut}
 use Rattle.chat_page.proofs.answer.beside.Goals as goal
 

@@ -1,5 +1,5 @@
 use Rattle.std.proofs.Common.{sym, subst, min, Some}
-use Rattle.chat_state.specs.Visible.{records_in}
+use Rattle.chat_history.specs.Visible.{records_in}
 use Rattle.chat_page.specs.Page.{page, page_in, last, of_records, buffer_of}
 use Rattle.chat_page.specs.Answer.{IsAnswer}
 use Rattle.chat_page.specs.declared.query.Query.TheVariants.{Latest}

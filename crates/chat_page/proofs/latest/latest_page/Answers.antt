@@ -2,9 +2,9 @@ use Rattle.std.proofs.Common.{◌∙◌, ap, Ok, map, reverse, take}
 use Rattle.std.specs.Map.Iter.{deref}
 use Rattle.std.proofs.lemmas.Iterator.{YieldsList-from_take}
 use Rattle.std.proofs.lemmas.Iterator.Consumers.{YieldsList-from_first, map_from_collect, YieldsList-at}
-use Rattle.chat_state.specs.Cut.{before}
-use Rattle.chat_state.specs.declared.cut.Cut.TheVariants.{Top}
-use Rattle.chat_state.specs.Visible.{records_in}
+use Rattle.chat_history.specs.Cut.{before}
+use Rattle.chat_history.specs.declared.cut.Cut.TheVariants.{Top}
+use Rattle.chat_history.specs.Visible.{records_in}
 use Rattle.chat_page.proofs.LastLemmas.{map_reverse, below_top, last_from_end}
 use Rattle.chat_page.proofs.latest.latest_page.Goals as goal
 

@@ -3,8 +3,8 @@ use Rattle.std.specs.BTreeSet as tree
 use Rattle.std.proofs.lemmas.Result.{IfOk-weaker}
 use Rattle.std.proofs.lemmas.Iterator.Adapters.{fact_from_collect}
 use Rattle.std.proofs.lemmas.Iterator.Consumers.{YieldsList-from_filter, YieldsList-from_first, YieldsList-at}
-use Rattle.chat_state.specs.Latest.{latest_in}
-use Rattle.chat_state.specs.Visible.{spot_cmp}
+use Rattle.chat_history.specs.Latest.{latest_in}
+use Rattle.chat_history.specs.Visible.{spot_cmp}
 use Rattle.chat_page.specs.Page.{listed, lies_between}
 use Rattle.chat_page.proofs.BufferLemmas.{set_is}
 use Rattle.chat_page.proofs.listed_buffer.found_between.Goals as goal

@@ -4,9 +4,9 @@ use Rattle.std.specs.Map.Iter.{deref}
 use Rattle.std.proofs.lemmas.Iterator.{YieldsList-from_take}
 use Rattle.std.proofs.lemmas.Iterator.Search.{YieldsList-from_take_while}
 use Rattle.std.proofs.lemmas.Iterator.Consumers.{YieldsList-from_first, map_from_collect, YieldsList-at}
-use Rattle.chat_state.specs.Cut.{after as after_cut, is_after as is_after_cut}
-use Rattle.chat_state.specs.Visible.{records_in}
-use Rattle.chat_state.proofs.CallerLemmas.{records_sorted}
+use Rattle.chat_history.specs.Cut.{after as after_cut, is_after as is_after_cut}
+use Rattle.chat_history.specs.Visible.{records_in}
+use Rattle.chat_history.proofs.CallerLemmas.{records_sorted}
 use Rattle.chat_page.proofs.CutLemmas.{up_between}
 use Rattle.chat_page.proofs.walk.first_between.Goals as goal
 

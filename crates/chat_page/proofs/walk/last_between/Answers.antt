@@ -3,9 +3,9 @@ use Rattle.std.specs.Map.Iter.{deref}
 use Rattle.std.proofs.lemmas.Iterator.{YieldsList-from_take}
 use Rattle.std.proofs.lemmas.Iterator.Search.{YieldsList-from_take_while}
 use Rattle.std.proofs.lemmas.Iterator.Consumers.{YieldsList-from_first, map_from_collect, YieldsList-at}
-use Rattle.chat_state.specs.Cut.{before as before_cut, is_after as is_after_cut}
-use Rattle.chat_state.specs.Visible.{records_in}
-use Rattle.chat_state.proofs.CallerLemmas.{records_sorted}
+use Rattle.chat_history.specs.Cut.{before as before_cut, is_after as is_after_cut}
+use Rattle.chat_history.specs.Visible.{records_in}
+use Rattle.chat_history.proofs.CallerLemmas.{records_sorted}
 use Rattle.chat_page.specs.Cuts.{between_cuts}
 use Rattle.chat_page.proofs.CutLemmas.{down_between}
 use Rattle.chat_page.proofs.LastLemmas.{map_reverse, last_from_end}

@@ -1,5 +1,5 @@
-use Rattle.chat_state.specs.declared.nearest.Edge.TheVariants.{AfterCut}
-use Rattle.chat_state.specs.Store.{history_in}
+use Rattle.chat_store.specs.declared.nearest.Edge.TheVariants.{AfterCut}
+use Rattle.chat_store.specs.Store.{history_in}
 use Rattle.chat_state.proofs.CursorLemmas.{at_record, up_is_after}
 use Rattle.chat_state.proofs.cursor.up_over.Goals as goal
 

@@ -1,9 +1,9 @@
 use Rattle.std.proofs.Common.{refl, sym, ◌∙◌, ap, Option, Bor}
 use Rattle.std.specs.Option.{option_map, unwrap_or}
 use Rattle.chat_change.specs.Record.{Record}
-use Rattle.chat_state.specs.declared.cut.Cut.{Cut}
-use Rattle.chat_state.specs.declared.cut.Cut.TheVariants.{Top}
-use Rattle.chat_state.specs.Store.{history_in}
+use Rattle.chat_history.specs.declared.cut.Cut.{Cut}
+use Rattle.chat_history.specs.declared.cut.Cut.TheVariants.{Top}
+use Rattle.chat_store.specs.Store.{history_in}
 use Rattle.chat_state.proofs.LatestLemmas.{latest_is}
 use Rattle.chat_state.proofs.latest.latest_moment.Goals as goal
 

@@ -2,8 +2,8 @@ use Rattle.std.proofs.Common.{◌≡◌, ◌++◌, take, ap, subst, ◌∙◌, V
 use Rattle.chat_change.specs.declared.change.Change.{Change}
 use Rattle.std.specs.declared.alloc.Global.{Global}
 use Rattle.chat_state.specs.declared.faults.StateFault.TheVariants.{Exhausted}
-use Rattle.chat_state.specs.Held.{held, StoppedAt}
-use Rattle.chat_state.specs.Deltas.{all_changes}
+use Rattle.chat_history.specs.Held.{held, StoppedAt}
+use Rattle.chat_history.specs.Deltas.{all_changes}
 use Rattle.chat_state.proofs.TakeLemmas.{stopped_within}
 use Rattle.chat_state.proofs.state.run.Goals as goal
 

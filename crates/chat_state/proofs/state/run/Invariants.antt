@@ -1,6 +1,6 @@
 use Rattle.std.proofs.Common.{◌≡◌, take, length, min}
-use Rattle.chat_state.specs.Held.{held}
-use Rattle.chat_state.specs.Deltas.{all_changes}
+use Rattle.chat_history.specs.Held.{held}
+use Rattle.chat_history.specs.Deltas.{all_changes}
 use Rattle.chat_state.proofs.state.run.Given as goal
 
 -- the deltas so far are taken

@@ -1,6 +1,6 @@
 use Rattle.std.proofs.Common.{◌≡◌, sym, ap, ◌∙◌}
 use Rattle.chat_change.specs.Buffer.{buffer_of}
-use Rattle.chat_state.specs.History.{changes_of, mark}
+use Rattle.chat_history.specs.History.{changes_of, mark}
 use Rattle.output.proofs.CallerLemmas.{writes_same}
 use Rattle.bnc_server.specs.Script.{has_buffer}
 use Rattle.bnc_server.proofs.NodeLemmas.{found_some, found_none, marker_outcome, no_marker_text}

@@ -1,6 +1,6 @@
 use Rattle.std.proofs.Common.{◌≡◌, map, ap, ◌∙◌}
 use Rattle.output.proofs.CallerLemmas.{writes_same}
-use Rattle.chat_state.specs.Visible.{records_in}
+use Rattle.chat_history.specs.Visible.{records_in}
 use Rattle.chat_page.specs.Page.{last}
 use Rattle.bnc_server.specs.Script.{reference_text}
 use Rattle.bnc_server.proofs.NodeLemmas.{latest_of_held}

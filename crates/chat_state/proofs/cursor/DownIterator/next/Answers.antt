@@ -2,11 +2,12 @@ use Rattle.std.proofs.Common.{◌∙◌, sym, ◌<◌, length, ap, subst, arith}
 use Rattle.std.specs.Ordering.{flip_args}
 use Rattle.std.specs.Option.{option_map}
 use Rattle.std.specs.Map.Iter.{deref}
-use Rattle.chat_state.specs.declared.nearest.Edge.TheVariants.{BeforeRecord}
+use Rattle.chat_store.specs.declared.nearest.Edge.TheVariants.{BeforeRecord}
 use Rattle.chat_state.specs.Cursor.{down_from}
-use Rattle.chat_state.specs.Choice.{IsFirst}
-use Rattle.chat_state.specs.Nearest.{rising, candidates}
-use Rattle.chat_state.specs.Store.{history_in}
+use Rattle.chat_history.specs.Choice.{IsFirst}
+use Rattle.chat_history.specs.Visible.{rising}
+use Rattle.chat_store.specs.Nearest.{candidates}
+use Rattle.chat_store.specs.Store.{history_in}
 use Rattle.chat_state.proofs.CursorLemmas.{at_record, down_step}
 use Rattle.chat_state.proofs.cursor.DownIterator.next.Goals as goal
 

@@ -1,6 +1,6 @@
 use Rattle.std.proofs.Common.{Some, ◌∙◌, sym, ◌<◌, length, ap, arith}
 use Rattle.chat_state.specs.Latest.{latest_from}
-use Rattle.chat_state.specs.Store.{history_in}
+use Rattle.chat_store.specs.Store.{history_in}
 use Rattle.chat_state.proofs.LatestLemmas.{at_buffer, latest_step}
 use Rattle.chat_state.proofs.latest.LatestIterator.next.Goals as goal
 

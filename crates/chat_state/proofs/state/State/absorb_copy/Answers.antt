@@ -1,14 +1,14 @@
-use Rattle.std.proofs.Common.{rules, ◌≡◌, ◌+◌, ◌<◌, ◌++◌, ◌∷◌, [], Some, None, true, refl, sym, ap, ◌∙◌, subst, arith}
+use Rattle.std.proofs.Common.{rules, ◌≡◌, ◌+◌, ◌<◌, ◌++◌, ◌∷◌, [], Some, None, refl, sym, ap, ◌∙◌, subst, arith}
 use Rattle.std.specs.Option.{option_map}
 use Rattle.chat_change.specs.Key.{key_of}
-use Rattle.chat_state.specs.History.{norm, changes_of}
-use Rattle.chat_state.specs.Held.{Held}
-use Rattle.chat_state.specs.Form.{form}
-use Rattle.chat_state.specs.Form.{piece_in}
-use Rattle.chat_state.specs.Numbering.{numbers_after}
-use Rattle.chat_state.specs.Store.{history_in}
-use Rattle.chat_state.proofs.StoreLemmas.{next_is}
-use Rattle.chat_state.proofs.StoreLemmas.{unformed, formed_differs, new_history, new_numbers, new_sound, new_held, kept_held}
+use Rattle.chat_history.specs.History.{norm, changes_of}
+use Rattle.chat_history.specs.Held.{Held}
+use Rattle.chat_store.specs.Form.{form}
+use Rattle.chat_store.specs.Form.{piece_in}
+use Rattle.chat_history.specs.Numbering.{numbers_after}
+use Rattle.chat_store.specs.Store.{history_in}
+use Rattle.chat_state.proofs.StateLemmas.{next_is}
+use Rattle.chat_state.proofs.StateLemmas.{unformed, formed_differs, new_history, new_numbers, new_sound, new_held, kept_held}
 use Rattle.chat_state.proofs.state.State.absorb_copy.Goals as goal
 
 pub returns-in_default-clause-ok : goal.returns-in_default-clause-ok

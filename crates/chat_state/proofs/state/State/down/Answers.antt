@@ -1,4 +1,4 @@
-use Rattle.chat_state.proofs.StoreLemmas.{keyed}
+use Rattle.chat_state.proofs.StateLemmas.{keyed}
 use Rattle.chat_state.proofs.state.State.down.Goals as goal
 
 pub down_over-requires : goal.down_over-requires

@@ -1,4 +1,4 @@
-use Rattle.chat_state.proofs.StoreLemmas.{keyed}
+use Rattle.chat_state.proofs.StateLemmas.{keyed}
 use Rattle.chat_state.proofs.state.State.due_floors.Goals as goal
 
 pub floors_at-requires : goal.floors_at-requires

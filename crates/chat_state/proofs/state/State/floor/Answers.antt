@@ -1,4 +1,4 @@
-use Rattle.std.proofs.Common.{◌≡◌, sym, ◌∙◌, ap}
+use Rattle.std.proofs.Common.{sym, ◌∙◌}
 use Rattle.std.specs.Option.{option_map, unwrap_or}
 use Rattle.chat_change.specs.Key.{FloorOf}
 use Rattle.chat_change.specs.declared.change.Change.TheVariants.{Floor}

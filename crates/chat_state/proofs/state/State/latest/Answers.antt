@@ -1,9 +1,9 @@
 use Rattle.std.proofs.Common.{None, ◌∙◌, ap}
-use Rattle.chat_state.specs.Held.{Held}
-use Rattle.chat_state.specs.Latest.{latest_in}
-use Rattle.chat_state.specs.Store.{history_in}
+use Rattle.chat_history.specs.Held.{Held}
+use Rattle.chat_history.specs.Latest.{latest_in}
+use Rattle.chat_store.specs.Store.{history_in}
 use Rattle.chat_state.proofs.LatestLemmas.{at_buffer, latest_all}
-use Rattle.chat_state.proofs.StoreLemmas.{keyed}
+use Rattle.chat_state.proofs.StateLemmas.{keyed}
 use Rattle.chat_state.proofs.state.State.latest.Goals as goal
 
 pub invariant_of-result : goal.invariant_of-result

@@ -1,4 +1,4 @@
-use Rattle.std.proofs.Common.{◌≡◌, sym, ◌∙◌}
+use Rattle.std.proofs.Common.{sym, ◌∙◌}
 use Rattle.std.specs.Option.{option_map}
 use Rattle.chat_change.specs.Key.{MarkerOf}
 use Rattle.chat_change.specs.declared.change.Change.TheVariants.{Mark}

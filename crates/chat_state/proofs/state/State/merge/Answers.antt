@@ -1,13 +1,13 @@
-use Rattle.std.proofs.Common.{◌≡◌, Bool, Result, Err, ◌≤◌, ◌<◌, ◌∙◌, ◌++◌, ◌∷◌, [], List, Some, None, map, take, drop, length, sym, ap, subst, arith}
+use Rattle.std.proofs.Common.{◌≡◌, ◌+◌, Bool, Result, Err, ◌≤◌, ◌<◌, ◌∙◌, ◌++◌, ◌∷◌, [], List, Some, None, map, take, drop, length, sym, ap, subst, arith}
 use Rattle.std.specs.Option.{option_map}
-use Rattle.chat_state.specs.Choice.{IsFirst}
+use Rattle.chat_history.specs.Choice.{IsFirst}
 use Rattle.chat_state.specs.declared.faults.StateFault.{StateFault}
 use Rattle.chat_state.specs.declared.faults.StateFault.TheVariants.{Exhausted}
-use Rattle.chat_state.specs.Held.{Held, HasTaken, IsPastTheLast}
-use Rattle.chat_state.specs.History.{norm, changes_of}
-use Rattle.chat_state.specs.Merging.{IsByNumber}
-use Rattle.chat_state.specs.Pieces.{lent}
-use Rattle.chat_state.specs.Store.{Numbered, by_number, pieces_above}
+use Rattle.chat_history.specs.Held.{Held, HasTaken, IsPastTheLast}
+use Rattle.chat_history.specs.History.{norm, changes_of}
+use Rattle.chat_history.specs.Merging.{IsByNumber}
+use Rattle.chat_store.specs.Pieces.{lent}
+use Rattle.chat_store.specs.Store.{Numbered, by_number, pieces_above}
 use Rattle.chat_state.proofs.LookupLemmas.{state_normal}
 use Rattle.chat_state.proofs.MergeLemmas.{change, turn, left, left_all, left_some, left_none, is_above, by_number_is, drop_step, next_in, drop_end, stopped_at, merged}
 use Rattle.chat_state.proofs.TakeLemmas.{taken_none, taken_more, has_taken_none, has_taken_more}
@@ -34,7 +34,8 @@ loop-piece-smaller c =
     let s = c.other.inside.store in
     let p = lent c.in-Some.piece in
     let first = subst (λ o. IsFirst by_number (pieces_above c.loop-piece.last s) (option_map lent o)) c.in-Some.is c.next_above.ensures in
-    fewer (left s c.loop-piece.last) (left s p.number) p (left_some s c.other.inside.front c.other.invariant c.loop-piece.last p first)
+    subst (λ n. length (left s n) < length (left s c.loop-piece.last)) (sym c.number-last.ensures)
+    (fewer (left s c.loop-piece.last) (left s p.number) p (left_some s c.other.inside.front c.other.invariant c.loop-piece.last p first))
 
 pub overflow_add-taken : goal.overflow_add-taken
 overflow_add-taken c =
@@ -56,15 +57,17 @@ loop-piece-preserved c =
     record {
       history =
           taken_more c.args.self.now.history c.loop-piece.self.history c.absorb_copy.new.self.history cs c.loop-piece.taken p.change inside.0 c.loop-piece.invariant.history
-          (c.in_default-absorb_copy.ensures.ok ∙ ap (λ d. norm (changes_of c.loop-piece.self.history ++ d ∷ [])) inside.1);
+          (c.in_default-absorb_copy.ensures.ok ∙ ap (λ d. norm (changes_of c.loop-piece.self.history ++ d ∷ [])) (c.change.ensures ∙ inside.1));
       held =
           has_taken_more c.args.self.now c.loop-piece.self c.absorb_copy.new.self cs c.loop-piece.taken p.change inside.0 c.loop-piece.invariant.held
-          (subst (λ d. HasTaken c.loop-piece.self (d ∷ []) c.absorb_copy.new.self) inside.1 c.in_default-absorb_copy.ensures.held);
-      rest = (drop_step (turn s) c.loop-piece.taken p (left s p.number) here).2;
+          (subst (λ d. HasTaken c.loop-piece.self (d ∷ []) c.absorb_copy.new.self) (c.change.ensures ∙ inside.1) c.in_default-absorb_copy.ensures.held);
+      rest = subst (λ n. drop (c.loop-piece.taken + 1) (turn s) ≡ left s n) (sym c.number-last.ensures)
+          (drop_step (turn s) c.loop-piece.taken p (left s p.number) here).2;
       few =
           let above = is_above s c.other.inside.front c.other.invariant c.loop-piece.last p first in
           let few = c.loop-piece.invariant.few in
-          omega (arith, above, few);
+          let at = c.number-last.ensures in
+          omega (arith, above, few, at);
     }
 
 pub returns-clause-ok : goal.returns-clause-ok
@@ -103,7 +106,7 @@ returns-in-Err-clause-refused c =
       held = subst (λ h. HasTaken c.args.self.now (take c.loop-piece.taken cs) h) (sym same) c.loop-piece.invariant.held;
       stopped =
           stopped_at c.absorb_copy.new.self cs c.loop-piece.taken p.change (c.in-Err.cause ≡ Exhausted) inside.0 inside.1 (
-            λ e. subst (λ h. IsPastTheLast h p.change) (sym same) (c.in-Err.ensures.exhausted.0 (ap Err e)),
-            λ past. same_cause c.in-Err.cause (c.in-Err.ensures.exhausted.1 (subst (λ h. IsPastTheLast h p.change) same past)),
+            λ e. subst (λ h. IsPastTheLast h p.change) (sym same) (subst (IsPastTheLast c.loop-piece.self) c.change.ensures (c.in-Err.ensures.exhausted.0 (ap Err e))),
+            λ past. same_cause c.in-Err.cause (c.in-Err.ensures.exhausted.1 (subst (IsPastTheLast c.loop-piece.self) (sym c.change.ensures) (subst (λ h. IsPastTheLast h p.change) same past))),
           );
     }

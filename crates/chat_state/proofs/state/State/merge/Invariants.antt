@@ -1,6 +1,6 @@
 use Rattle.std.proofs.Common.{◌≡◌, ◌≤◌, ◌++◌, map, take, drop, length}
-use Rattle.chat_state.specs.Held.{HasTaken}
-use Rattle.chat_state.specs.History.{norm, changes_of}
+use Rattle.chat_history.specs.Held.{HasTaken}
+use Rattle.chat_history.specs.History.{norm, changes_of}
 use Rattle.chat_state.proofs.MergeLemmas.{change, turn, left}
 use Rattle.chat_state.proofs.state.State.merge.Given as goal
 

@@ -1,6 +1,6 @@
 use Rattle.std.proofs.Common.{sym, subst, ap, ◌∙◌}
-use Rattle.chat_state.specs.Store.{value_of, IsSound}
-use Rattle.chat_state.proofs.StoreLemmas.{empty_seen, empty_sound}
+use Rattle.chat_state.specs.State.{value_of, IsSound}
+use Rattle.chat_state.proofs.StateLemmas.{empty_seen, empty_sound}
 use Rattle.chat_state.proofs.state.State.new_at.Goals as goal
 
 pub invariant_of-result : goal.invariant_of-result

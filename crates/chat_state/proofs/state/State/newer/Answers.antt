@@ -1,10 +1,11 @@
 use Rattle.std.proofs.Common.{◌≡◌, ◌<◌, ◌++◌, ◌∷◌, [], List, map, length, refl, sym, ◌∙◌, ap, subst, arith, Bor}
 use Rattle.std.specs.Option.{option_map}
-use Rattle.chat_state.specs.Choice.{IsFirst}
-use Rattle.chat_state.specs.Newer.{entry_of, IsNewer}
-use Rattle.chat_state.specs.Pieces.{lent}
-use Rattle.chat_state.specs.Store.{Numbered, by_number, pieces_above}
-use Rattle.chat_state.specs.declared.store.Piece.{Piece}
+use Rattle.chat_history.specs.Choice.{IsFirst}
+use Rattle.chat_store.specs.Pieces.{entry_of}
+use Rattle.chat_history.specs.Newer.{IsNewer}
+use Rattle.chat_store.specs.Pieces.{lent}
+use Rattle.chat_store.specs.Store.{Numbered, by_number, pieces_above}
+use Rattle.chat_store.specs.declared.store.Piece.{Piece}
 use Rattle.chat_state.proofs.MergeLemmas.{left, left_some, left_none}
 use Rattle.chat_state.proofs.NewerLemmas.{lent_next, newer_all}
 use Rattle.chat_state.proofs.state.State.newer.Goals as goal
@@ -20,15 +21,17 @@ loop-piece-smaller c =
     let s = c.self.inside.store in
     let p = lent c.in-Some.piece in
     let first = subst (λ o. IsFirst by_number (pieces_above c.loop-piece.last s) (option_map lent o)) c.in-Some.is c.next_above.ensures in
-    fewer (left s c.loop-piece.last) (left s p.number) p (left_some s c.self.inside.front c.self.invariant c.loop-piece.last p first)
+    subst (λ n. length (left s n) < length (left s c.loop-piece.last)) (sym c.number-last.ensures)
+    (fewer (left s c.loop-piece.last) (left s p.number) p (left_some s c.self.inside.front c.self.invariant c.loop-piece.last p first))
 
 pub loop-piece-preserved : goal.loop-piece-preserved
 loop-piece-preserved c =
     let s = c.self.inside.store in
     let p = lent c.in-Some.piece in
     let first = subst (λ o. IsFirst by_number (pieces_above c.loop-piece.last s) (option_map lent o)) c.in-Some.is c.next_above.ensures in
-    subst (λ (ps : List (Bor Piece)). map lent ps ++ left s p.number ≡ left s c.args.from) (sym c.in-Ok.ensures.items)
-    (lent_next (left s c.args.from) (left s p.number) (left s c.loop-piece.last) c.loop-piece.newer.items c.in-Some.piece (left_some s c.self.inside.front c.self.invariant c.loop-piece.last p first) c.loop-piece.invariant)
+    subst (λ n. map lent c.push.new.self.items ++ left s n ≡ left s c.args.from) (sym c.number-last.ensures)
+    (subst (λ (ps : List (Bor Piece)). map lent ps ++ left s p.number ≡ left s c.args.from) (sym c.in-Ok.ensures.items)
+    (lent_next (left s c.args.from) (left s p.number) (left s c.loop-piece.last) c.loop-piece.newer.items c.in-Some.piece (left_some s c.self.inside.front c.self.invariant c.loop-piece.last p first) c.loop-piece.invariant))
 
 pub returns : goal.returns
 returns c =

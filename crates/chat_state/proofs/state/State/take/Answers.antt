@@ -1,6 +1,6 @@
 use Rattle.std.proofs.Common.{◌++◌, ◌∷◌, [], ap, subst, ◌∙◌}
-use Rattle.chat_state.specs.Held.{HasTaken}
-use Rattle.chat_state.specs.History.{norm, changes_of}
+use Rattle.chat_history.specs.Held.{HasTaken}
+use Rattle.chat_history.specs.History.{norm, changes_of}
 use Rattle.chat_state.proofs.TakeLemmas.{taken_more, has_taken_more}
 use Rattle.chat_state.proofs.state.State.take.Goals as goal
 

@@ -1,6 +1,6 @@
 use Rattle.std.proofs.Common.{◌≡◌, ◌++◌, take}
-use Rattle.chat_state.specs.Held.{HasTaken}
-use Rattle.chat_state.specs.History.{norm, changes_of}
+use Rattle.chat_history.specs.Held.{HasTaken}
+use Rattle.chat_history.specs.History.{norm, changes_of}
 use Rattle.chat_state.proofs.state.State.take.Given as goal
 
 -- the changes so far are taken

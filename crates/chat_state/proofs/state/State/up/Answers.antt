@@ -1,4 +1,4 @@
-use Rattle.chat_state.proofs.StoreLemmas.{keyed}
+use Rattle.chat_state.proofs.StateLemmas.{keyed}
 use Rattle.chat_state.proofs.state.State.up.Goals as goal
 
 pub up_over-requires : goal.up_over-requires

@@ -1,0 +1,27 @@
+-- What the crates above may name of these proofs.
+
+-- the first of a list, members of lists and of maps, sorted lists
+pub use Rattle.chat_history.proofs.ChoiceLemmas.{le_self, min_is, min_left, min_right}
+pub use Rattle.chat_history.proofs.MemberLemmas.{among, contained, among_left, among_right, among_either, member}
+pub use Rattle.chat_history.proofs.MemberLemmas.{among-filter, among_passing, among-filter_map, among_made, mapped, image}
+pub use Rattle.chat_history.proofs.MemberLemmas.{first_alike, none_first}
+pub use Rattle.chat_history.proofs.EntryLemmas.{valued, value_among, got, get_entry, ordered_member, member_ordered, ordered_by_key}
+pub use Rattle.chat_history.proofs.SortedLemmas.{filter_alike, less_upto, upto_less, from_member, passing_from, none_passing}
+pub use Rattle.chat_history.proofs.SortedLemmas.{filter-reverse, sorted_reverse, among-reverse, reverse_among}
+-- the normal form of a set of changes, and its pieces
+pub use Rattle.chat_history.proofs.PieceLemmas.{Bears, from_entries_keyed, norm_keyed, get-norm, piece_bears, piece_none}
+pub use Rattle.chat_history.proofs.PieceLemmas.{bearers_of-changes_of}
+pub use Rattle.chat_history.proofs.SetLemmas.{norm_left, norm_of_set, norm-changes_of}
+pub use Rattle.chat_history.proofs.NormLemmas.{mark-norm, floor-norm, latest_total, latest_exact}
+pub use Rattle.chat_history.proofs.NormReadLemmas.{gone-norm, position-norm, position_in-norm}
+pub use Rattle.chat_history.proofs.StandingLemmas.{among-bearers_of, most_greatest}
+-- the visible records of a buffer
+pub use Rattle.chat_history.proofs.VisibleLemmas.{spot_total, rising_total, change_held, held_change}
+pub use Rattle.chat_history.proofs.VisibleLemmas.{IsRecordOf, posted_is, posted_here, record_of, of_record, records_sorted}
+-- what one more change does to a normal form and to its numbers
+pub use Rattle.chat_history.proofs.StepLemmas.{floor_set}
+pub use Rattle.chat_history.proofs.AbsorbLemmas.{append_none, get_after, get_floor, low_floor, floor_is, get_is_piece}
+pub use Rattle.chat_history.proofs.AbsorbLemmas.{new_form_differs, first_form_bears, new_form_bears}
+pub use Rattle.chat_history.proofs.AbsorbLemmas.{key_of-remainder, same_buffer_from}
+pub use Rattle.chat_history.proofs.NumberLemmas.{get-numbers, get-numbers_after}
+pub use Rattle.chat_history.proofs.HeldLemmas.{held_counted, held_same}

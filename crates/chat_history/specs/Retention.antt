@@ -1,0 +1,58 @@
+-- What a floor takes away, and which floors are due.
+use Rattle.std.specs.Prelude.{ℕ, ◌-◌, ◌*◌, ◌||◌, ◌==◌, Bool, true, not, Option, Some, None, List, [], map, nat_lt, nat_le, if◌then◌else◌}
+use Rattle.std.specs.Ordering.{eq_by_cmp}
+use Rattle.chat_change.specs.declared.change.Change.{Change}
+use Rattle.chat_change.specs.declared.change.Change.TheVariants.{Post, Redact, Floor}
+use Rattle.chat_change.specs.Buffer.{Buffer}
+use Rattle.chat_change.specs.Order.{buffer_cmp}
+use Rattle.chat_history.specs.Choice.{keep}
+use Rattle.chat_history.specs.History.{History}
+use Rattle.chat_history.specs.Buffers.{buffers_with}
+
+-- ---- what a floor takes away
+
+abbrev pub same_buffer : Buffer → Buffer → Bool
+same_buffer = eq_by_cmp buffer_cmp
+
+-- whether a floor that is set for `b` covers what stands in `d`
+abbrev pub is_covered : Buffer → Buffer → Bool
+is_covered b d = same_buffer b d
+
+-- the moment where it is at or above the floor
+abbrev pub at_or_above : ℕ → Option ℕ → Option ℕ
+at_or_above f = keep (λ t. nat_le f t)
+
+-- whether a piece outlasts a higher floor that is set for `b`. The present floor of `b` doesn't
+abbrev pub outlasts : Buffer → ℕ → Change → Bool
+outlasts b f (Post r) = not (is_covered b r.buffer) || nat_le f r.at
+outlasts b f (Floor d u) = not (same_buffer b d)
+outlasts b f c = true
+
+-- what is left of a piece at a higher floor that is set for `b`: a redaction forgets a moment below
+-- it
+abbrev pub remainder : Buffer → ℕ → Change → Change
+remainder b f (Redact d n u) = Redact d n (if is_covered b d then at_or_above f u else u)
+remainder b f c = c
+
+-- ---- which floors are due: one for each buffer that holds a record older than so many days
+
+-- the milliseconds of a day
+abbrev pub day_length : ℕ
+day_length = 86400000
+
+-- the moment so many days before another; none for no days, or where it lies before 1970
+abbrev pub due_moment : ℕ → ℕ → Option ℕ
+due_moment now days =
+    if (days == 0) || nat_lt now (days * day_length) then None
+    else Some (now - days * day_length)
+
+-- a floor at that moment for each buffer that holds an older record, in the order of buffers
+abbrev pub floors_at : History → ℕ → List Change
+floors_at history t = map (λ (b : Buffer). Floor b t) (buffers_with (λ r. nat_lt r.at t) history)
+
+abbrev pub floors_from : History → Option ℕ → List Change
+floors_from history None = []
+floors_from history (Some t) = floors_at history t
+
+abbrev pub due_floors : History → ℕ → ℕ → List Change
+due_floors history now days = floors_from history (due_moment now days)

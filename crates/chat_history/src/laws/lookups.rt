@@ -1,0 +1,82 @@
+//! What markers, floors, positions, kept and visible records are, in the members of a set of changes.
+
+ghost use Rattle.std.specs.Prelude.{◌≡◌, ◌≢◌, ◌≤◌, ◌↔◌, ◌⊎◌, ℕ, List, Option, IsTrue, Contains, false};
+ghost use Rattle.std.specs.Ordering.{on};
+ghost use Rattle.std.specs.List.Sorted.{IsStrictlySortedBy};
+ghost use Rattle.std.specs.declared.cmp.Ordering.TheVariants.{Less};
+ghost use Rattle.chat_change.specs.Buffer as buffer;
+ghost use Rattle.chat_change.specs.Record as message;
+ghost use Rattle.chat_change.specs.Order.{record_cmp};
+ghost use Rattle.chat_change.specs.declared.change.Change.{Change};
+ghost use Rattle.chat_change.specs.declared.change.Change.TheVariants.{Redact, Mark, Floor};
+ghost use Rattle.chat_history.specs.History.{norm, changes_of, mark, floor, is_gone, kept, position_of};
+ghost use Rattle.chat_history.specs.Members.{IsStandingPost, IsMomentOf};
+ghost use Rattle.chat_history.specs.Lookups.{position_in};
+ghost use Rattle.chat_history.specs.Visible.{visible, spot_of, spot_cmp};
+
+/// The marker of a buffer is the greatest that was set (IRCv3 draft/read-marker).
+pub fn marker_is_the_greatest()
+    ensures set { (changes : List Change) (b : buffer.Buffer) (t : ℕ) →
+        (mark changes b ≡ Some t) ↔ (Contains changes (Mark b t) × ((u : ℕ) →
+        Contains changes (Mark b u) → u ≤ t)) }
+    ensures none { (changes : List Change) (b : buffer.Buffer) → (mark changes b ≡ None) ↔
+        ((t : ℕ) → ¬ (Contains changes (Mark b t))) }
+{}
+
+/// The floor of a buffer is the greatest that was set, and 0 where none was.
+pub fn floor_is_the_greatest()
+    ensures bound { (changes : List Change) (b : buffer.Buffer) (t : ℕ) →
+        Contains changes (Floor b t) → t ≤ floor changes b }
+    ensures set { (changes : List Change) (b : buffer.Buffer) →
+        (floor changes b ≡ 0) ⊎ Contains changes (Floor b (floor changes b)) }
+{}
+
+/// A message is gone where some redaction names it (IRCv3 draft/message-redaction).
+pub fn gone_is_named()
+    ensures { (changes : List Change) (b : buffer.Buffer) (m : List ℕ) →
+        IsTrue (is_gone changes b m) ↔ ((t : Option ℕ) × Contains changes (Redact b m t)) }
+{}
+
+/// Of the posts of a message at or above the floor that one is kept before which no other goes.
+pub fn kept_goes_first()
+    ensures kept { (changes : List Change) (b : buffer.Buffer) (m : List ℕ)
+        (r : message.Record) → (kept changes b m ≡ Some r) ↔
+        (IsStandingPost changes b m r × ((q : message.Record) → IsStandingPost changes b m q →
+        record_cmp q r ≢ Less)) }
+    ensures none { (changes : List Change) (b : buffer.Buffer) (m : List ℕ) →
+        (kept changes b m ≡ None) ↔ ((r : message.Record) → ¬ (IsStandingPost changes b m r)) }
+{}
+
+/// The position of a message is the greatest moment at or above the floor that its posts have or its redactions name.
+pub fn position_is_the_greatest()
+    ensures some { (changes : List Change) (b : buffer.Buffer) (m : List ℕ) (t : ℕ) →
+        (position_of changes b m ≡ Some t) ↔ (IsMomentOf changes b m t × ((u : ℕ) →
+        IsMomentOf changes b m u → u ≤ t)) }
+    ensures none { (changes : List Change) (b : buffer.Buffer) (m : List ℕ) →
+        (position_of changes b m ≡ None) ↔ ((t : ℕ) → ¬ (IsMomentOf changes b m t)) }
+{}
+
+/// The visible records of a buffer are the kept ones that weren't redacted, each once, sorted by (moment, id).
+pub fn visible_is_kept_and_sorted()
+    ensures members { (changes : List Change) (b : buffer.Buffer) (r : message.Record) →
+        Contains (visible changes b) r ↔
+        ((r.buffer ≡ b) × (is_gone changes b r.id ≡ false) × (kept changes b r.id ≡ Some r)) }
+    ensures sorted { (changes : List Change) (b : buffer.Buffer) →
+        IsStrictlySortedBy (on spot_of spot_cmp) (visible changes b) }
+{}
+
+/// What is read off a normal form is what the set of changes says. What is kept of a redacted message isn't in it.
+pub fn normal_form_reads_alike()
+    ensures mark { (changes : List Change) (b : buffer.Buffer) →
+        mark (changes_of (norm changes)) b ≡ mark changes b }
+    ensures floor { (changes : List Change) (b : buffer.Buffer) →
+        floor (changes_of (norm changes)) b ≡ floor changes b }
+    ensures gone { (changes : List Change) (b : buffer.Buffer) (m : List ℕ) →
+        is_gone (changes_of (norm changes)) b m ≡ is_gone changes b m }
+    ensures position { (changes : List Change) (b : buffer.Buffer) (m : List ℕ) →
+        position_of (changes_of (norm changes)) b m ≡ position_of changes b m }
+    ensures position_in { (changes : List Change) (b : buffer.Buffer) (m : List ℕ) →
+        position_in (norm changes) b m ≡ position_of changes b m }
+    ensures kept { (changes : List Change) (b : buffer.Buffer) (m : List ℕ) →
+        is_gone changes b m ≡ false → kept (changes_of (norm changes)) b m ≡ kept changes b m }
+{}

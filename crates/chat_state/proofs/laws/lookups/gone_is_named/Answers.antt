@@ -1,5 +1,0 @@
-use Rattle.chat_state.proofs.StandingLemmas.{gone_named}
-use Rattle.chat_state.proofs.laws.lookups.gone_is_named.Goals as goal
-
-pub returns : goal.returns
-returns c = gone_named

@@ -1,5 +1,0 @@
-use Rattle.chat_state.proofs.StandingLemmas.{mark_greatest, mark_none}
-use Rattle.chat_state.proofs.laws.lookups.marker_is_the_greatest.Goals as goal
-
-pub returns : goal.returns
-returns c = record { set = mark_greatest; none = mark_none }

@@ -1,6 +1,0 @@
-use Rattle.chat_state.proofs.NormLemmas.{mark-norm, floor-norm}
-use Rattle.chat_state.proofs.NormReadLemmas.{gone-norm, position-norm, position_in-norm, kept-norm}
-use Rattle.chat_state.proofs.laws.lookups.normal_form_reads_alike.Goals as goal
-
-pub returns : goal.returns
-returns c = record { mark = mark-norm; floor = floor-norm; gone = gone-norm; position = position-norm; position_in = position_in-norm; kept = kept-norm }

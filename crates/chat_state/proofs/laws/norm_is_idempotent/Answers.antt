@@ -1,5 +1,0 @@
-use Rattle.chat_state.proofs.SetLemmas.{norm-changes_of}
-use Rattle.chat_state.proofs.laws.norm_is_idempotent.Goals as goal
-
-pub returns : goal.returns
-returns c = norm-changes_of

@@ -1,0 +1,6 @@
+mod StoreLemmas
+mod DistinctLemmas
+mod VectorLemmas
+mod VectorStoreLemmas
+mod NearestLemmas
+pub mod CallerLemmas

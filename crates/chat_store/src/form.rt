@@ -1,0 +1,165 @@
+//! What a change makes of the piece of its key.
+
+ghost use Rattle.std.specs.Prelude.{◌≡◌, IfOk};
+ghost use Rattle.std.specs.Option.{option_map};
+ghost use Rattle.chat_change.specs.declared.change.Change.TheVariants as value;
+ghost use Rattle.chat_history.specs.Choice as choice;
+ghost use Rattle.chat_history.specs.Form.{raises};
+ghost use Rattle.chat_store.specs.Form as spec;
+ghost use Rattle.chat_store.specs.Store.{floor_in};
+
+use crate::retention::at_or_above;
+use crate::store::{Fate, Store};
+use chat_change::{Buffer, Change, Moment, MsgId, Record, goes_before};
+use std::alloc::AllocError;
+
+/// The form of the piece that a change makes.
+#[derive(Clone, Copy)]
+pub enum Form {
+    /// The change itself.
+    AsItIs,
+    /// A redaction of its message, which stood at that moment.
+    Gone(Option<Moment>),
+}
+
+// The later of two moments.
+fn later(a: Option<Moment>, b: Option<Moment>) -> Option<Moment>
+    ensures { result ≡ choice.later a b }
+{
+    match (a, b) {
+        (None, _) => b,
+        (Some(_), None) => a,
+        (Some(t), Some(u)) => { if t.ms() < u.ms() { b } else { a } }
+    }
+}
+
+// Whether a moment at or above the floor is later than the one that a redaction names.
+fn raises(floor: u64, named: Option<Moment>, at: Option<Moment>) -> bool
+    ensures { result ≡ raises floor named at }
+{
+    match at {
+        None => false,
+        Some(t) => {
+            floor <= t.ms()
+                && match named {
+                    None => true,
+                    Some(u) => u.ms() < t.ms(),
+                }
+        }
+    }
+}
+
+fn floor_ms(store: &Store, buffer: &Buffer) -> u64
+    ensures { result ≡ floor_in store.now buffer.now }
+{
+    match store.floor(buffer) {
+        Some(at) => at.ms(),
+        None => 0,
+    }
+}
+
+fn form_of_post(store: &Store, post: &Record) -> Option<Form>
+    ensures { option_map (spec.piece_in (value.Post post.now)) result ≡
+        spec.form store.now (value.Post post.now) }
+{
+    let floor = floor_ms(store, post.buffer());
+    let counts = match store.message(post.buffer(), post.id()) {
+        None => floor <= post.at().ms(),
+        Some(Fate::Kept(old)) => goes_before(post, old),
+        Some(Fate::Gone(named)) => {
+            if raises(floor, named, Some(post.at())) {
+                return Some(Form::Gone(Some(post.at())));
+            }
+            false
+        }
+    };
+    if counts { Some(Form::AsItIs) } else { None }
+}
+
+// `at` is lent, since the borrow checker doesn't cover an `Option<Moment>` that is used after it was passed by value.
+fn form_of_redaction(
+    store: &Store,
+    buffer: &Buffer,
+    id: &MsgId,
+    at: &Option<Moment>,
+) -> Option<Form>
+    ensures { option_map (spec.piece_in (value.Redact buffer.now id.now at.now)) result ≡
+        spec.form store.now (value.Redact buffer.now id.now at.now) }
+{
+    let floor = floor_ms(store, buffer);
+    match store.message(buffer, id) {
+        None => Some(Form::Gone(at_or_above(floor, *at))),
+        Some(Fate::Kept(old)) => {
+            let stood = Some(old.at());
+            Some(Form::Gone(later(stood, *at)))
+        }
+        Some(Fate::Gone(named)) => {
+            if raises(floor, named, *at) {
+                Some(Form::Gone(*at))
+            } else {
+                None
+            }
+        }
+    }
+}
+
+fn form_of_marker(store: &Store, buffer: &Buffer, at: Moment) -> Option<Form>
+    ensures { option_map (spec.piece_in (value.Mark buffer.now at)) result ≡
+        spec.form store.now (value.Mark buffer.now at) }
+{
+    match store.marker(buffer) {
+        Some(before) => {
+            if before.ms() < at.ms() {
+                Some(Form::AsItIs)
+            } else {
+                None
+            }
+        }
+        None => Some(Form::AsItIs),
+    }
+}
+
+fn form_of_floor(store: &Store, buffer: &Buffer, at: Moment) -> Option<Form>
+    ensures { option_map (spec.piece_in (value.Floor buffer.now at)) result ≡
+        spec.form store.now (value.Floor buffer.now at) }
+{
+    if floor_ms(store, buffer) < at.ms() {
+        Some(Form::AsItIs)
+    } else {
+        None
+    }
+}
+
+/// The form of the piece that a change makes, where it counts. It takes no memory.
+pub fn form_of(store: &Store, change: &Change) -> Option<Form>
+    ensures { option_map (spec.piece_in change.now) result ≡ spec.form store.now change.now }
+{
+    match change {
+        Change::Post(post) => form_of_post(store, post),
+        Change::Redact { buffer, id, at } => form_of_redaction(store, buffer, id, at),
+        Change::Mark { buffer, at } => form_of_marker(store, buffer, *at),
+        Change::Floor { buffer, at } => form_of_floor(store, buffer, *at),
+    }
+}
+
+fn redaction(buffer: &Buffer, id: &MsgId, at: Option<Moment>) -> Result<Change, AllocError>
+    ensures { IfOk result (λ change. change ≡ value.Redact buffer.now id.now at) }
+{
+    let buffer = buffer.try_clone()?;
+    let id = id.try_clone()?;
+    Ok(Change::Redact { buffer, id, at })
+}
+
+/// The piece that a change makes in that form, which shares the texts of the change.
+pub fn piece_in(change: &Change, form: Form) -> Result<Change, AllocError>
+    ensures { IfOk result (λ piece. piece ≡ spec.piece_in change.now form) }
+{
+    let Form::Gone(at) = form else {
+        return change.try_clone();
+    };
+    match change {
+        Change::Post(post) => redaction(post.buffer(), post.id(), at),
+        Change::Redact { buffer, id, .. } => redaction(buffer, id, at),
+        Change::Mark { .. } | Change::Floor { .. } => change.try_clone(),
+    }
+}
