@@ -11,7 +11,7 @@ use Rattle.chat_change.specs.Buffer.{buffer_of}
 use Rattle.chat_change.specs.declared.change.Change.{Change}
 use Rattle.chat_change.specs.declared.faults.ChangeFault.{ChangeFault}
 use Rattle.chat_history.specs.History.{changes_of, mark}
-use Rattle.chat_history.specs.Held.{Held, HasTaken}
+use Rattle.chat_history.specs.StateValue.{StateValue, HasTaken}
 use Rattle.chat_history.specs.Visible.{records_in}
 use Rattle.chat_history.proofs.CallerLemmas.{mark-norm}
 use Rattle.chat_page.specs.declared.query.Query.TheVariants.{Latest}
@@ -25,7 +25,7 @@ use Rattle.bnc_server.specs.Script.{Node, cluster, has_buffer, reference_text, a
 use Rattle.bnc_server.specs.HeldNode.{HeldNode, held_node}
 
 -- a state took a change
-pub node_took : (old : HeldNode) (state : Held) (change : Change) → HasTaken old.state (change ∷ []) state → (node : Node) → old ≡ held_node node
+pub node_took : (old : HeldNode) (state : StateValue) (change : Change) → HasTaken old.state (change ∷ []) state → (node : Node) → old ≡ held_node node
     → record old { state = state } ≡ held_node (outcome node (of_change (Ok change))).node
 node_took old state change taken node is =
     let new = taken 0 node.taken (ap (λ (h : HeldNode). h.state) is) in

@@ -3,7 +3,7 @@ use Rattle.std.specs.Prelude.{◌≡◌, ◌≢◌, ⊤, Ok, Err}
 use Rattle.chat_state.specs.declared.faults.StateFault.{StateFault}
 use Rattle.chat_state.specs.declared.faults.StateFault.TheVariants as state
 use Rattle.chat_change.specs.declared.change.Change.{Change}
-use Rattle.chat_history.specs.Held.{IsPastTheLast}
+use Rattle.chat_history.specs.StateValue.{IsPastTheLast}
 use Rattle.bnc_server.specs.declared.fault.ReplayFault.{ReplayFault}
 use Rattle.bnc_server.specs.declared.fault.ReplayFault.TheVariants.{NoMemory, Read, Write}
 use Rattle.bnc_server.specs.ClientLine.{nothing, over_long, unknown, other, latest_of, marker_of}

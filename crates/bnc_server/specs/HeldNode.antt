@@ -1,7 +1,7 @@
 -- The code's node: the node of a script, with what is held in place of the changes that it took.
 use Rattle.std.specs.Prelude.{◌≡◌, ℕ, List, Option, Result, OnOk}
 use Rattle.output.specs.Writes.{WritesKnown}
-use Rattle.chat_history.specs.Held.{Held, held}
+use Rattle.chat_history.specs.StateValue.{StateValue, state_after}
 use Rattle.bnc_server.specs.Request.{Request}
 use Rattle.bnc_server.specs.Script.{Node, outcome}
 
@@ -9,7 +9,7 @@ pub record HeldNode : Type 0 where
   pub account : List ℕ
   pub network : List ℕ
   pub nick : List ℕ
-  pub state : Held
+  pub state : StateValue
   pub reference : ℕ
 
 -- what a node holds
@@ -18,7 +18,7 @@ held_node node = record {
   account = node.account;
   network = node.network;
   nick = node.nick;
-  state = held 0 node.taken;
+  state = state_after 0 node.taken;
   reference = node.reference;
 }
 

@@ -37,12 +37,12 @@ pub(crate) struct Node {
 
 impl Model for Node {
     ghost use Rattle.std.specs.Coded.{codes};
-    ghost use Rattle.chat_history.specs.Codes.{coded_held};
+    ghost use Rattle.chat_history.specs.Codes.{coded_state};
     ghost use Rattle.bnc_server.specs.HeldNode.{HeldNode};
 
     ghost Value = { HeldNode };
 
-    ghost coded = { Prim.hlevel (codes, coded_held) };
+    ghost coded = { Prim.hlevel (codes, coded_state) };
 
     ghost view = { λ n. record {
       account = n.account;

@@ -6,8 +6,8 @@ use Rattle.chat_change.specs.declared.change.Change.{Change}
 use Rattle.chat_change.specs.Key.{Key, key_of, same_key}
 use Rattle.chat_history.specs.History.{History, norm, changes_of, IsKeyed}
 use Rattle.chat_history.specs.Same.{same_history}
-use Rattle.chat_history.specs.Numbering.{counts_after, counted, front, up_to_last, numbers_after}
-use Rattle.chat_history.specs.Held.{Held, held}
+use Rattle.chat_history.specs.Numbering.{counts_after, changes_that_count, front, up_to_last, numbers_after}
+use Rattle.chat_history.specs.StateValue.{StateValue, state_after}
 use Rattle.chat_history.proofs.SameLemmas.{same_history_decides}
 use Rattle.chat_history.proofs.SetLemmas.{norm_left}
 use Rattle.chat_history.proofs.PieceLemmas.{get-norm, piece_none, bearers_of-changes_of}
@@ -35,7 +35,7 @@ module _ (start : ℕ) (changes : List Change) (c : Change) where
   counts_not same = ap not ((same_history_decides (norm (changes ++ c ∷ [])) (norm changes)).1 same)
 
   -- a change that counts
-  pub held_counted : (old new : Held) (w : Change) → IsKeyed old.history → old ≡ held start changes → new.history ≡ norm (changes_of old.history ++ c ∷ []) → norm (changes_of old.history ++ c ∷ []) ≢ old.history → new.numbers ≡ numbers_after old.numbers new.history (key_of c) (old.front + 1) → new.front ≡ old.front + 1 → finite.get new.history (key_of c) ≡ Some w → new ≡ held start (changes ++ c ∷ [])
+  pub held_counted : (old new : StateValue) (w : Change) → IsKeyed old.history → old ≡ state_after start changes → new.history ≡ norm (changes_of old.history ++ c ∷ []) → norm (changes_of old.history ++ c ∷ []) ≢ old.history → new.numbers ≡ numbers_after old.numbers new.history (key_of c) (old.front + 1) → new.front ≡ old.front + 1 → finite.get new.history (key_of c) ≡ Some w → new ≡ state_after start (changes ++ c ∷ [])
   held_counted old new w keyed is history differs numbered at_front here =
       let all = ap (λ h. norm (changes_of h.history ++ c ∷ [])) is ∙ later in
       let count = counts (λ same. differs (all ∙ same ∙ sym (ap (λ h. h.history) is))) in
@@ -46,12 +46,12 @@ module _ (start : ℕ) (changes : List Change) (c : Change) where
       λ i. record { history = now i; numbers = nums i; front = fronts i }
 
   -- a change that changes nothing
-  pub held_same : (old : Held) → old ≡ held start changes → old.history ≡ norm (changes_of old.history ++ c ∷ []) → old ≡ held start (changes ++ c ∷ [])
+  pub held_same : (old : StateValue) → old ≡ state_after start changes → old.history ≡ norm (changes_of old.history ++ c ∷ []) → old ≡ state_after start (changes ++ c ∷ [])
   held_same old is same =
       let all = ap (λ h. norm (changes_of h.history ++ c ∷ [])) is ∙ later in
       let stays : norm changes ≡ norm (changes ++ c ∷ []) = sym (ap (λ h. h.history) is) ∙ same ∙ all in
-      let steps : counted [] changes ≡ counted [] (changes ++ c ∷ []) =
-      sym (append_none (counted [] changes)) ∙ ap (λ b. counted [] changes ++ cond b (c ∷ []) []) (sym (counts_not (sym stays))) ∙ sym (counted-push changes c) in
+      let steps : changes_that_count [] changes ≡ changes_that_count [] (changes ++ c ∷ []) =
+      sym (append_none (changes_that_count [] changes)) ∙ ap (λ b. changes_that_count [] changes ++ cond b (c ∷ []) []) (sym (counts_not (sym stays))) ∙ sym (counted-push changes c) in
       is ∙ (λ i. record {
         history = stays i;
         numbers = finite.from_entries (map (λ k. (k, start + up_to_last k (steps i))) (finite.keys (stays i)));

@@ -21,7 +21,7 @@ use Rattle.chat_change.specs.declared.change.Change.TheVariants.{Post, Redact, M
 use Rattle.chat_change.proofs.CallerLemmas.{record_total, record_exact}
 use Rattle.chat_history.specs.Choice.{earlier, first_by, greatest}
 use Rattle.chat_change.specs.Key.{Key, FloorOf, MarkerOf, MessageOf, bearers_of}
-use Rattle.chat_history.specs.History.{floor, mark, is_gone, kept, position_of, floor_moment, marker_moment, posted_record, message_moment, is_redaction, piece, norm, changes_of}
+use Rattle.chat_history.specs.History.{floor, mark, is_gone, kept_record, position_of, floor_moment, marker_moment, posted_record, message_moment, is_redaction, piece, norm, changes_of}
 use Rattle.chat_history.proofs.ChoiceLemmas.{keep, Closed, first_by-append, first_by-filter, keep_parts}
 use Rattle.chat_history.proofs.PieceLemmas.{bearers_of-append, bearers_of-norm, norm_from_pieces}
 
@@ -67,7 +67,7 @@ best-append xs ys = ap (first_by record_cmp) (filter_map-append posted_record xs
 pub top-append : (xs ys : List Change) → top (xs ++ ys) ≡ earlier (flip_args nat_cmp) (top xs) (top ys)
 top-append xs ys = ap greatest (filter_map-append message_moment xs ys) ∙ greatest-append (filter_map message_moment xs) (filter_map message_moment ys)
 
-pub kept-best : (changes : List Change) (b : Buffer) (m : List ℕ) → kept changes b m ≡ keep (stays (floor changes b)) (best (bearers_of (MessageOf b m) changes))
+pub kept-best : (changes : List Change) (b : Buffer) (m : List ℕ) → kept_record changes b m ≡ keep (stays (floor changes b)) (best (bearers_of (MessageOf b m) changes))
 kept-best changes b m = first_by-filter record_total record_exact (stays (floor changes b)) (records_closed (floor changes b)) (filter_map posted_record (bearers_of (MessageOf b m) changes))
 
 pub position-top : (changes : List Change) (b : Buffer) (m : List ℕ) → position_of changes b m ≡ keep (at_least (floor changes b)) (top (bearers_of (MessageOf b m) changes))
@@ -121,17 +121,17 @@ top_in (Some r) = refl
 
 module _ (changes : List Change) (b : Buffer) (m : List ℕ) where
   pub gone_piece : list_any is_redaction (option_to_list (piece changes (MessageOf b m))) ≡ is_gone changes b m
-  gone_piece = gone_in (is_gone changes b m) b m (position_of changes b m) (kept changes b m)
+  gone_piece = gone_in (is_gone changes b m) b m (position_of changes b m) (kept_record changes b m)
 
-  pub best_piece : is_gone changes b m ≡ false → best (option_to_list (piece changes (MessageOf b m))) ≡ kept changes b m
-  best_piece e = ap (λ g. best (option_to_list (cond g (Some (Redact b m (position_of changes b m))) (option_map Post (kept changes b m))))) e ∙ best_in (kept changes b m)
+  pub best_piece : is_gone changes b m ≡ false → best (option_to_list (piece changes (MessageOf b m))) ≡ kept_record changes b m
+  best_piece e = ap (λ g. best (option_to_list (cond g (Some (Redact b m (position_of changes b m))) (option_map Post (kept_record changes b m))))) e ∙ best_in (kept_record changes b m)
 
   pub top_piece : top (option_to_list (piece changes (MessageOf b m))) ≡ position_of changes b m
   top_piece =
-      elim (is_gone changes b m) as (λ g. is_gone changes b m ≡ g → top (option_to_list (cond g (Some (Redact b m (position_of changes b m))) (option_map Post (kept changes b m)))) ≡ position_of changes b m) [
+      elim (is_gone changes b m) as (λ g. is_gone changes b m ≡ g → top (option_to_list (cond g (Some (Redact b m (position_of changes b m))) (option_map Post (kept_record changes b m)))) ≡ position_of changes b m) [
         | true ↦ λ _. greatest_one (position_of changes b m) b m
         | false ↦ λ e.
-            top_in (kept changes b m)
+            top_in (kept_record changes b m)
             ∙ ap (option_map (λ (r : Record). r.at)) (kept-best changes b m)
             ∙ moment_of-keep (floor changes b) (best (bearers_of (MessageOf b m) changes))
             ∙ ap (keep (at_least (floor changes b))) (sym (top-best (bearers_of (MessageOf b m) changes) e))
@@ -222,7 +222,7 @@ module _ (xs ys : List Change) where
     neither_gone true q e = absurd (false≢true (sym e))
     neither_gone false q e = (refl, e)
 
-    kept_parts : is_gone (xs ++ ys) b m ≡ false → kept parts b m ≡ kept (xs ++ ys) b m
+    kept_parts : is_gone (xs ++ ys) b m ≡ false → kept_record parts b m ≡ kept_record (xs ++ ys) b m
     kept_parts g =
         let f = floor (xs ++ ys) b in
         let none = neither_gone (is_gone xs b m) (is_gone ys b m) (sym gone-append ∙ g) in
@@ -237,8 +237,8 @@ module _ (xs ys : List Change) where
 
     message_parts : piece parts (MessageOf b m) ≡ piece (xs ++ ys) (MessageOf b m)
     message_parts =
-        ap (λ g. cond g (Some (Redact b m (position_of parts b m))) (option_map Post (kept parts b m))) gone_parts
-        ∙ elim (is_gone (xs ++ ys) b m) as (λ g. is_gone (xs ++ ys) b m ≡ g → cond g (Some (Redact b m (position_of parts b m))) (option_map Post (kept parts b m)) ≡ cond g (Some (Redact b m (position_of (xs ++ ys) b m))) (option_map Post (kept (xs ++ ys) b m))) [
+        ap (λ g. cond g (Some (Redact b m (position_of parts b m))) (option_map Post (kept_record parts b m))) gone_parts
+        ∙ elim (is_gone (xs ++ ys) b m) as (λ g. is_gone (xs ++ ys) b m ≡ g → cond g (Some (Redact b m (position_of parts b m))) (option_map Post (kept_record parts b m)) ≡ cond g (Some (Redact b m (position_of (xs ++ ys) b m))) (option_map Post (kept_record (xs ++ ys) b m))) [
           | true ↦ λ _. ap (λ t. Some (Redact b m t)) position_parts
           | false ↦ λ e. ap (option_map Post) (kept_parts e)
         ] refl

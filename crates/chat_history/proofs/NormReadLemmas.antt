@@ -6,7 +6,7 @@ use Rattle.chat_change.specs.Buffer.{Buffer}
 use Rattle.chat_change.specs.declared.change.Change.{Change}
 use Rattle.chat_history.specs.Choice.{greatest}
 use Rattle.chat_change.specs.Key.{MessageOf, bearers_of}
-use Rattle.chat_history.specs.History.{floor, is_gone, kept, position_of, message_moment, is_redaction, piece, norm, changes_of}
+use Rattle.chat_history.specs.History.{floor, is_gone, kept_record, position_of, message_moment, is_redaction, piece, norm, changes_of}
 use Rattle.chat_history.specs.Lookups.{position_in}
 use Rattle.chat_history.proofs.ChoiceLemmas.{keep}
 use Rattle.chat_history.proofs.PieceLemmas.{bearers_of-norm, get-norm}
@@ -38,7 +38,7 @@ module _ (changes : List Change) (b : Buffer) (m : List ℕ) where
       ∙ keep_twice (at_least f) (top (bearers_of (MessageOf b m) changes))
       ∙ sym (position-top changes b m)
 
-  pub kept-norm : is_gone changes b m ≡ false → kept (changes_of (norm changes)) b m ≡ kept changes b m
+  pub kept-norm : is_gone changes b m ≡ false → kept_record (changes_of (norm changes)) b m ≡ kept_record changes b m
   kept-norm e =
       let f = floor changes b in
       kept-best (changes_of (norm changes)) b m

@@ -7,23 +7,23 @@ use Rattle.std.specs.FinMap as finite
 use Rattle.chat_change.specs.declared.change.Change.{Change}
 use Rattle.chat_change.specs.Key.{Key, key_cmp, key_of, same_key}
 use Rattle.chat_history.specs.History.{History, norm}
-use Rattle.chat_history.specs.Numbering.{counts_after, counted, front, up_to_last, number, numbers, has_piece, numbers_after}
+use Rattle.chat_history.specs.Numbering.{counts_after, changes_that_count, front, up_to_last, number, numbers, has_piece, numbers_after}
 use Rattle.chat_change.proofs.CallerLemmas.{key_total, key_exact, same_key_is}
 
-pub counted-append : (before xs ys : List Change) → counted before (xs ++ ys) ≡ counted before xs ++ counted (before ++ xs) ys
-counted-append before [] ys = ap (λ b. counted b ys) (sym (no_more before))
+pub counted-append : (before xs ys : List Change) → changes_that_count before (xs ++ ys) ≡ changes_that_count before xs ++ changes_that_count (before ++ xs) ys
+counted-append before [] ys = ap (λ b. changes_that_count b ys) (sym (no_more before))
   where
     no_more : (zs : List Change) → zs ++ [] ≡ zs
     no_more [] = refl
     no_more (z ∷ zs) = ap (λ ws. z ∷ ws) (no_more zs)
 counted-append before (x ∷ xs) ys =
-    let rest = counted-append (before ++ x ∷ []) xs ys ∙ ap (λ b. counted (before ++ x ∷ []) xs ++ counted b ys) (append_assoc before (x ∷ []) xs) in
-    elim (counts_after before x) as (λ b. cond b (x ∷ counted (before ++ x ∷ []) (xs ++ ys)) (counted (before ++ x ∷ []) (xs ++ ys)) ≡ cond b (x ∷ counted (before ++ x ∷ []) xs) (counted (before ++ x ∷ []) xs) ++ counted (before ++ x ∷ xs) ys) [
+    let rest = counted-append (before ++ x ∷ []) xs ys ∙ ap (λ b. changes_that_count (before ++ x ∷ []) xs ++ changes_that_count b ys) (append_assoc before (x ∷ []) xs) in
+    elim (counts_after before x) as (λ b. cond b (x ∷ changes_that_count (before ++ x ∷ []) (xs ++ ys)) (changes_that_count (before ++ x ∷ []) (xs ++ ys)) ≡ cond b (x ∷ changes_that_count (before ++ x ∷ []) xs) (changes_that_count (before ++ x ∷ []) xs) ++ changes_that_count (before ++ x ∷ xs) ys) [
       | true ↦ ap (λ zs. x ∷ zs) rest
       | false ↦ rest
     ]
 
-pub counted-push : (changes : List Change) (c : Change) → counted [] (changes ++ c ∷ []) ≡ counted [] changes ++ cond (counts_after changes c) (c ∷ []) []
+pub counted-push : (changes : List Change) (c : Change) → changes_that_count [] (changes ++ c ∷ []) ≡ changes_that_count [] changes ++ cond (counts_after changes c) (c ∷ []) []
 counted-push changes c = counted-append [] changes (c ∷ [])
 
 or_false : (a : Bool) → (a || false) ≡ a
@@ -52,16 +52,16 @@ module _ (k : Key) where
 pub front-push : (start : ℕ) (changes : List Change) (c : Change) → front start (changes ++ c ∷ []) ≡ cond (counts_after changes c) (front start changes + 1) (front start changes)
 front-push start changes c =
     ap (λ cs. start + length cs) (counted-push changes c)
-    ∙ elim (counts_after changes c) as (λ b. start + length (counted [] changes ++ cond b (c ∷ []) []) ≡ cond b ((start + length (counted [] changes)) + 1) (start + length (counted [] changes))) [
-      | true ↦ omega (arith, length-append (counted [] changes) (c ∷ []))
-      | false ↦ omega (arith, length-append {A = Change} (counted [] changes) [])
+    ∙ elim (counts_after changes c) as (λ b. start + length (changes_that_count [] changes ++ cond b (c ∷ []) []) ≡ cond b ((start + length (changes_that_count [] changes)) + 1) (start + length (changes_that_count [] changes))) [
+      | true ↦ omega (arith, length-append (changes_that_count [] changes) (c ∷ []))
+      | false ↦ omega (arith, length-append {A = Change} (changes_that_count [] changes) [])
     ]
 
 pub number-push : (start : ℕ) (changes : List Change) (c : Change) (k : Key) → counts_after changes c ≡ true → number start (changes ++ c ∷ []) k ≡ cond (same_key k (key_of c)) (front start changes + 1) (number start changes k)
 number-push start changes c k e =
-    ap (λ cs. start + up_to_last k cs) (counted-push changes c ∙ ap (λ b. counted [] changes ++ cond b (c ∷ []) []) e)
-    ∙ ap (λ n. start + n) (up_to_last-push k (counted [] changes) c)
-    ∙ elim (same_key k (key_of c)) as (λ b. start + cond b (suc (length (counted [] changes))) (up_to_last k (counted [] changes)) ≡ cond b ((start + length (counted [] changes)) + 1) (start + up_to_last k (counted [] changes))) [
+    ap (λ cs. start + up_to_last k cs) (counted-push changes c ∙ ap (λ b. changes_that_count [] changes ++ cond b (c ∷ []) []) e)
+    ∙ ap (λ n. start + n) (up_to_last-push k (changes_that_count [] changes) c)
+    ∙ elim (same_key k (key_of c)) as (λ b. start + cond b (suc (length (changes_that_count [] changes))) (up_to_last k (changes_that_count [] changes)) ≡ cond b ((start + length (changes_that_count [] changes)) + 1) (start + up_to_last k (changes_that_count [] changes))) [
       | true ↦ omega arith
       | false ↦ refl
     ]

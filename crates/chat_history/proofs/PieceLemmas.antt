@@ -15,7 +15,7 @@ use Rattle.chat_change.specs.declared.change.Change.{Change}
 use Rattle.chat_change.specs.declared.change.Change.TheVariants.{Post, Redact, Mark, Floor}
 use Rattle.chat_history.specs.Choice.{earlier, first_by, greatest}
 use Rattle.chat_change.specs.Key.{Key, FloorOf, MarkerOf, MessageOf, key_cmp, same_key, key_of, bearers_of}
-use Rattle.chat_history.specs.History.{floor, mark, is_gone, kept, position_of, floor_moment, marker_moment, posted_record, message_moment, is_redaction, piece, piece_entry, History, norm, changes_of, Keyed, IsKeyed}
+use Rattle.chat_history.specs.History.{floor, mark, is_gone, kept_record, position_of, floor_moment, marker_moment, posted_record, message_moment, is_redaction, piece, piece_entry, History, norm, changes_of, IsKeyedEntry, IsKeyed}
 use Rattle.chat_change.proofs.CallerLemmas.{key_total, key_exact, same_key_is}
 
 -- ---- a change of a key in the piece of that key
@@ -66,9 +66,9 @@ piece_bears changes (MessageOf b m) =
     let k = MessageOf b m in
     let posts = IfSome-first_by record_cmp (λ r. Bears k (Post r)) _
     (IfSome-keep (λ r. Bears k (Post r)) (filter_map posted_record (bearers_of k changes)) (λ r. nat_le (floor changes b) r.at) (All-posted k (bearers_of k changes) (All-bearers_of k changes))) in
-    elim (is_gone changes b m) as (λ t. IfSome (cond t (Some (Redact b m (position_of changes b m))) (option_map Post (kept changes b m))) (Bears k)) [
+    elim (is_gone changes b m) as (λ t. IfSome (cond t (Some (Redact b m (position_of changes b m))) (option_map Post (kept_record changes b m))) (Bears k)) [
       | true ↦ refl
-      | false ↦ IfSome-map Post (Bears k) (kept changes b m) posts
+      | false ↦ IfSome-map Post (Bears k) (kept_record changes b m) posts
     ]
 
 -- ---- what `norm` has at a key
@@ -128,10 +128,10 @@ norm_from_pieces xs ys h = same_map key_total key_exact (norm xs) (norm ys) (λ 
 
 -- ---- histories that keep each change under its key
 
-pub All-put : (k : Key) (c : Change) (es : List (Key × Change)) → key_of c ≡ k → AllByRecursion Keyed es → AllByRecursion Keyed (put key_cmp k c es)
+pub All-put : (k : Key) (c : Change) (es : List (Key × Change)) → key_of c ≡ k → AllByRecursion IsKeyedEntry es → AllByRecursion IsKeyedEntry (put key_cmp k c es)
 All-put k c [] p h = (p, tt)
 All-put k c (e ∷ es) p h =
-    elim (key_cmp k e.0) as (λ o. key_cmp k e.0 ≡ o → AllByRecursion Keyed (by_order o ((k, c) ∷ e ∷ es) ((e.0, c) ∷ es) (e ∷ put key_cmp k c es))) [
+    elim (key_cmp k e.0) as (λ o. key_cmp k e.0 ≡ o → AllByRecursion IsKeyedEntry (by_order o ((k, c) ∷ e ∷ es) ((e.0, c) ∷ es) (e ∷ put key_cmp k c es))) [
       | Less ↦ λ _. (p, h)
       | Equal ↦ λ t. (p ∙ key_exact k e.0 t, h.1)
       | Greater ↦ λ _. (h.0, All-put k c es p h.1)
@@ -141,15 +141,15 @@ All-none : {A : Type 0} (P : A → Type 0) (xs : List A) → length xs ≡ 0 →
 All-none P [] e = tt
 All-none P (x ∷ xs) e = absurd (omega (arith, e))
 
-pub All-from_entries : (es : List (Key × Change)) → AllByRecursion Keyed es → AllByRecursion Keyed (entries (from_entries {R = key_cmp} es))
-All-from_entries [] h = All-none Keyed (entries empty) (sym (len-entries (empty {X = Change} {R = key_cmp})) ∙ len-empty key_cmp Change)
-All-from_entries (e ∷ es) h = subst (AllByRecursion Keyed) (sym (entries-insert key_total (from_entries es) e.0 e.1)) (All-put e.0 e.1 (entries (from_entries es)) h.0 (All-from_entries es h.1))
+pub All-from_entries : (es : List (Key × Change)) → AllByRecursion IsKeyedEntry es → AllByRecursion IsKeyedEntry (entries (from_entries {R = key_cmp} es))
+All-from_entries [] h = All-none IsKeyedEntry (entries empty) (sym (len-entries (empty {X = Change} {R = key_cmp})) ∙ len-empty key_cmp Change)
+All-from_entries (e ∷ es) h = subst (AllByRecursion IsKeyedEntry) (sym (entries-insert key_total (from_entries es) e.0 e.1)) (All-put e.0 e.1 (entries (from_entries es)) h.0 (All-from_entries es h.1))
 
-Keyed-entry : (l : Key) (o : Option Change) (rest : List (Key × Change)) → IfSome o (Bears l) → AllByRecursion Keyed rest → AllByRecursion Keyed (cons_option (option_map (λ (p : Change). (l, p)) o) rest)
+Keyed-entry : (l : Key) (o : Option Change) (rest : List (Key × Change)) → IfSome o (Bears l) → AllByRecursion IsKeyedEntry rest → AllByRecursion IsKeyedEntry (cons_option (option_map (λ (p : Change). (l, p)) o) rest)
 Keyed-entry l None rest p h = h
 Keyed-entry l (Some c) rest p h = (p, h)
 
-All-piece_entries : (changes cs : List Change) → AllByRecursion Keyed (filter_map (piece_entry changes) cs)
+All-piece_entries : (changes cs : List Change) → AllByRecursion IsKeyedEntry (filter_map (piece_entry changes) cs)
 All-piece_entries changes [] = tt
 All-piece_entries changes (c ∷ cs) = Keyed-entry (key_of c) (piece changes (key_of c)) _ (piece_bears changes (key_of c)) (All-piece_entries changes cs)
 
@@ -157,7 +157,7 @@ pub norm_keyed : (changes : List Change) → IsKeyed (norm changes)
 unfolding norm IsKeyed
 norm_keyed changes = All-from_entries _ (All-piece_entries changes changes)
 
-pub from_entries_keyed : (es : List (Key × Change)) → AllByRecursion Keyed es → IsKeyed (from_entries es)
+pub from_entries_keyed : (es : List (Key × Change)) → AllByRecursion IsKeyedEntry es → IsKeyed (from_entries es)
 unfolding IsKeyed
 from_entries_keyed es h = All-from_entries es h
 
@@ -177,14 +177,14 @@ lt_not_eq Equal p = absurd p
 lt_not_eq Greater p = refl
 
 -- a key below all those of the entries is borne by none
-none_below : (k : Key) (es : List (Key × Change)) → T (below_all key_cmp k es) → AllByRecursion Keyed es → bearers_of k (map (λ (e : Key × Change). e.1) es) ≡ []
+none_below : (k : Key) (es : List (Key × Change)) → T (below_all key_cmp k es) → AllByRecursion IsKeyedEntry es → bearers_of k (map (λ (e : Key × Change). e.1) es) ≡ []
 none_below k [] s h = refl
 none_below k (e ∷ es) s h =
     ap (λ b. cond b (e.1 ∷ bearers_of k (map (λ (e : Key × Change). e.1) es)) (bearers_of k (map (λ (e : Key × Change). e.1) es)))
     (ap (same_key k) h.0 ∙ lt_not_eq (key_cmp k e.0) (first _ _ s))
     ∙ none_below k es (second _ _ s) h.1
 
-borne_in : (k : Key) (es : List (Key × Change)) → T (is_sorted key_cmp es) → AllByRecursion Keyed es → bearers_of k (map (λ (e : Key × Change). e.1) es) ≡ option_to_list (find key_cmp k es)
+borne_in : (k : Key) (es : List (Key × Change)) → T (is_sorted key_cmp es) → AllByRecursion IsKeyedEntry es → bearers_of k (map (λ (e : Key × Change). e.1) es) ≡ option_to_list (find key_cmp k es)
 borne_in k [] s h = refl
 borne_in k (e ∷ es) s h =
     let rest = bearers_of k (map (λ (e : Key × Change). e.1) es) in

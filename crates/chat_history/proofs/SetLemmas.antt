@@ -16,7 +16,7 @@ use Rattle.chat_change.specs.declared.change.Change.TheVariants.{Post, Redact, M
 use Rattle.chat_change.proofs.CallerLemmas.{record_total, record_exact}
 use Rattle.chat_history.specs.Choice.{earlier, greatest}
 use Rattle.chat_change.specs.Key.{Key, FloorOf, MarkerOf, MessageOf, bearers_of}
-use Rattle.chat_history.specs.History.{floor, mark, is_gone, kept, position_of, floor_moment, is_redaction, piece, norm, changes_of, SameSet, join, IsAtMost}
+use Rattle.chat_history.specs.History.{floor, mark, is_gone, kept_record, position_of, floor_moment, is_redaction, piece, norm, changes_of, SameSet, join, IsAtMost}
 use Rattle.chat_history.proofs.ChoiceLemmas.{keep, earlier_comm, earlier_assoc, earlier_idem}
 use Rattle.chat_history.proofs.PieceLemmas.{bearers_of-append, norm_from_pieces}
 use Rattle.chat_history.proofs.NormLemmas.{latest_total, latest_exact, greatest-append, best, top, best-append, top-append, kept-best, position-top, at_least, stays, mark-append, norm_parts}
@@ -99,7 +99,7 @@ module _ (xs ys : List Change) (same : SameSet xs ys) where
     same_position : position_of xs b m ≡ position_of ys b m
     same_position = position-top xs b m ∙ (λ i. keep (at_least (same_floor b i)) (same_top i)) ∙ sym (position-top ys b m)
 
-    same_kept : kept xs b m ≡ kept ys b m
+    same_kept : kept_record xs b m ≡ kept_record ys b m
     same_kept = kept-best xs b m ∙ (λ i. keep (stays (same_floor b i)) (same_best i)) ∙ sym (kept-best ys b m)
 
   same_piece : (k : Key) → piece xs k ≡ piece ys k

@@ -18,7 +18,7 @@ use Rattle.chat_change.specs.declared.change.Change.TheVariants.{Post, Redact, M
 use Rattle.chat_change.proofs.CallerLemmas.{record_total, record_exact}
 use Rattle.chat_history.specs.Choice.{greatest, Among}
 use Rattle.chat_change.specs.Key.{Key, FloorOf, MarkerOf, MessageOf, same_key, key_of, bearers_of}
-use Rattle.chat_history.specs.History.{floor, mark, is_gone, kept, position_of, floor_moment, marker_moment, posted_record, message_moment, is_redaction}
+use Rattle.chat_history.specs.History.{floor, mark, is_gone, kept_record, position_of, floor_moment, marker_moment, posted_record, message_moment, is_redaction}
 use Rattle.chat_history.specs.Members.{IsPosted, IsStandingPost, IsMomentOf}
 use Rattle.chat_change.proofs.CallerLemmas.{same_key_itself, same_key_is}
 use Rattle.chat_history.proofs.NormLemmas.{latest_total, latest_exact}
@@ -201,13 +201,13 @@ module _ (changes : List Change) (b : Buffer) (m : List ℕ) where
   in_standing : (r : Record) → IsStandingPost changes b m r → Among r standing
   in_standing r h = among_passing (λ r. nat_le (floor changes b) r.at) (filter_map posted_record (bearers_of (MessageOf b m) changes)) r (in_posts r h.0) (is_at_least (floor changes b) r.at h.1)
 
-  pub kept_first : (r : Record) → (kept changes b m ≡ Some r) ↔ (IsStandingPost changes b m r × ((q : Record) → IsStandingPost changes b m q → record_cmp q r ≢ Less))
+  pub kept_first : (r : Record) → (kept_record changes b m ≡ Some r) ↔ (IsStandingPost changes b m r × ((q : Record) → IsStandingPost changes b m q → record_cmp q r ≢ Less))
   kept_first r = (
     λ e. let h = first_member record_total record_exact standing r e in (stands r h.0, λ q s. less_not record_total r q (h.1 q (in_standing q s))),
     λ h. member_first record_total record_exact standing r (in_standing r h.0, λ q a. not_less record_total r q (h.1 q (stands q a))),
   )
 
-  pub kept_none : (kept changes b m ≡ None) ↔ ((r : Record) → IsStandingPost changes b m r → ⊥)
+  pub kept_none : (kept_record changes b m ≡ None) ↔ ((r : Record) → IsStandingPost changes b m r → ⊥)
   kept_none = (
     λ e r s. no_member standing (first_none record_total record_exact standing e) r (in_standing r s),
     λ h. none_first record_total record_exact standing (λ r a. h r (stands r a)),

@@ -10,7 +10,7 @@ use Rattle.chat_change.specs.Key.{MessageOf, key_of}
 use Rattle.chat_change.specs.Record.{Record}
 use Rattle.chat_change.specs.declared.change.Change.{Change}
 use Rattle.chat_change.specs.declared.change.Change.TheVariants.{Post, Redact}
-use Rattle.chat_history.specs.History.{History, norm, floor, is_gone, kept, position_of, changes_of, IsKeyed}
+use Rattle.chat_history.specs.History.{History, norm, floor, is_gone, kept_record, position_of, changes_of, IsKeyed}
 use Rattle.chat_history.proofs.AbsorbLemmas.{get_is_piece, at_rest, at_floor}
 use Rattle.chat_history.proofs.MemberLemmas.{among}
 use Rattle.chat_history.proofs.PieceLemmas.{norm_keyed}
@@ -31,7 +31,7 @@ module _ (h : History) (normal : norm (changes_of h) ≡ h) where
   pub not_redacted : (r : Record) → Contains (changes_of h) (Post r) → is_gone (changes_of h) r.buffer r.id ≡ false
   not_redacted r m =
       let cs = changes_of h in
-      not_gone (is_gone cs r.buffer r.id) r.buffer r.id (position_of cs r.buffer r.id) (kept cs r.buffer r.id) r
+      not_gone (is_gone cs r.buffer r.id) r.buffer r.id (position_of cs r.buffer r.id) (kept_record cs r.buffer r.id) r
       (get_is_piece h keyed normal (MessageOf r.buffer r.id) ∙ is_piece (Post r) m)
 
   pub not_below : (r : Record) → Contains (changes_of h) (Post r) → floor (changes_of h) r.buffer ≤ r.at

@@ -19,8 +19,8 @@ use Rattle.chat_change.specs.declared.change.Change.TheVariants.{Post, Redact, M
 use Rattle.chat_change.proofs.CallerLemmas.{text_total, text_exact, buffer_total, buffer_exact}
 use Rattle.chat_change.specs.Key.{MessageOf, key_of}
 use Rattle.chat_history.specs.Choice.{Among}
-use Rattle.chat_history.specs.History.{History, norm, changes_of, is_gone, kept, position_of, IsKeyed}
-use Rattle.chat_history.specs.Visible.{spot_cmp, spot_of, rising, posted_in, in_order, records_in, visible}
+use Rattle.chat_history.specs.History.{History, norm, changes_of, is_gone, kept_record, position_of, IsKeyed}
+use Rattle.chat_history.specs.Visible.{spot_cmp, spot_of, by_spot, posted_in, in_order, records_in, visible}
 use Rattle.chat_history.proofs.PieceLemmas.{bearers_of-changes_of, norm_keyed, get-norm}
 use Rattle.chat_history.proofs.MemberLemmas.{among, contained, among_one, one_among, among-filter_map, among_made}
 use Rattle.chat_history.proofs.StandingLemmas.{among-bearers_of, among_borne}
@@ -31,7 +31,7 @@ use Rattle.chat_history.proofs.EntryLemmas.{ordered_member, member_ordered, orde
 pub spot_total : IsTotalOrder spot_cmp
 spot_total = then_total (on_total (λ (s : ℕ × List ℕ). s.0) nat_cmp_total) (on_total (λ (s : ℕ × List ℕ). s.1) text_total)
 
-pub rising_total : IsTotalOrder rising
+pub rising_total : IsTotalOrder by_spot
 rising_total = on_total spot_of spot_total
 
 both_equal : (a b : Ordering) → ordering_then a b ≡ Equal → (a ≡ Equal) × (b ≡ Equal)
@@ -129,7 +129,7 @@ records_sorted h b = ordered_sorted (filter_map (posted_in b) (changes_of h))
 -- ---- the visible records
 
 abbrev pub IsVisible : List Change → Buffer → Record → Type 0
-IsVisible changes b r = (r.buffer ≡ b) × (is_gone changes b r.id ≡ false) × (kept changes b r.id ≡ Some r)
+IsVisible changes b r = (r.buffer ≡ b) × (is_gone changes b r.id ≡ false) × (kept_record changes b r.id ≡ Some r)
 
 piece_post : (g : Bool) (b : Buffer) (m : List ℕ) (t : Option ℕ) (u : Option Record) (r : Record) → cond g (Some (Redact b m t)) (option_map Post u) ≡ Some (Post r) → (g ≡ false) × (u ≡ Some r)
 piece_post true b m t u r e = cc
@@ -141,7 +141,7 @@ module _ (changes : List Change) (b : Buffer) where
   visible_is r = (
     λ m.
         let p = record_of (norm changes) (norm_keyed changes) b r (among (visible changes b) r m) in
-        let q = piece_post (is_gone changes b r.id) b r.id (position_of changes b r.id) (kept changes b r.id) r (sym (get-norm changes (MessageOf b r.id)) ∙ p.1) in
+        let q = piece_post (is_gone changes b r.id) b r.id (position_of changes b r.id) (kept_record changes b r.id) r (sym (get-norm changes (MessageOf b r.id)) ∙ p.1) in
         (p.0, q.0, q.1),
     λ v. contained (visible changes b) r (of_record (norm changes) (norm_keyed changes) b r
         (v.0, get-norm changes (MessageOf b r.id) ∙ (λ i. cond (v.1 i) (Some (Redact b r.id (position_of changes b r.id))) (option_map Post (v.2 i))))),

@@ -56,8 +56,8 @@ is_gone changes b m = list_any is_redaction (bearers_of (MessageOf b m) changes)
 
 -- the kept record of a message: of its posts at or above the floor the one before which no other
 -- goes
-abbrev pub kept : List Change → Buffer → List ℕ → Option Record
-kept changes b m =
+abbrev pub kept_record : List Change → Buffer → List ℕ → Option Record
+kept_record changes b m =
     first_by record_cmp
     (filter (λ r. nat_le (floor changes b) r.at)
     (filter_map posted_record (bearers_of (MessageOf b m) changes)))
@@ -79,7 +79,7 @@ piece changes (FloorOf b) =
 piece changes (MarkerOf b) = option_map (Mark b) (mark changes b)
 piece changes (MessageOf b m) =
     if is_gone changes b m then Some (Redact b m (position_of changes b m))
-    else option_map Post (kept changes b m)
+    else option_map Post (kept_record changes b m)
 
 -- a history in normal form: at most one change for each key
 abbrev pub History : Type 0
@@ -98,11 +98,11 @@ unfoldable pub changes_of : History → List Change
 changes_of history = values history
 
 -- under each key stands a change that bears it
-abbrev pub Keyed : Key × Change → Type 0
-Keyed e = key_of e.1 ≡ e.0
+abbrev pub IsKeyedEntry : Key × Change → Type 0
+IsKeyedEntry e = key_of e.1 ≡ e.0
 
 unfoldable pub IsKeyed : History → Type 0
-IsKeyed history = AllByRecursion Keyed (entries history)
+IsKeyed history = AllByRecursion IsKeyedEntry (entries history)
 
 -- ---- sets of changes
 

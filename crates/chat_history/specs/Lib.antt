@@ -12,7 +12,7 @@ pub mod Latest
 pub mod Retention
 -- what a state holds that took changes, and under which numbers
 pub mod Numbering
-pub mod Held
+pub mod StateValue
 pub mod Deltas
 pub mod Merging
 pub mod Newer

@@ -1,5 +1,5 @@
--- The numbers of pieces: how far a list of changes had come when each piece got its present form, and
--- what is newer than a number.
+-- The numbers of pieces: how far a list of changes had come when each piece got its present form,
+-- and what is newer than a number.
 use Rattle.std.specs.Prelude.{ℕ, suc, ◌+◌, max, Bool, not, Option, List, [], ◌∷◌, ◌++◌, length, filter, map, take, nat_lt, if◌then◌else◌}
 use Rattle.std.specs.Ordering.{nat_cmp}
 use Rattle.std.specs.List.{list_any, filter_map}
@@ -16,15 +16,15 @@ abbrev pub counts_after : List Change → Change → Bool
 counts_after changes c = not (same_history (norm (changes ++ c ∷ [])) (norm changes))
 
 -- of the changes that come after others, those that count
-abbrev pub counted : List Change → List Change → List Change
-counted before [] = []
-counted before (c ∷ cs) =
-    if counts_after before c then c ∷ counted (before ++ c ∷ []) cs
-    else counted (before ++ c ∷ []) cs
+abbrev pub changes_that_count : List Change → List Change → List Change
+changes_that_count before [] = []
+changes_that_count before (c ∷ cs) =
+    if counts_after before c then c ∷ changes_that_count (before ++ c ∷ []) cs
+    else changes_that_count (before ++ c ∷ []) cs
 
 -- the number after a list of changes, where it was `start` before them
 abbrev pub front : ℕ → List Change → ℕ
-front start changes = start + length (counted [] changes)
+front start changes = start + length (changes_that_count [] changes)
 
 -- how many changes there are up to the last that bears a key; 0 where none does
 abbrev pub up_to_last : Key → List Change → ℕ
@@ -35,7 +35,7 @@ up_to_last k (c ∷ cs) =
 
 -- the number of a key's piece: the front after the last change that counts and bears the key
 abbrev pub number : ℕ → List Change → Key → ℕ
-number start changes k = start + up_to_last k (counted [] changes)
+number start changes k = start + up_to_last k (changes_that_count [] changes)
 
 -- the number of each piece
 abbrev pub numbers : ℕ → List Change → FinMap key_cmp ℕ
@@ -45,8 +45,8 @@ numbers start changes = from_entries (map (λ k. (k, number start changes k)) (k
 abbrev pub has_piece : History → Key → Bool
 has_piece history k = is_some (get history k)
 
--- the numbers after a change that counts: its key gets the next one, and whatever else is still there
--- keeps its own
+-- the numbers after a change that counts: its key gets the next one, and whatever else is still
+-- there keeps its own
 abbrev pub numbers_after : FinMap key_cmp ℕ → History → Key → ℕ → FinMap key_cmp ℕ
 numbers_after numbers history k next = insert (retain_keys numbers (has_piece history)) k next
 
@@ -78,8 +78,8 @@ delta_end from front all =
     then unwrap_or (greatest (map (λ (e : ℕ × Change). e.0) (take delta_limit all))) from
     else max from front
 
--- the delta since `from`, of the pieces that are newer: the first of them, and how far whoever takes
--- them has come
+-- the delta since `from`, of the pieces that are newer: the first of them, and how far whoever
+-- takes them has come
 abbrev pub delta_from : ℕ → ℕ → List (ℕ × Change) → Delta
 delta_from from front all =
     record {

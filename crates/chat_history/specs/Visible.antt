@@ -20,8 +20,8 @@ abbrev pub spot_of : Record → ℕ × List ℕ
 spot_of r = (r.at, r.id)
 
 -- records by where they stand
-abbrev pub rising : Record → Record → Ordering
-rising = on spot_of spot_cmp
+abbrev pub by_spot : Record → Record → Ordering
+by_spot = on spot_of spot_cmp
 
 -- the record that a change posts in a buffer
 abbrev pub posted_in : Buffer → Change → Option Record

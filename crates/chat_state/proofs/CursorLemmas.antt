@@ -1,5 +1,5 @@
 -- What the search for the nearest record says of the records of a history, and the steps of a cursor.
-use Rattle.std.proofs.Common.{◌≡◌, ◌≤◌, Bool, true, false, cond, not, Option, Some, None, List, [], ◌∷◌, map, reverse, refl, sym, ◌∙◌, ap, subst, arith, ⊎_elim, inl, inr, Bor}
+use Rattle.std.proofs.Common.{◌≡◌, ◌≤◌, Bool, true, false, cond, not, Option, Some, None, ◌∷◌, reverse, refl, sym, ◌∙◌, ap, subst, arith, Bor}
 use Rattle.std.proofs.lemmas.Bool.{false≢true}
 use Rattle.std.proofs.lemmas.Bool.Decides.{nat_tests}
 use Rattle.std.specs.Prelude.{◌↔◌}
@@ -24,7 +24,7 @@ use Rattle.chat_history.specs.History.{History, changes_of, IsKeyed}
 use Rattle.chat_history.specs.Visible.{posted_in, records_in}
 use Rattle.chat_history.specs.Cut.{cut_cmp, cut_total, of_record, is_after, after, before}
 use Rattle.chat_history.specs.Choice.{keep, Among, IsFirst}
-use Rattle.chat_history.specs.Visible.{rising}
+use Rattle.chat_history.specs.Visible.{by_spot}
 use Rattle.chat_store.specs.Nearest.{is_beyond, nearer_cmp, candidate, candidates}
 use Rattle.chat_state.specs.Cursor.{up_from, down_from, IsAtRecord}
 use Rattle.chat_history.proofs.CallerLemmas.{among-filter_map, among_made}
@@ -89,7 +89,7 @@ not_true : (b : Bool) → not b ≡ true → b ≡ false
 not_true true e = absurd (false≢true e)
 not_true false e = refl
 
-after_closed : (c : Cut) (x y : Record) → is_after c x ≡ true → is_gt (rising x y) ≡ false → is_after c y ≡ true
+after_closed : (c : Cut) (x y : Record) → is_after c x ≡ true → is_gt (by_spot x y) ≡ false → is_after c y ≡ true
 after_closed Bottom x y t l = refl
 after_closed (UnderTime u) x y t l = let m = no_later x y (text_cmp x.id y.id) l in grind (arith, nat_tests)
 after_closed (OverTime u) x y t l = let m = no_later x y (text_cmp x.id y.id) l in grind (arith, nat_tests)
@@ -99,7 +99,7 @@ after_closed (UnderMsg s) x y t l =
 after_closed (OverMsg s) x y t l = ap is_lt (less_upto cut_total s.now (of_record x) (of_record y) (less (cut_cmp s.now (of_record x)) t) l)
 after_closed Top x y t l = absurd (false≢true t)
 
-before_closed : (c : Cut) (x y : Record) → not (is_after c x) ≡ true → is_gt (rising y x) ≡ false → not (is_after c y) ≡ true
+before_closed : (c : Cut) (x y : Record) → not (is_after c x) ≡ true → is_gt (by_spot y x) ≡ false → not (is_after c y) ≡ true
 before_closed c x y t l =
     elim (is_after c y) as (λ b. is_after c y ≡ b → not b ≡ true) [
       | true ↦ λ e. sym (ap not (after_closed c y x e l)) ∙ t
@@ -109,8 +109,8 @@ before_closed c x y t l =
 pub beyond_closed : (e : Edge) (x y : Record) → is_beyond e x ≡ true → is_gt (nearer_cmp e x y) ≡ false → is_beyond e y ≡ true
 beyond_closed (AfterCut c) x y t l = after_closed c.now x y t l
 beyond_closed (BeforeCut c) x y t l = before_closed c.now x y t l
-beyond_closed (AfterRecord q) x y t l = ap is_lt (less_upto rising_total q.now x y (less (rising q.now x) t) l)
-beyond_closed (BeforeRecord q) x y t l = ap is_lt (upto_less rising_total y x q.now l (less (rising x q.now) t))
+beyond_closed (AfterRecord q) x y t l = ap is_lt (less_upto rising_total q.now x y (less (by_spot q.now x) t) l)
+beyond_closed (BeforeRecord q) x y t l = ap is_lt (upto_less rising_total y x q.now l (less (by_spot x q.now) t))
 
 -- ---- what is left
 
@@ -124,17 +124,17 @@ module _ (b : Buffer) (h : History) (keyed : IsKeyed h) where
   here : (e : Edge) (r : Bor Record) → IsFirst (nearer_cmp e) (candidates e b h) (Some r.now) → r.now.buffer ≡ b
   here e r f = (candidate_held e b h keyed r.now f.0).0.0
 
-  rising_left : (e : Edge) → nearer_cmp e ≡ rising → (u : Option (Bor Record)) → IsFirst (nearer_cmp e) (candidates e b h) (option_map deref u) → up_from h u ≡ filter (is_beyond e) (records_in h b)
+  rising_left : (e : Edge) → nearer_cmp e ≡ by_spot → (u : Option (Bor Record)) → IsFirst (nearer_cmp e) (candidates e b h) (option_map deref u) → up_from h u ≡ filter (is_beyond e) (records_in h b)
   rising_left e s None f = sym (none_passing (nearer_total e) (records_in h b) (candidates e b h) (is_beyond e) (beyond_closed e) (candidate_record e b h keyed) f)
   rising_left e s (Some r) f =
-      ap (λ c. filter (λ q. not (is_lt (rising q r.now))) (records_in h c)) (here e r f)
+      ap (λ c. filter (λ q. not (is_lt (by_spot q r.now))) (records_in h c)) (here e r f)
       ∙ ap (λ R. filter (λ q. not (is_lt (R q r.now))) (records_in h b)) (sym s)
       ∙ sym (passing_from (nearer_total e) (records_in h b) (candidates e b h) (is_beyond e) (beyond_closed e) (candidate_record e b h keyed) r.now f)
 
-  falling_left : (e : Edge) → nearer_cmp e ≡ flip_args rising → (u : Option (Bor Record)) → IsFirst (nearer_cmp e) (candidates e b h) (option_map deref u) → down_from h u ≡ filter (is_beyond e) (reverse (records_in h b))
+  falling_left : (e : Edge) → nearer_cmp e ≡ flip_args by_spot → (u : Option (Bor Record)) → IsFirst (nearer_cmp e) (candidates e b h) (option_map deref u) → down_from h u ≡ filter (is_beyond e) (reverse (records_in h b))
   falling_left e s None f = sym (none_passing (nearer_total e) (reverse (records_in h b)) (candidates e b h) (is_beyond e) (beyond_closed e) (candidate_reversed e b h keyed) f)
   falling_left e s (Some r) f =
-      ap (λ c. filter (λ q. not (is_lt (rising r.now q))) (reverse (records_in h c))) (here e r f)
+      ap (λ c. filter (λ q. not (is_lt (by_spot r.now q))) (reverse (records_in h c))) (here e r f)
       ∙ ap (λ R. filter (λ q. not (is_lt (R q r.now))) (reverse (records_in h b))) (sym s)
       ∙ sym (passing_from (nearer_total e) (reverse (records_in h b)) (candidates e b h) (is_beyond e) (beyond_closed e) (candidate_reversed e b h keyed) r.now f)
 
@@ -159,5 +159,5 @@ module _ (h : History) (at : Option (Bor Record)) (sound : IsAtRecord h at) (r :
   pub down_step : IsFirst (nearer_cmp (BeforeRecord r)) (candidates (BeforeRecord r) r.now.buffer h) (option_map deref u) → down_from h at ≡ r.now ∷ down_from h u
   down_step f =
       ap (down_from h) is
-      ∙ from_member (nearer_total (BeforeRecord r)) (reverse (records_in h r.now.buffer)) r.now (sorted_reverse rising (records_in h r.now.buffer) (records_sorted h r.now.buffer)) (reverse_among (records_in h r.now.buffer) r.now among_records)
+      ∙ from_member (nearer_total (BeforeRecord r)) (reverse (records_in h r.now.buffer)) r.now (sorted_reverse by_spot (records_in h r.now.buffer) (records_sorted h r.now.buffer)) (reverse_among (records_in h r.now.buffer) r.now among_records)
       ∙ ap (λ rs. r.now ∷ rs) (sym (falling_left r.now.buffer h sound.keyed (BeforeRecord r) refl u f))

@@ -12,7 +12,7 @@ use Rattle.chat_history.specs.Choice.{greatest, Among}
 use Rattle.chat_change.specs.Key.{Key, FloorOf, MarkerOf, MessageOf, key_of, bearers_of}
 use Rattle.chat_history.specs.History.{History, floor, mark, is_gone, position_of, floor_moment, marker_moment, message_moment, is_redaction, norm, changes_of, IsKeyed}
 use Rattle.chat_history.specs.Lookups.{position_in, is_redacted, is_posted, IsShown}
-use Rattle.chat_history.specs.Held.{Held}
+use Rattle.chat_history.specs.StateValue.{StateValue}
 use Rattle.chat_store.specs.Store.{Store, change_at}
 use Rattle.chat_state.specs.State.{value_of, IsSound}
 use Rattle.chat_history.proofs.CallerLemmas.{bearers_of-changes_of}
@@ -99,15 +99,15 @@ floor_said b (Some t) = refl
 
 -- ---- the history of a state
 
-module _ (s : Store) (front : ℕ) (sound : IsSound s front) (held : Held) (is : value_of s front ≡ held) where
+module _ (s : Store) (front : ℕ) (sound : IsSound s front) (held : StateValue) (is : value_of s front ≡ held) where
   pub state_keyed : IsKeyed held.history
-  state_keyed = subst (λ (h : Held). IsKeyed h.history) is (keyed s sound.normal)
+  state_keyed = subst (λ (h : StateValue). IsKeyed h.history) is (keyed s sound.normal)
 
   pub state_normal : norm (changes_of held.history) ≡ held.history
-  state_normal = subst (λ (h : Held). norm (changes_of h.history) ≡ h.history) is sound.normal
+  state_normal = subst (λ (h : StateValue). norm (changes_of h.history) ≡ h.history) is sound.normal
 
   pub state_found : (k : Key) (u : Option Change) → change_at s k ≡ u → u ≡ get held.history k
-  state_found k u e = sym e ∙ sym (get-history s k) ∙ ap (λ (h : Held). get h.history k) is
+  state_found k u e = sym e ∙ sym (get-history s k) ∙ ap (λ (h : StateValue). get h.history k) is
 
 -- ---- what is read off a history says what each set of changes says of which it is the normal form
 

@@ -1,6 +1,5 @@
 -- The pieces of a state by rising number, and what another state has after it took them.
-use Rattle.std.proofs.Common.{◌≡◌, ℕ, ◌+◌, ◌<◌, ◌≤◌, zero, suc, Bool, true, false, cond, Option, Some, None, List, [], ◌∷◌, ◌++◌, map, length, get_or, take, drop, refl, sym, ◌∙◌, ap, subst, arith, ⊎_elim, inl, inr, append_assoc}
-use Rattle.std.proofs.lemmas.Bool.{false≢true}
+use Rattle.std.proofs.Common.{◌≡◌, ℕ, ◌+◌, ◌<◌, ◌≤◌, zero, suc, true, false, Option, Some, None, List, [], ◌∷◌, ◌++◌, map, length, get_or, take, drop, refl, sym, ◌∙◌, ap, subst, arith, ⊎_elim, inl, inr}
 use Rattle.std.proofs.lemmas.Bool.Decides.{nat_tests}
 use Rattle.std.proofs.lemmas.Cmp.{nat_cmp_total}
 use Rattle.std.proofs.lemmas.List.Elements.{Contains-get_or, Contains-append_left, Contains-append_right, Contains-append_cases}
@@ -8,25 +7,25 @@ use Rattle.std.proofs.lemmas.Map.Keys.{IsDistinct-cons}
 use Rattle.std.proofs.lemmas.Map.Lookups.{exact_unsigned}
 use Rattle.std.specs.declared.cmp.Ordering.TheVariants.{Less}
 use Rattle.std.specs.FinMap as finite
-use Rattle.std.specs.List.{Contains, filter, IsDistinct, AllByRecursion}
-use Rattle.std.specs.List.Sorted.{IsStrictlySortedBy, IsNonDecreasingBy}
+use Rattle.std.specs.List.{filter, IsDistinct, AllByRecursion}
+use Rattle.std.specs.List.Sorted.{IsStrictlySortedBy}
 use Rattle.std.specs.Option.{IfSome, option_map, unwrap_or}
 use Rattle.std.proofs.lemmas.Option.{same_Some, slice_get-get_or}
 use Rattle.std.proofs.lemmas.List.{get_or-map, length-map}
 use Rattle.std.proofs.lemmas.Cmp.{tied_itself}
 use Rattle.std.specs.Ordering.{nat_cmp, is_lt, is_gt}
 use Rattle.std.specs.Prelude.{nat_lt, ◌↔◌}
-use Rattle.chat_change.specs.Key.{Key, key_of, same_key}
+use Rattle.chat_change.specs.Key.{key_of, same_key}
 use Rattle.chat_change.specs.declared.change.Change.{Change}
 use Rattle.chat_change.proofs.CallerLemmas.{key_total, key_exact, same_key_is}
 use Rattle.chat_history.specs.Choice.{Among, IsFirst}
-use Rattle.chat_history.specs.Held.{Held, StoppedAt, IsPastTheLast}
-use Rattle.chat_history.specs.History.{norm, changes_of, SameSet, join, IsKeyed}
+use Rattle.chat_history.specs.StateValue.{StateValue, IsStoppedAt, IsPastTheLast}
+use Rattle.chat_history.specs.History.{norm, changes_of, SameSet, join}
 use Rattle.chat_history.specs.Merging.{number_in, IsByNumber}
 use Rattle.chat_store.specs.Store.{Store, Numbered, history_in, numbers_in, by_number, pieces_above}
 use Rattle.chat_state.specs.State.{value_of, IsSound}
 use Rattle.chat_history.proofs.CallerLemmas.{valued, value_among, got, get_entry, ordered_member, member_ordered, ordered_by_key}
-use Rattle.chat_history.proofs.CallerLemmas.{among, contained, among-filter, among_passing, mapped, image, member}
+use Rattle.chat_history.proofs.CallerLemmas.{among, contained, among-filter, among_passing, mapped, image}
 use Rattle.chat_store.proofs.CallerLemmas.{by_number_total}
 use Rattle.chat_history.proofs.CallerLemmas.{norm_of_set}
 use Rattle.chat_history.proofs.CallerLemmas.{filter_alike, from_member, passing_from, none_passing}
@@ -206,7 +205,7 @@ next_in all i p rest e =
     let r = drop_step all i p rest e in
     (omega (arith, r.0, length-map all change), sym (get_or-map change all i p p.change r.0 ∙ ap change r.1))
 
-pub stopped_at : (h : Held) (cs : List Change) (i : ℕ) (c : Change) (E : Type 0) → i < length cs → c ≡ get_or cs i c → E ↔ IsPastTheLast h c → StoppedAt h cs i E
+pub stopped_at : (h : StateValue) (cs : List Change) (i : ℕ) (c : Change) (E : Type 0) → i < length cs → c ≡ get_or cs i c → E ↔ IsPastTheLast h c → IsStoppedAt h cs i E
 stopped_at h cs i c E l is past = (
   l,
   λ d e.
@@ -222,7 +221,7 @@ drop_end (q ∷ all) (suc i) e = ap (λ cs. q.change ∷ cs) (drop_end all i e)
 
 -- ---- what is taken
 
-module _ (old other new : Held) (turn : List Change) (by_number : IsByNumber other turn) where
+module _ (old other new : StateValue) (turn : List Change) (by_number : IsByNumber other turn) where
   joined_set : SameSet (changes_of old.history ++ turn) (changes_of old.history ++ changes_of other.history)
   joined_set c = (
     λ h. ⊎_elim (Contains-append_left (changes_of old.history) (changes_of other.history) c) (λ t. Contains-append_right (changes_of old.history) (changes_of other.history) c ((by_number.pieces c).0 t)) (Contains-append_cases (changes_of old.history) turn c h),

@@ -1,11 +1,11 @@
 -- The pieces above a number, by rising number, are the newer pieces of what a state holds.
-use Rattle.std.proofs.Common.{◌≡◌, ℕ, ◌<◌, ◌≤◌, Bool, true, Option, Some, None, List, [], ◌∷◌, ◌++◌, map, length, get_or, refl, sym, ◌∙◌, ap, subst, arith, Bor, append_assoc}
+use Rattle.std.proofs.Common.{◌≡◌, ℕ, ◌<◌, Bool, true, Some, List, [], ◌∷◌, ◌++◌, map, length, refl, sym, ◌∙◌, ap, subst, arith, Bor, append_assoc}
 use Rattle.std.proofs.lemmas.Bool.Decides.{nat_tests}
 use Rattle.std.proofs.lemmas.List.{append-nil, get_or-map, length-map}
 use Rattle.std.proofs.lemmas.List.Kept.{IsStrictlySortedBy-filter}
 use Rattle.std.specs.FinMap as finite
-use Rattle.std.specs.List.{Contains, filter, IsDistinct}
-use Rattle.std.specs.List.Sorted.{IsStrictlySortedBy, IsNonDecreasingBy}
+use Rattle.std.specs.List.{IsDistinct}
+use Rattle.std.specs.List.Sorted.{IsStrictlySortedBy}
 use Rattle.std.specs.Option.{option_map}
 use Rattle.std.specs.Prelude.{nat_lt}
 use Rattle.chat_change.specs.Key.{key_of, same_key}
@@ -14,7 +14,7 @@ use Rattle.chat_change.proofs.CallerLemmas.{key_total, key_exact}
 use Rattle.chat_history.specs.Choice.{Among}
 use Rattle.chat_store.specs.Pieces.{entry_of}
 use Rattle.chat_history.specs.Newer.{HasPiece, IsNewer}
-use Rattle.chat_store.specs.Pieces.{lent}
+use Rattle.chat_store.specs.Pieces.{numbered_at}
 use Rattle.chat_store.specs.Store.{Store, Numbered, by_number}
 use Rattle.chat_state.specs.State.{value_of, IsSound}
 use Rattle.chat_store.specs.declared.store.Piece.{Piece}
@@ -73,20 +73,20 @@ module _ (s : Store) (front from : ℕ) (sound : IsSound s front) where
 
 -- ---- references
 
-entries_of : (ps : List (Bor Piece)) → map entry (map lent ps) ≡ map entry_of ps
+entries_of : (ps : List (Bor Piece)) → map entry (map numbered_at ps) ≡ map entry_of ps
 entries_of [] = refl
 entries_of (p ∷ ps) = ap (λ es. entry_of p ∷ es) (entries_of ps)
 
-lent_more : (ps : List (Bor Piece)) (p : Bor Piece) → map lent (ps ++ p ∷ []) ≡ map lent ps ++ lent p ∷ []
+lent_more : (ps : List (Bor Piece)) (p : Bor Piece) → map numbered_at (ps ++ p ∷ []) ≡ map numbered_at ps ++ numbered_at p ∷ []
 lent_more [] p = refl
-lent_more (q ∷ ps) p = ap (λ qs. lent q ∷ qs) (lent_more ps p)
+lent_more (q ∷ ps) p = ap (λ qs. numbered_at q ∷ qs) (lent_more ps p)
 
 -- one more reference
-pub lent_next : (all rest now : List Numbered) (ps : List (Bor Piece)) (p : Bor Piece) → now ≡ lent p ∷ rest → map lent ps ++ now ≡ all → map lent (ps ++ p ∷ []) ++ rest ≡ all
+pub lent_next : (all rest now : List Numbered) (ps : List (Bor Piece)) (p : Bor Piece) → now ≡ numbered_at p ∷ rest → map numbered_at ps ++ now ≡ all → map numbered_at (ps ++ p ∷ []) ++ rest ≡ all
 lent_next all rest now ps p e h =
-    ap (λ qs. qs ++ rest) (lent_more ps p) ∙ append_assoc (map lent ps) (lent p ∷ []) rest ∙ ap (λ qs. map lent ps ++ qs) (sym e) ∙ h
+    ap (λ qs. qs ++ rest) (lent_more ps p) ∙ append_assoc (map numbered_at ps) (numbered_at p ∷ []) rest ∙ ap (λ qs. map numbered_at ps ++ qs) (sym e) ∙ h
 
-pub newer_all : (s : Store) (front from : ℕ) → IsSound s front → (now : List Numbered) (ps : List (Bor Piece)) → now ≡ [] → map lent ps ++ now ≡ left s from → IsNewer (value_of s front) from (map entry_of ps)
+pub newer_all : (s : Store) (front from : ℕ) → IsSound s front → (now : List Numbered) (ps : List (Bor Piece)) → now ≡ [] → map numbered_at ps ++ now ≡ left s from → IsNewer (value_of s front) from (map entry_of ps)
 newer_all s front from sound now ps e h =
-    let is : map lent ps ≡ left s from = sym (append-nil (map lent ps)) ∙ ap (λ qs. map lent ps ++ qs) (sym e) ∙ h in
+    let is : map numbered_at ps ≡ left s from = sym (append-nil (map numbered_at ps)) ∙ ap (λ qs. map numbered_at ps ++ qs) (sym e) ∙ h in
     subst (IsNewer (value_of s front) from) (ap (map entry) (sym is) ∙ entries_of ps) (newer_is s front from sound)

@@ -11,7 +11,7 @@ use Rattle.chat_change.specs.declared.change.Change.TheVariants.{Post, Redact, M
 use Rattle.chat_change.specs.Key.{Key, FloorOf, key_cmp, key_of, same_key, key_buffer}
 use Rattle.chat_history.specs.History.{History, floor, floor_moment, norm, changes_of, IsKeyed}
 use Rattle.chat_history.specs.Choice.{keep}
-use Rattle.chat_history.specs.Held.{held}
+use Rattle.chat_history.specs.StateValue.{state_after}
 use Rattle.chat_history.specs.Numbering as numbering
 use Rattle.chat_history.specs.Numbering.{has_piece, numbers_after, front, numbers}
 use Rattle.chat_history.specs.Retention.{outlasts, remainder}
@@ -275,13 +275,13 @@ module _ (s new : Store) (front : ℕ) (sound : IsSound s front) (c d : Change) 
     numbers = subst (λ m. AreNumbers m n) (sym new_numbers) (numbers_after_are (numbers_in s) front n sound.numbers above (history_in new) (key_of c));
   }
 
-  pub new_held : n ≡ front + 1 → (start : ℕ) (changes : List Change) → value_of s front ≡ held start changes → value_of new n ≡ held start (changes ++ c ∷ [])
+  pub new_held : n ≡ front + 1 → (start : ℕ) (changes : List Change) → value_of s front ≡ state_after start changes → value_of new n ≡ state_after start (changes ++ c ∷ [])
   new_held next start changes was =
       held_counted start changes c (value_of s front) (value_of new n) d (keyed s sound.normal) was new_history (formed_differs s sound.normal c d e)
       (new_numbers ∙ ap (numbers_after (numbers_in s) (history_in new) (key_of c)) next) next
       (get-history new (key_of c) ∙ ap (change_at new) is.bears ∙ ap (option_map change) (places (key_of d) ∙ placed_own s n d))
 
-pub kept_held : (s : Store) (front : ℕ) → IsSound s front → (c : Change) → form s c ≡ None → (start : ℕ) (changes : List Change) → value_of s front ≡ held start changes → value_of s front ≡ held start (changes ++ c ∷ [])
+pub kept_held : (s : Store) (front : ℕ) → IsSound s front → (c : Change) → form s c ≡ None → (start : ℕ) (changes : List Change) → value_of s front ≡ state_after start changes → value_of s front ≡ state_after start (changes ++ c ∷ [])
 kept_held s front sound c e start changes was = held_same start changes c (value_of s front) was (sym (unformed s sound.normal c e))
 
 -- ---- nothing taken
@@ -297,7 +297,7 @@ module _ (start : ℕ) where
   no_numbers = finite.same_map key_total key_exact (numbers_in finite.empty) (numbers start []) (λ k.
       none k ∙ sym (get-numbers start [] k ∙ ap (option_map (λ _. numbering.number start [] k)) (get-norm [] k ∙ piece_none [] k refl)))
 
-  pub empty_seen : value_of finite.empty start ≡ held start []
+  pub empty_seen : value_of finite.empty start ≡ state_after start []
   empty_seen =
       let at : start ≡ front start [] = omega arith in
       λ i. record { history = no_history i; numbers = no_numbers i; front = at i }

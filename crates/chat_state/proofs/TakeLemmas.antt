@@ -10,7 +10,7 @@ use Rattle.std.proofs.lemmas.List.{take_more, take-append-le, take-append-drop}
 use Rattle.std.proofs.lemmas.Grind.{flat_map-append}
 use Rattle.std.specs.List.{flat_map}
 use Rattle.chat_change.specs.declared.change.Change.{Change}
-use Rattle.chat_history.specs.Held.{Held, held, HasTaken, StoppedAt, IsPastTheLast}
+use Rattle.chat_history.specs.StateValue.{StateValue, state_after, HasTaken, IsStoppedAt, IsPastTheLast}
 use Rattle.chat_history.specs.History.{History, norm, changes_of}
 use Rattle.chat_history.proofs.CallerLemmas.{norm_left}
 use Rattle.chat_history.proofs.CallerLemmas.{append_none}
@@ -36,14 +36,14 @@ module _ {X : Type 0} (items : X → List Change) where
 
 -- ---- with the numbers
 
-pub has_taken_none : (h : Held) (cs : List Change) → HasTaken h (take 0 cs) h
-has_taken_none h [] start changes is = is ∙ ap (held start) (sym (append_none changes))
-has_taken_none h (c ∷ cs) start changes is = is ∙ ap (held start) (sym (append_none changes))
+pub has_taken_none : (h : StateValue) (cs : List Change) → HasTaken h (take 0 cs) h
+has_taken_none h [] start changes is = is ∙ ap (state_after start) (sym (append_none changes))
+has_taken_none h (c ∷ cs) start changes is = is ∙ ap (state_after start) (sym (append_none changes))
 
-pub has_taken_more : (old h then' : Held) (cs : List Change) (i : ℕ) (d : Change) → i < length cs → HasTaken old (take i cs) h → HasTaken h (get_or cs i d ∷ []) then' → HasTaken old (take (i + 1) cs) then'
+pub has_taken_more : (old h then' : StateValue) (cs : List Change) (i : ℕ) (d : Change) → i < length cs → HasTaken old (take i cs) h → HasTaken h (get_or cs i d ∷ []) then' → HasTaken old (take (i + 1) cs) then'
 has_taken_more old h then' cs i d l e f start changes is =
     f start (changes ++ take i cs) (e start changes is)
-    ∙ ap (held start) (append_assoc changes (take i cs) (get_or cs i d ∷ []) ∙ ap (λ ds. changes ++ ds) (sym (take_more cs i d l)))
+    ∙ ap (state_after start) (append_assoc changes (take i cs) (get_or cs i d ∷ []) ∙ ap (λ ds. changes ++ ds) (sym (take_more cs i d l)))
 
 -- ---- where a list of lists stops
 
@@ -67,16 +67,16 @@ module _ (before mid rest : List Change) (t : ℕ) (inside : t < length mid) whe
           more : (k n : ℕ) → suc k + n ≡ suc (k + n)
           more k n = omega arith
 
-  stopped_in : (h : Held) (E : Type 0) → StoppedAt h mid t E → h ≡ held 0 (before ++ take t mid) → StoppedAt (held 0 (take (length before + t) (before ++ (mid ++ rest)))) (before ++ (mid ++ rest)) (length before + t) E
+  stopped_in : (h : StateValue) (E : Type 0) → IsStoppedAt h mid t E → h ≡ state_after 0 (before ++ take t mid) → IsStoppedAt (state_after 0 (take (length before + t) (before ++ (mid ++ rest)))) (before ++ (mid ++ rest)) (length before + t) E
   stopped_in h E s e = (
     past_within,
     λ c at.
         let here : slice_get mid t ≡ Some c =
         slice_get-get_or mid t c inside ∙ ap Some (sym (there c)) ∙ sym (slice_get-get_or (before ++ (mid ++ rest)) (length before + t) c past_within) ∙ at in
-        subst (λ g. E ↔ IsPastTheLast g c) (e ∙ ap (held 0) (sym take_within)) (s.1 c here),
+        subst (λ g. E ↔ IsPastTheLast g c) (e ∙ ap (state_after 0) (sym take_within)) (s.1 c here),
   )
 
-pub stopped_within : (ds : List (Vec Change Global)) (i : ℕ) (d : Vec Change Global) → i < length ds → length (all_changes ds) < 18446744073709551616 → (n t total : ℕ) → n ≡ min 18446744073709551615 (length (all_changes (take i ds))) → total ≡ min (n + t) 18446744073709551615 → (h : Held) → h ≡ held 0 (all_changes (take i ds) ++ take t (get_or ds i d).items) → (E : Type 0) → StoppedAt h (get_or ds i d).items t E → StoppedAt (held 0 (take total (all_changes ds))) (all_changes ds) total E
+pub stopped_within : (ds : List (Vec Change Global)) (i : ℕ) (d : Vec Change Global) → i < length ds → length (all_changes ds) < 18446744073709551616 → (n t total : ℕ) → n ≡ min 18446744073709551615 (length (all_changes (take i ds))) → total ≡ min (n + t) 18446744073709551615 → (h : StateValue) → h ≡ state_after 0 (all_changes (take i ds) ++ take t (get_or ds i d).items) → (E : Type 0) → IsStoppedAt h (get_or ds i d).items t E → IsStoppedAt (state_after 0 (take total (all_changes ds))) (all_changes ds) total E
 stopped_within ds i d l few n t total count sum h e E s =
     let before = all_changes (take i ds) in
     let mid = (get_or ds i d).items in
@@ -87,5 +87,5 @@ stopped_within ds i d l few n t total count sum h e E s =
     let inside : t < length mid = s.0 in
     let below : length before + t < length (all_changes ds) = omega (arith, ap length parts, length-append before (mid ++ rest), length-append mid rest) in
     let exact : total ≡ length before + t = sum ∙ within n (length (all_changes ds)) few (length before) t count below in
-    subst (λ cs. StoppedAt (held 0 (take total cs)) cs total E) (sym parts)
-    (subst (λ k. StoppedAt (held 0 (take k (before ++ (mid ++ rest)))) (before ++ (mid ++ rest)) k E) (sym exact) (stopped_in before mid rest t inside h E s e))
+    subst (λ cs. IsStoppedAt (state_after 0 (take total cs)) cs total E) (sym parts)
+    (subst (λ k. IsStoppedAt (state_after 0 (take k (before ++ (mid ++ rest)))) (before ++ (mid ++ rest)) k E) (sym exact) (stopped_in before mid rest t inside h E s e))

@@ -8,20 +8,20 @@ use Rattle.chat_change.specs.Key.{MessageOf}
 use Rattle.chat_change.specs.Record.{Record}
 use Rattle.chat_change.specs.declared.change.Change.TheVariants.{Post}
 use Rattle.chat_history.specs.History.{History, IsKeyed}
-use Rattle.chat_history.specs.Visible.{rising}
+use Rattle.chat_history.specs.Visible.{by_spot}
 use Rattle.chat_history.specs.Visible.{records_in}
 
 -- the records of its buffer from the next one on, rising
 abbrev pub up_from : History → Option (Bor Record) → List Record
 up_from history None = []
 up_from history (Some r) =
-    filter (λ q. not (is_lt (rising q r.now))) (records_in history r.now.buffer)
+    filter (λ q. not (is_lt (by_spot q r.now))) (records_in history r.now.buffer)
 
 -- the records of its buffer from the next one on, falling
 abbrev pub down_from : History → Option (Bor Record) → List Record
 down_from history None = []
 down_from history (Some r) =
-    filter (λ q. not (is_lt (rising r.now q))) (reverse (records_in history r.now.buffer))
+    filter (λ q. not (is_lt (by_spot r.now q))) (reverse (records_in history r.now.buffer))
 
 -- the next record is one of the history
 pub record IsAtRecord (history : History) (next : Option (Bor Record)) : Type 0 where

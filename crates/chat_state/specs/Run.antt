@@ -1,7 +1,7 @@
 -- Where a run through deltas stops that is refused.
 use Rattle.std.specs.Prelude.{◌≡◌, ◌<◌, ◌^◌, List, length, take}
 use Rattle.chat_change.specs.declared.change.Change.{Change}
-use Rattle.chat_history.specs.Held.{held, StoppedAt}
+use Rattle.chat_history.specs.StateValue.{state_after, IsStoppedAt}
 use Rattle.chat_state.specs.declared.faults.TakeFault.{TakeFault}
 use Rattle.chat_state.specs.declared.faults.StateFault.TheVariants.{Exhausted}
 
@@ -9,4 +9,5 @@ use Rattle.chat_state.specs.declared.faults.StateFault.TheVariants.{Exhausted}
 abbrev pub IsStoppedRun : List Change → TakeFault → Type 0
 IsStoppedRun changes fault =
     length changes < 2 ^ 64 →
-    StoppedAt (held 0 (take fault.taken changes)) changes fault.taken (fault.cause ≡ Exhausted)
+    IsStoppedAt (state_after 0 (take fault.taken changes)) changes fault.taken
+    (fault.cause ≡ Exhausted)

@@ -2,12 +2,12 @@
 use Rattle.std.specs.Prelude.{ℕ, ◌≡◌, ◌≤◌, ◌<◌, Some}
 use Rattle.std.specs.FinMap as finite
 use Rattle.chat_change.specs.Key.{Key, key_cmp}
-use Rattle.chat_history.specs.Held.{Held}
+use Rattle.chat_history.specs.StateValue.{StateValue}
 use Rattle.chat_history.specs.History.{norm, changes_of}
 use Rattle.chat_store.specs.Store.{Store, history_in, numbers_in}
 
 -- what a state with these pieces is seen as
-abbrev pub value_of : Store → ℕ → Held
+abbrev pub value_of : Store → ℕ → StateValue
 value_of s front = record { history = history_in s; numbers = numbers_in s; front = front }
 
 -- the numbers are above 0 and at most the front, and no two keys have one number

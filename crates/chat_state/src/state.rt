@@ -3,7 +3,7 @@
 ghost use Rattle.std.specs.Prelude.{◌≡◌, ◌≢◌, ◌↔◌, ◌∷◌, [], ◌+◌, IsTrue, IfOk, OnOk, OnErr, IfErr, if◌then◌else◌, take};
 ghost use Rattle.chat_history.specs.Deltas.{all_changes};
 ghost use Rattle.chat_state.specs.Run.{IsStoppedRun};
-ghost use Rattle.chat_history.specs.Held as spec;
+ghost use Rattle.chat_history.specs.StateValue as spec;
 ghost use Rattle.chat_state.specs.declared.faults.StateFault.TheVariants as fault;
 
 use crate::faults::{StateFault, TakeFault};
@@ -21,12 +21,12 @@ pub struct State {
 }
 
 impl Model for State {
-    ghost use Rattle.chat_history.specs.Held.{Held};
-    ghost use Rattle.chat_history.specs.Codes.{coded_held};
+    ghost use Rattle.chat_history.specs.StateValue.{StateValue};
+    ghost use Rattle.chat_history.specs.Codes.{coded_state};
 
-    ghost Value = { Held };
+    ghost Value = { StateValue };
 
-    ghost coded = { coded_held };
+    ghost coded = { coded_state };
 
     ghost use Rattle.chat_state.specs.State.{value_of, IsSound};
 
@@ -36,18 +36,18 @@ impl Model for State {
 }
 
 impl State {
-    ghost use Rattle.chat_history.specs.Held.{held, history_with, AreNumbersWith, HasTaken, StoppedAt, IsPastTheLast};
+    ghost use Rattle.chat_history.specs.StateValue.{state_after, history_with, AreNumbersWith, HasTaken, IsStoppedAt, IsPastTheLast};
 
     /// An empty state.
     pub fn new(alloc: Global) -> Self
-        ensures { result ≡ held 0 [] }
+        ensures { result ≡ state_after 0 [] }
     {
         State::new_at(alloc, 0)
     }
 
     /// An empty state, whose first piece gets the number after `front`.
     pub fn new_at(alloc: Global, front: u64) -> Self
-        ensures { result ≡ held front [] }
+        ensures { result ≡ state_after front [] }
     {
         State {
             store: Store::new(alloc),
@@ -106,7 +106,7 @@ impl State {
             history_with self.old (take e.taken changes.now)) }
         ensures held_err { IfErr result (λ e. HasTaken self.old
             (take e.taken changes.now) self.new) }
-        ensures exhausted { IfErr result (λ e. StoppedAt self.new changes.now e.taken (e.cause ≡
+        ensures exhausted { IfErr result (λ e. IsStoppedAt self.new changes.now e.taken (e.cause ≡
             fault.Exhausted)) }
     {
         let _ = &self.store;
@@ -136,7 +136,7 @@ fn discard(_change: Change) {}
 /// Takes each delta in turn into an empty state. After a refusal no state is handed out; `taken` counts through the
 /// deltas all_changes.
 pub fn run(alloc: Global, deltas: &[Vec<Change>]) -> Result<State, TakeFault>
-    ensures held { IfOk result (λ state. state ≡ spec.held 0 (all_changes deltas.now)) }
+    ensures held { IfOk result (λ state. state ≡ spec.state_after 0 (all_changes deltas.now)) }
     ensures refused { IfErr result (IsStoppedRun (all_changes deltas.now)) }
 {
     let mut state = State::new(alloc);

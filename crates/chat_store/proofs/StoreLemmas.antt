@@ -5,7 +5,7 @@ use Rattle.std.specs.FinMap as finite
 use Rattle.chat_change.specs.declared.change.Change.{Change}
 use Rattle.chat_change.specs.declared.change.Change.TheVariants.{Post, Redact, Mark, Floor}
 use Rattle.chat_change.specs.Key.{Key, key_cmp, key_of, same_key}
-use Rattle.chat_history.specs.History.{Keyed, IsKeyed}
+use Rattle.chat_history.specs.History.{IsKeyedEntry, IsKeyed}
 use Rattle.std.specs.List.{AllByRecursion}
 use Rattle.chat_history.specs.Choice.{Among}
 use Rattle.chat_store.specs.Store.{Store, Numbered, map_values, history_in, numbers_in, change_at, piece_after}
@@ -45,7 +45,7 @@ history_keyed s h =
     from_entries_keyed (map (λ (e : Key × Numbered). (e.0, e.1.change)) (finite.entries s)) (keyed_pairs (finite.entries s) (λ e m.
     subst (λ o. IfSome o (λ p. key_of p.change ≡ e.0)) (get_entry key_total key_exact s e.0 e.1 m) (h e.0)))
   where
-    keyed_pairs : (es : List (Key × Numbered)) → ((e : Key × Numbered) → Among e es → key_of e.1.change ≡ e.0) → AllByRecursion Keyed (map (λ (e : Key × Numbered). (e.0, e.1.change)) es)
+    keyed_pairs : (es : List (Key × Numbered)) → ((e : Key × Numbered) → Among e es → key_of e.1.change ≡ e.0) → AllByRecursion IsKeyedEntry (map (λ (e : Key × Numbered). (e.0, e.1.change)) es)
     keyed_pairs [] h = tt
     keyed_pairs (e ∷ es) h = (h e (inl refl), keyed_pairs es (λ f m. h f (inr m)))
 

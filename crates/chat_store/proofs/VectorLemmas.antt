@@ -17,7 +17,7 @@ use Rattle.chat_change.specs.declared.change.Change.{Change}
 use Rattle.chat_change.specs.declared.change.Change.TheVariants.{Post, Redact, Mark, Floor}
 use Rattle.chat_change.proofs.CallerLemmas.{key_total, same_key_itself, same_key_is}
 use Rattle.chat_history.specs.Choice.{keep}
-use Rattle.chat_store.specs.Pieces.{piece_keys, outlasting}
+use Rattle.chat_store.specs.Pieces.{piece_keys, pieces_left}
 use Rattle.chat_history.specs.Retention.{outlasts, remainder}
 use Rattle.chat_store.specs.declared.store.Piece.{Piece}
 use Rattle.chat_history.proofs.CallerLemmas.{key_of-remainder, same_buffer_from}
@@ -109,22 +109,22 @@ module _ (b : Buffer) (t : ℕ) where
   abbrev pub lasts : Piece → Bool
   lasts p = outlasts b t p.change
 
-  All-swept : (P : Key → Type 0) (ps : List Piece) → AllByRecursion P (piece_keys ps) → AllByRecursion P (piece_keys (outlasting b t ps))
+  All-swept : (P : Key → Type 0) (ps : List Piece) → AllByRecursion P (piece_keys ps) → AllByRecursion P (piece_keys (pieces_left b t ps))
   All-swept P [] h = tt
   All-swept P (p ∷ ps) h =
-      elim (lasts p) as (λ a. AllByRecursion P (piece_keys (cond a (low p ∷ outlasting b t ps) (outlasting b t ps)))) [
+      elim (lasts p) as (λ a. AllByRecursion P (piece_keys (cond a (low p ∷ pieces_left b t ps) (pieces_left b t ps)))) [
         | true ↦ (subst P (sym (key_of-remainder b t p.change)) h.0, All-swept P ps h.1)
         | false ↦ All-swept P ps h.1
       ]
 
-  pub distinct_swept : (ps : List Piece) → IsDistinct same_key (piece_keys ps) → IsDistinct same_key (piece_keys (outlasting b t ps))
+  pub distinct_swept : (ps : List Piece) → IsDistinct same_key (piece_keys ps) → IsDistinct same_key (piece_keys (pieces_left b t ps))
   distinct_swept [] h = h
   distinct_swept (p ∷ ps) h =
       let rest = distinct_swept ps (IsDistinct-tail same_key (key_of p.change) (piece_keys ps) h) in
       let apart = All-swept (λ k. same_key (key_of p.change) k ≡ false) ps (IsDistinct-head same_key (key_of p.change) (piece_keys ps) h) in
-      elim (lasts p) as (λ a. IsDistinct same_key (piece_keys (cond a (low p ∷ outlasting b t ps) (outlasting b t ps)))) [
-        | true ↦ IsDistinct-cons same_key (key_of (low p).change) (piece_keys (outlasting b t ps))
-            (subst (λ k. AllByRecursion (λ l. same_key k l ≡ false) (piece_keys (outlasting b t ps))) (sym (key_of-remainder b t p.change)) apart) rest
+      elim (lasts p) as (λ a. IsDistinct same_key (piece_keys (cond a (low p ∷ pieces_left b t ps) (pieces_left b t ps)))) [
+        | true ↦ IsDistinct-cons same_key (key_of (low p).change) (piece_keys (pieces_left b t ps))
+            (subst (λ k. AllByRecursion (λ l. same_key k l ≡ false) (piece_keys (pieces_left b t ps))) (sym (key_of-remainder b t p.change)) apart) rest
         | false ↦ rest
       ]
 
@@ -132,21 +132,21 @@ module _ (b : Buffer) (t : ℕ) where
   low_key k p = ap (same_key k) (key_of-remainder b t p.change)
 
   -- of pieces with distinct keys, what is found after a sweep is what is left of what was found before
-  pub find-swept : (k : Key) (ps : List Piece) → IsDistinct same_key (piece_keys ps) → find (at_key k) (outlasting b t ps) ≡ option_map low (keep lasts (find (at_key k) ps))
+  pub find-swept : (k : Key) (ps : List Piece) → IsDistinct same_key (piece_keys ps) → find (at_key k) (pieces_left b t ps) ≡ option_map low (keep lasts (find (at_key k) ps))
   find-swept k [] h = refl
   find-swept k (p ∷ ps) h =
       let rest = find-swept k ps (IsDistinct-tail same_key (key_of p.change) (piece_keys ps) h) in
-      elim (at_key k p) as (λ a. at_key k p ≡ a → find (at_key k) (cond (lasts p) (low p ∷ outlasting b t ps) (outlasting b t ps)) ≡ option_map low (keep lasts (cond a (Some p) (find (at_key k) ps)))) [
+      elim (at_key k p) as (λ a. at_key k p ≡ a → find (at_key k) (cond (lasts p) (low p ∷ pieces_left b t ps) (pieces_left b t ps)) ≡ option_map low (keep lasts (cond a (Some p) (find (at_key k) ps)))) [
         | true ↦ λ e.
-            let gone : find (at_key k) (outlasting b t ps) ≡ None =
+            let gone : find (at_key k) (pieces_left b t ps) ≡ None =
             rest ∙ ap (λ o. option_map low (keep lasts o)) (none_else k ps (subst (λ l. AllByRecursion (λ y. same_key l y ≡ false) (piece_keys ps)) (sym (same_key_is k (key_of p.change) e)) (IsDistinct-head same_key (key_of p.change) (piece_keys ps) h))) in
-            elim (lasts p) as (λ a. find (at_key k) (cond a (low p ∷ outlasting b t ps) (outlasting b t ps)) ≡ option_map low (cond a (Some p) None)) [
-              | true ↦ ap (λ a. cond a (Some (low p)) (find (at_key k) (outlasting b t ps))) (low_key k p ∙ e)
+            elim (lasts p) as (λ a. find (at_key k) (cond a (low p ∷ pieces_left b t ps) (pieces_left b t ps)) ≡ option_map low (cond a (Some p) None)) [
+              | true ↦ ap (λ a. cond a (Some (low p)) (find (at_key k) (pieces_left b t ps))) (low_key k p ∙ e)
               | false ↦ gone
             ]
         | false ↦ λ e.
-            elim (lasts p) as (λ a. find (at_key k) (cond a (low p ∷ outlasting b t ps) (outlasting b t ps)) ≡ option_map low (keep lasts (find (at_key k) ps))) [
-              | true ↦ ap (λ a. cond a (Some (low p)) (find (at_key k) (outlasting b t ps))) (low_key k p ∙ e) ∙ rest
+            elim (lasts p) as (λ a. find (at_key k) (cond a (low p ∷ pieces_left b t ps) (pieces_left b t ps)) ≡ option_map low (keep lasts (find (at_key k) ps))) [
+              | true ↦ ap (λ a. cond a (Some (low p)) (find (at_key k) (pieces_left b t ps))) (low_key k p ∙ e) ∙ rest
               | false ↦ rest
             ]
       ] refl

@@ -17,8 +17,8 @@ use Rattle.chat_change.proofs.CallerLemmas.{key_total, key_exact, same_key_itsel
 use Rattle.chat_history.specs.Choice.{keep, Among, IsFirst}
 use Rattle.chat_history.specs.Form.{IsNoFloor}
 use Rattle.chat_history.specs.History.{changes_of, IsKeyed}
-use Rattle.chat_store.specs.Pieces.{numbered_of, store_of, piece_keys, outlasting}
-use Rattle.chat_store.specs.Store.{Store, Numbered, history_in, change_at, piece_left, piece_after, Places, by_number, pieces_above}
+use Rattle.chat_store.specs.Pieces.{numbered_of, store_of, piece_keys, pieces_left}
+use Rattle.chat_store.specs.Store.{Numbered, history_in, change_at, piece_left, Places, by_number, pieces_above}
 use Rattle.chat_store.specs.declared.store.Piece.{Piece}
 use Rattle.chat_store.proofs.VectorLemmas.{at_key, get-table, found, written, missing, appended, low, lasts, find-swept, floor_found}
 use Rattle.chat_store.proofs.StoreLemmas.{placed-plain, get-history, history_keyed}
@@ -124,14 +124,14 @@ module _ (ps : List Piece) (distinct : IsDistinct same_key (piece_keys ps)) (n :
   abbrev set' : Piece
   set' = record { number = n; change = Floor b t }
 
-  pub no_floor_left : find (at_key (FloorOf b)) (outlasting b t ps) ≡ None
+  pub no_floor_left : find (at_key (FloorOf b)) (pieces_left b t ps) ≡ None
   no_floor_left = find-swept b t (FloorOf b) ps distinct ∙ floor_found b t (find (at_key (FloorOf b)) ps) (own_key (FloorOf b) ps)
 
-  pub floor_set : Places (store_of ps) n (Floor b t) (store_of (outlasting b t ps ++ set' ∷ []))
+  pub floor_set : Places (store_of ps) n (Floor b t) (store_of (pieces_left b t ps ++ set' ∷ []))
   floor_set k =
-      get-store_of (outlasting b t ps ++ set' ∷ []) k
-      ∙ ap (option_map numbered_of) (appended (FloorOf b) (outlasting b t ps) no_floor_left set' refl k)
-      ∙ numbered_cond (same_key k (FloorOf b)) set' (find (at_key k) (outlasting b t ps))
+      get-store_of (pieces_left b t ps ++ set' ∷ []) k
+      ∙ ap (option_map numbered_of) (appended (FloorOf b) (pieces_left b t ps) no_floor_left set' refl k)
+      ∙ numbered_cond (same_key k (FloorOf b)) set' (find (at_key k) (pieces_left b t ps))
       ∙ ap (cond (same_key k (FloorOf b)) (Some (numbered_of set')))
       (ap (option_map numbered_of) (find-swept b t k ps distinct) ∙ left_piece b t (find (at_key k) ps) ∙ ap (piece_left b t) (sym (get-store_of ps k)))
 

@@ -13,8 +13,8 @@ use Rattle.chat_store.specs.declared.store.Piece.{Piece}
 abbrev pub numbered_of : Piece → Numbered
 numbered_of p = record { number = p.number; change = p.change }
 
-abbrev pub lent : Bor Piece → Numbered
-lent p = numbered_of p.now
+abbrev pub numbered_at : Bor Piece → Numbered
+numbered_at p = numbered_of p.now
 
 -- a piece as its number and its change
 abbrev pub entry_of : Bor Piece → ℕ × Change
@@ -25,8 +25,8 @@ abbrev pub store_of : List Piece → Store
 store_of pieces = from_entries (map (λ (p : Piece). (key_of p.change, numbered_of p)) pieces)
 
 -- what a higher floor that is set for `b` leaves of pieces
-abbrev pub outlasting : Buffer → ℕ → List Piece → List Piece
-outlasting b t pieces =
+abbrev pub pieces_left : Buffer → ℕ → List Piece → List Piece
+pieces_left b t pieces =
     retain_mut (λ (p : Piece). outlasts b t p.change)
     (λ (p : Piece). record p { change = remainder b t p.change }) pieces
 

@@ -3,14 +3,14 @@
 ghost use Rattle.std.specs.Prelude.{◌≡◌, filter, map, nat_lt};
 ghost use Rattle.std.specs.Option.{option_map};
 ghost use Rattle.chat_history.specs.Choice.{IsFirst, earlier, keep};
-ghost use Rattle.chat_store.specs.Pieces.{lent, numbered_of};
+ghost use Rattle.chat_store.specs.Pieces.{numbered_at, numbered_of};
 ghost use Rattle.chat_store.specs.Store.{by_number};
 
 use crate::store::Piece;
 
 // The piece where its number is above another.
 fn where_above(piece: &Piece, number: u64) -> Option<&Piece>
-    ensures { option_map lent result ≡
+    ensures { option_map numbered_at result ≡
         keep (λ p. nat_lt number p.number) (Some (numbered_of piece.now)) }
 {
     if number < piece.number {
@@ -22,8 +22,8 @@ fn where_above(piece: &Piece, number: u64) -> Option<&Piece>
 
 // The piece with the lower number, of two of which there may be none.
 fn lower<'a>(one: Option<&'a Piece>, other: Option<&'a Piece>) -> Option<&'a Piece>
-    ensures { option_map lent result ≡
-        earlier by_number (option_map lent one.entry) (option_map lent other.entry) }
+    ensures { option_map numbered_at result ≡
+        earlier by_number (option_map numbered_at one.entry) (option_map numbered_at other.entry) }
 {
     match one {
         None => other,
@@ -43,7 +43,7 @@ fn lower<'a>(one: Option<&'a Piece>, other: Option<&'a Piece>) -> Option<&'a Pie
 /// The piece with the least number above another.
 pub(crate) fn next_above(pieces: &[Piece], number: u64) -> Option<&Piece>
     ensures { IsFirst by_number (filter (λ p. nat_lt number p.number)
-        (map numbered_of pieces.now)) (option_map lent result) }
+        (map numbered_of pieces.now)) (option_map numbered_at result) }
 {
     let mut lowest = None;
     for piece in pieces {

@@ -12,7 +12,7 @@ ghost use Rattle.chat_history.specs.Choice.{IsFirst};
 ghost use Rattle.chat_history.specs.Form.{IsNoFloor};
 ghost use Rattle.chat_store.specs.Fate.{message_change, IsMessageOf};
 ghost use Rattle.chat_store.specs.Nearest.{nearer_cmp, candidates};
-ghost use Rattle.chat_store.specs.Pieces.{lent, store_of, outlasting};
+ghost use Rattle.chat_store.specs.Pieces.{numbered_at, store_of, pieces_left};
 ghost use Rattle.chat_history.specs.Retention as retention;
 ghost use Rattle.chat_store.specs.Store as spec;
 
@@ -145,7 +145,7 @@ impl Store {
     /// The piece with the least number above another.
     pub fn next_above(&self, number: u64) -> Option<&Piece>
         ensures { IsFirst spec.by_number (spec.pieces_above number self.now)
-            (option_map lent result) }
+            (option_map numbered_at result) }
     {
         next_above(&self.pieces, number)
     }
@@ -244,7 +244,7 @@ fn discard_buffer(_buffer: Buffer) {}
 
 // Removes what lies below a higher floor that is set for a buffer, and the present floor.
 fn sweep(pieces: &mut Vec<Piece>, buffer: &Buffer, floor: u64)
-    ensures items { pieces.new.items ≡ outlasting buffer.now floor pieces.old.items }
+    ensures items { pieces.new.items ≡ pieces_left buffer.now floor pieces.old.items }
     ensures room { vec_len pieces.old < vec_capacity pieces.old →
         vec_len pieces.new < vec_capacity pieces.new }
 {

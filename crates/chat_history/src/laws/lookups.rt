@@ -9,7 +9,7 @@ ghost use Rattle.chat_change.specs.Record as message;
 ghost use Rattle.chat_change.specs.Order.{record_cmp};
 ghost use Rattle.chat_change.specs.declared.change.Change.{Change};
 ghost use Rattle.chat_change.specs.declared.change.Change.TheVariants.{Redact, Mark, Floor};
-ghost use Rattle.chat_history.specs.History.{norm, changes_of, mark, floor, is_gone, kept, position_of};
+ghost use Rattle.chat_history.specs.History.{norm, changes_of, mark, floor, is_gone, kept_record, position_of};
 ghost use Rattle.chat_history.specs.Members.{IsStandingPost, IsMomentOf};
 ghost use Rattle.chat_history.specs.Lookups.{position_in};
 ghost use Rattle.chat_history.specs.Visible.{visible, spot_of, spot_cmp};
@@ -40,11 +40,12 @@ pub fn gone_is_named()
 /// Of the posts of a message at or above the floor that one is kept before which no other goes.
 pub fn kept_goes_first()
     ensures kept { (changes : List Change) (b : buffer.Buffer) (m : List ℕ)
-        (r : message.Record) → (kept changes b m ≡ Some r) ↔
+        (r : message.Record) → (kept_record changes b m ≡ Some r) ↔
         (IsStandingPost changes b m r × ((q : message.Record) → IsStandingPost changes b m q →
         record_cmp q r ≢ Less)) }
     ensures none { (changes : List Change) (b : buffer.Buffer) (m : List ℕ) →
-        (kept changes b m ≡ None) ↔ ((r : message.Record) → ¬ (IsStandingPost changes b m r)) }
+        (kept_record changes b m ≡ None) ↔
+        ((r : message.Record) → ¬ (IsStandingPost changes b m r)) }
 {}
 
 /// The position of a message is the greatest moment at or above the floor that its posts have or its redactions name.
@@ -60,7 +61,8 @@ pub fn position_is_the_greatest()
 pub fn visible_is_kept_and_sorted()
     ensures members { (changes : List Change) (b : buffer.Buffer) (r : message.Record) →
         Contains (visible changes b) r ↔
-        ((r.buffer ≡ b) × (is_gone changes b r.id ≡ false) × (kept changes b r.id ≡ Some r)) }
+        ((r.buffer ≡ b) × (is_gone changes b r.id ≡ false) ×
+        (kept_record changes b r.id ≡ Some r)) }
     ensures sorted { (changes : List Change) (b : buffer.Buffer) →
         IsStrictlySortedBy (on spot_of spot_cmp) (visible changes b) }
 {}
@@ -78,5 +80,6 @@ pub fn normal_form_reads_alike()
     ensures position_in { (changes : List Change) (b : buffer.Buffer) (m : List ℕ) →
         position_in (norm changes) b m ≡ position_of changes b m }
     ensures kept { (changes : List Change) (b : buffer.Buffer) (m : List ℕ) →
-        is_gone changes b m ≡ false → kept (changes_of (norm changes)) b m ≡ kept changes b m }
+        is_gone changes b m ≡ false →
+        kept_record (changes_of (norm changes)) b m ≡ kept_record changes b m }
 {}

@@ -5,7 +5,7 @@ use Rattle.std.specs.Map.Iter.{deref}
 use Rattle.chat_store.specs.declared.nearest.Edge.TheVariants.{BeforeRecord}
 use Rattle.chat_state.specs.Cursor.{down_from}
 use Rattle.chat_history.specs.Choice.{IsFirst}
-use Rattle.chat_history.specs.Visible.{rising}
+use Rattle.chat_history.specs.Visible.{by_spot}
 use Rattle.chat_store.specs.Nearest.{candidates}
 use Rattle.chat_store.specs.Store.{history_in}
 use Rattle.chat_state.proofs.CursorLemmas.{at_record, down_step}
@@ -18,7 +18,7 @@ pub returns-clause-steps : goal.returns-clause-steps
 returns-clause-steps c =
     sym c.self.view_is
     ∙ down_step (history_in c.self.inside.store.now) c.self.inside.next c.self.invariant c.in_ok-record.record c.in_ok-record.was c.nearest-self-inside.result
-    (subst (λ b. IsFirst (flip_args rising) (candidates (BeforeRecord c.in_ok-record.record) b (history_in c.self.inside.store.now)) (option_map deref c.nearest-self-inside.result)) c.buffer.ensures c.nearest-self-inside.ensures)
+    (subst (λ b. IsFirst (flip_args by_spot) (candidates (BeforeRecord c.in_ok-record.record) b (history_in c.self.inside.store.now)) (option_map deref c.nearest-self-inside.result)) c.buffer.ensures c.nearest-self-inside.ensures)
 
 pub returns-clause-goes : goal.returns-clause-goes
 returns-clause-goes c =

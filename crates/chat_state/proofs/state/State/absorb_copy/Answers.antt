@@ -2,7 +2,7 @@ use Rattle.std.proofs.Common.{rules, ◌≡◌, ◌+◌, ◌<◌, ◌++◌, ◌�
 use Rattle.std.specs.Option.{option_map}
 use Rattle.chat_change.specs.Key.{key_of}
 use Rattle.chat_history.specs.History.{norm, changes_of}
-use Rattle.chat_history.specs.Held.{Held}
+use Rattle.chat_history.specs.StateValue.{StateValue}
 use Rattle.chat_store.specs.Form.{form}
 use Rattle.chat_store.specs.Form.{piece_in}
 use Rattle.chat_history.specs.Numbering.{numbers_after}
@@ -14,7 +14,7 @@ use Rattle.chat_state.proofs.state.State.absorb_copy.Goals as goal
 pub returns-in_default-clause-ok : goal.returns-in_default-clause-ok
 returns-in_default-clause-ok c =
     let e : form c.self.inside.store c.args.change.now ≡ None = sym c.form_of.ensures ∙ ap (option_map (piece_in c.args.change.now)) c.in_default.is in
-    subst (λ (h : Held). h.history ≡ norm (changes_of h.history ++ c.args.change.now ∷ [])) c.self.view_is (sym (unformed c.self.inside.store c.self.invariant.normal c.args.change.now e))
+    subst (λ (h : StateValue). h.history ≡ norm (changes_of h.history ++ c.args.change.now ∷ [])) c.self.view_is (sym (unformed c.self.inside.store c.self.invariant.normal c.args.change.now e))
 
 pub returns-in_default-clause-held : goal.returns-in_default-clause-held
 returns-in_default-clause-held c start changes was =
@@ -25,7 +25,7 @@ pub returns-in_default-clause-exhausted : goal.returns-in_default-clause-exhaust
 returns-in_default-clause-exhausted c =
     let e : form c.self.inside.store c.args.change.now ≡ None = sym c.form_of.ensures ∙ ap (option_map (piece_in c.args.change.now)) c.in_default.is in (
       λ no. cc no,
-      λ past. absurd (past.1 (subst (λ (h : Held). norm (changes_of h.history ++ c.args.change.now ∷ []) ≡ h.history) c.self.view_is (unformed c.self.inside.store c.self.invariant.normal c.args.change.now e))),
+      λ past. absurd (past.1 (subst (λ (h : StateValue). norm (changes_of h.history ++ c.args.change.now ∷ []) ≡ h.history) c.self.view_is (unformed c.self.inside.store c.self.invariant.normal c.args.change.now e))),
     )
 
 pub returns-in_default-checked_add-clause-exhausted : goal.returns-in_default-checked_add-clause-exhausted
@@ -35,8 +35,8 @@ returns-in_default-checked_add-clause-exhausted c =
     let no = c.in_default-checked_add.ensures in
     let last : c.self.inside.front ≡ 18446744073709551615 = search (rules, no) in (
       λ _. (
-        ap (λ (h : Held). h.front) (sym c.self.view_is) ∙ last,
-        λ same. formed_differs c.self.inside.store c.self.invariant.normal c.args.change.now d e (subst (λ (h : Held). norm (changes_of h.history ++ c.args.change.now ∷ []) ≡ h.history) (sym c.self.view_is) same),
+        ap (λ (h : StateValue). h.front) (sym c.self.view_is) ∙ last,
+        λ same. formed_differs c.self.inside.store c.self.invariant.normal c.args.change.now d e (subst (λ (h : StateValue). norm (changes_of h.history ++ c.args.change.now ∷ []) ≡ h.history) (sym c.self.view_is) same),
       ),
       λ _. refl,
     )
@@ -58,14 +58,14 @@ returns-clause-ok c =
     let s = c.self.inside.store in
     let e : form s c.args.change.now ≡ Some c.in-Ok.piece = sym c.form_of.ensures ∙ ap (option_map (piece_in c.args.change.now)) c.in-Some.is ∙ ap Some (sym c.in-Ok.ensures) in
     new_history s c.place.new.self c.self.inside.front c.self.invariant c.args.change.now c.in-Ok.piece c.in-Some-checked_add.number e (c.place.ensures.placed c.if-not-place.false)
-    ∙ ap (λ (h : Held). norm (changes_of h.history ++ c.args.change.now ∷ [])) c.self.view_is
+    ∙ ap (λ (h : StateValue). norm (changes_of h.history ++ c.args.change.now ∷ [])) c.self.view_is
 
 pub returns-clause-changed : goal.returns-clause-changed
 returns-clause-changed c =
     let s = c.self.inside.store in
     let e : form s c.args.change.now ≡ Some c.in-Ok.piece = sym c.form_of.ensures ∙ ap (option_map (piece_in c.args.change.now)) c.in-Some.is ∙ ap Some (sym c.in-Ok.ensures) in
     let now = new_history s c.place.new.self c.self.inside.front c.self.invariant c.args.change.now c.in-Ok.piece c.in-Some-checked_add.number e (c.place.ensures.placed c.if-not-place.false) in
-    (λ _ same. formed_differs s c.self.invariant.normal c.args.change.now c.in-Ok.piece e (sym now ∙ same ∙ sym (ap (λ (h : Held). h.history) c.self.view_is)), λ _. refl)
+    (λ _ same. formed_differs s c.self.invariant.normal c.args.change.now c.in-Ok.piece e (sym now ∙ same ∙ sym (ap (λ (h : StateValue). h.history) c.self.view_is)), λ _. refl)
 
 pub returns-clause-numbers : goal.returns-clause-numbers
 returns-clause-numbers c =
@@ -74,7 +74,7 @@ returns-clause-numbers c =
     let e : form s c.args.change.now ≡ Some c.in-Ok.piece = sym c.form_of.ensures ∙ ap (option_map (piece_in c.args.change.now)) c.in-Some.is ∙ ap Some (sym c.in-Ok.ensures) in
     new_numbers s c.place.new.self c.self.inside.front c.self.invariant c.args.change.now c.in-Ok.piece c.in-Some-checked_add.number e (c.place.ensures.placed c.if-not-place.false)
     ∙ ap (numbers_after _ (history_in c.place.new.self) (key_of c.args.change.now)) n
-    ∙ ap (λ (h : Held). numbers_after h.numbers (history_in c.place.new.self) (key_of c.args.change.now) (h.front + 1)) c.self.view_is
+    ∙ ap (λ (h : StateValue). numbers_after h.numbers (history_in c.place.new.self) (key_of c.args.change.now) (h.front + 1)) c.self.view_is
 
 pub returns-clause-held : goal.returns-clause-held
 returns-clause-held c start changes was =

@@ -1,5 +1,5 @@
 use Rattle.std.proofs.Common.{None, ◌∙◌, ap}
-use Rattle.chat_history.specs.Held.{Held}
+use Rattle.chat_history.specs.StateValue.{StateValue}
 use Rattle.chat_history.specs.Latest.{latest_in}
 use Rattle.chat_store.specs.Store.{history_in}
 use Rattle.chat_state.proofs.LatestLemmas.{at_buffer, latest_all}
@@ -15,4 +15,4 @@ pub returns : goal.returns
 returns c =
     let keyed = keyed c.self.inside.store c.self.invariant.normal in
     latest_all (history_in c.self.inside.store) keyed c.args.account c.args.network c.next_buffer-next.result c.next_buffer-next.ensures
-    ∙ ap (λ (s : Held). latest_in s.history c.args.account.now c.args.network.now) c.self.view_is
+    ∙ ap (λ (s : StateValue). latest_in s.history c.args.account.now c.args.network.now) c.self.view_is

@@ -1,5 +1,5 @@
 use Rattle.std.proofs.Common.{◌≡◌, ◌≤◌, ◌++◌, map, take, drop, length}
-use Rattle.chat_history.specs.Held.{HasTaken}
+use Rattle.chat_history.specs.StateValue.{HasTaken}
 use Rattle.chat_history.specs.History.{norm, changes_of}
 use Rattle.chat_state.proofs.MergeLemmas.{change, turn, left}
 use Rattle.chat_state.proofs.state.State.merge.Given as goal

@@ -1,5 +1,5 @@
 use Rattle.std.proofs.Common.{◌++◌, ◌∷◌, [], ap, subst, ◌∙◌}
-use Rattle.chat_history.specs.Held.{HasTaken}
+use Rattle.chat_history.specs.StateValue.{HasTaken}
 use Rattle.chat_history.specs.History.{norm, changes_of}
 use Rattle.chat_state.proofs.TakeLemmas.{taken_more, has_taken_more}
 use Rattle.chat_state.proofs.state.State.take.Goals as goal

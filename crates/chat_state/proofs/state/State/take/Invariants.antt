@@ -1,5 +1,5 @@
 use Rattle.std.proofs.Common.{◌≡◌, ◌++◌, take}
-use Rattle.chat_history.specs.Held.{HasTaken}
+use Rattle.chat_history.specs.StateValue.{HasTaken}
 use Rattle.chat_history.specs.History.{norm, changes_of}
 use Rattle.chat_state.proofs.state.State.take.Given as goal
 

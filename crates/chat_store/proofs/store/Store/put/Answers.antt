@@ -1,6 +1,5 @@
 use Rattle.std.proofs.Common.{◌≡◌, true, false, cond, Some, None, sym, ap, ◌∙◌, subst, ◌++◌, ◌∷◌, [], refl}
-use Rattle.std.proofs.Math.ListN.{set}
-use Rattle.std.specs.Prelude.{position, IsTrue}
+use Rattle.std.specs.Prelude.{position}
 use Rattle.std.specs.List.{IsDistinct}
 use Rattle.chat_store.specs.declared.store.Piece.{Piece}
 use Rattle.chat_change.specs.Key.{same_key, key_of}
