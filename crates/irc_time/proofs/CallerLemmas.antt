@@ -1,0 +1,2 @@
+-- What the crates above may name of these proofs.
+pub use Rattle.irc_time.proofs.MomentLemmas.{moment_text, IsTimeShape, time_shape}
