@@ -41,6 +41,14 @@ escape_short b = at_semicolon (b == 59) where
   at_semicolon true = omega arith
   at_semicolon false = at_space (b == 32)
 
+-- a value's text is at most twice as long
+pub length-value_text : (value : List ℕ) → length (value_text value) ≤ length value + length value
+length-value_text [] = omega arith
+length-value_text (b ∷ value) =
+    let here = escape_short b in
+    let rest = length-value_text value in
+    omega (arith, length-append (byte_text b) (value_text value))
+
 escape_plain : (b : ℕ) → is_plain b → (b == 92) ≡ false → byte_text b ≡ b ∷ []
 escape_plain b plain other =
     (λ i. cond (plain.0 i) (92 ∷ 58 ∷ []) (cond (plain.1 i) (92 ∷ 115 ∷ []) (cond (other i) (92 ∷ 92 ∷ []) (cond (plain.2 i) (92 ∷ 114 ∷ []) (cond (plain.3 i) (92 ∷ 110 ∷ []) (b ∷ []))))))

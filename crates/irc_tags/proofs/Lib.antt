@@ -6,3 +6,4 @@ mod ReadBackLemmas
 mod StandingLemmas
 mod TextLemmas
 mod ValueLemmas
+pub mod CallerLemmas

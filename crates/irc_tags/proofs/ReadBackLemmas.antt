@@ -138,12 +138,18 @@ pub tag_list-tags_text : (tags : List Tag) → CanStand tags → tag_list (tags_
 unfolding tag_list
 tag_list-tags_text tags stands = ap tags_by_key (tags_of-tags_text tags stands.1) ∙ tags_by_key-distinct tags stands.0
 
--- a text that stands in a line
+-- ---- texts that stand in a line
+
+stays : (b : ℕ) → is_nul b ≡ false → (b == 59) ≡ false → (b == 32) ≡ false → (b == 13) ≡ false → (b == 10) ≡ false → ends_tag_data b ≡ false
+stays b nul e1 e2 e3 e4 = or_from (is_nul b) _ nul (or_from (b == 13) _ e3 (or_from (b == 10) (b == 32) e4 e2))
+
+pub value_in_line : (value : List ℕ) → All (λ b. is_nul b ≡ false) value → All (λ b. ends_tag_data b ≡ false) (value_text value)
+value_in_line value all = All-value_text (λ b. ends_tag_data b ≡ false) (λ b. is_nul b ≡ false) refl refl refl refl refl stays value all
+
 line_tag : (tag : Tag) → All (λ b. ends_tag_data b ≡ false) tag.0 → All (λ b. is_nul b ≡ false) tag.1 → All (λ b. ends_tag_data b ≡ false) (tag_text tag)
 line_tag tag key value =
     All-append (λ b. ends_tag_data b ≡ false) tag.0 (value_part tag.1) key
-    (All-value_part (λ b. ends_tag_data b ≡ false) (λ b. is_nul b ≡ false) refl refl refl refl refl
-    (λ b nul e1 e2 e3 e4. or_from (is_nul b) _ nul (or_from (b == 13) _ e3 (or_from (b == 10) (b == 32) e4 e2))) refl tag.1 value)
+    (All-value_part (λ b. ends_tag_data b ≡ false) (λ b. is_nul b ≡ false) refl refl refl refl refl stays refl tag.1 value)
 
 pub text_in_line : (tags : List Tag) → CanStandInLine tags → All (λ b. ends_tag_data b ≡ false) (tags_text tags)
 text_in_line [] all = All-nil (λ b. ends_tag_data b ≡ false)
