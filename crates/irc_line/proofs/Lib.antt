@@ -6,4 +6,6 @@ mod StreamLemmas
 mod SearchLemmas
 mod CallsLemmas
 mod TextLemmas
+mod LinesLemmas
+mod WordLemmas
 pub mod CallerLemmas

@@ -73,7 +73,7 @@ no_at (Some source) rest q = refl
 
 -- ---- no fault
 
-good_append : (a b : List ℕ) → HasNoBadByte a → HasNoBadByte b → HasNoBadByte (a ++ b)
+pub good_append : (a b : List ℕ) → HasNoBadByte a → HasNoBadByte b → HasNoBadByte (a ++ b)
 good_append a b p q = list_any-append is_bad a b ∙ ap (λ t. t || list_any is_bad b) p ∙ q
 
 good_tags : (limit : TagLimit) (tags : Option (List ℕ)) → IfSome tags (CanBeTags limit) → HasNoBadByte (tags_text tags)
@@ -177,24 +177,29 @@ strip_pushed xs =
     let is : ends_with_byte 13 (xs ++ 13 ∷ []) ≡ true = ap (λ b. b && (slice_index (xs ++ 13 ∷ []) (length (xs ++ 13 ∷ []) - 1) == 13)) some ∙ eq-eqb _ 13 last in
     cond-true (ends_with_byte 13 (xs ++ 13 ∷ [])) (take (length (xs ++ 13 ∷ []) - 1) (xs ++ 13 ∷ [])) (xs ++ 13 ∷ []) is ∙ take_at xs (13 ∷ []) (length (xs ++ 13 ∷ []) - 1) (sym less)
 
-line_spelled : (parts : Parts) (rest : List ℕ) → line_text parts ++ rest ≡ (text_of parts ++ 13 ∷ []) ++ 10 ∷ rest
+-- bytes with CR LF behind them are one line of a stream
+pub bytes_cut : (bytes rest : List ℕ) → HasNoBadByte bytes → length bytes ≤ 8701 → items (bytes ++ 13 ∷ 10 ∷ rest) ≡ line bytes ∷ items rest
+bytes_cut bytes rest good most =
+    let text = bytes ++ 13 ∷ [] in
+    let none = position-append_none bytes (13 ∷ []) (none_from bytes (no_lf_in bytes good)) refl in
+    let first : position is_lf (10 ∷ rest) ≡ Some 0 = position_from (10 ∷ rest) 0 refl (omega arith) in
+    let place = position-append_some text (10 ∷ rest) 0 none first in
+    let taken : take (length text + 0) (text ++ 10 ∷ rest) ≡ text = take_at text (10 ∷ rest) (length text + 0) (omega arith) in
+    let size = length-append bytes (13 ∷ []) in
+    let fits : nat_lt (length text) 8703 ≡ true = lt-ltb (length text) 8703 (omega arith) in
+    let item : item_of text ≡ line bytes = cond-true (nat_lt (length text) 8703) (line (strip_last 13 text)) too_long fits ∙ ap line (strip_pushed bytes) in
+    ap items (sym (append_assoc bytes (13 ∷ []) (10 ∷ rest))) ∙ items_line (text ++ 10 ∷ rest) (length text + 0) place
+    ∙ ap (λ l. item_of l ∷ items (drop (length text + 0 + 1) (text ++ 10 ∷ rest))) taken ∙ ap (λ i. i ∷ items (drop (length text + 0 + 1) (text ++ 10 ∷ rest))) item
+    ∙ ap (λ l. line bytes ∷ items l) (drop_past text (10 ∷ rest) 0)
+
+line_spelled : (parts : Parts) (rest : List ℕ) → line_text parts ++ rest ≡ text_of parts ++ 13 ∷ 10 ∷ rest
 line_spelled parts rest = simp append_assoc
 
 pub cut : (limit : TagLimit) (parts : Parts) (rest : List ℕ) → CanStand limit parts → items (line_text parts ++ rest) ≡ line (text_of parts) ∷ items rest
 cut limit parts rest can =
-    let text = text_of parts ++ 13 ∷ [] in
-    let none = position-append_none (text_of parts) (13 ∷ []) (none_from (text_of parts) (no_lf_in (text_of parts) (good limit parts can))) refl in
-    let first : position is_lf (10 ∷ rest) ≡ Some 0 = position_from (10 ∷ rest) 0 refl (omega arith) in
-    let place = position-append_some text (10 ∷ rest) 0 none first in
-    let taken : take (length text + 0) (text ++ 10 ∷ rest) ≡ text = take_at text (10 ∷ rest) (length text + 0) (omega arith) in
-    let size = length-append (text_of parts) (13 ∷ []) in
     let whole = length-append (tags_text parts.tags) (text_behind_tags parts) in
     let of_tags = tags_size limit parts.tags can.tags in
-    let fits : nat_lt (length text) 8703 ≡ true = lt-ltb (length text) 8703 (omega (arith, can.size)) in
-    let item : item_of text ≡ line (text_of parts) = cond-true (nat_lt (length text) 8703) (line (strip_last 13 text)) too_long fits ∙ ap line (strip_pushed (text_of parts)) in
-    ap items (line_spelled parts rest) ∙ items_line (text ++ 10 ∷ rest) (length text + 0) place
-    ∙ ap (λ l. item_of l ∷ items (drop (length text + 0 + 1) (text ++ 10 ∷ rest))) taken ∙ ap (λ i. i ∷ items (drop (length text + 0 + 1) (text ++ 10 ∷ rest))) item
-    ∙ ap (λ l. line (text_of parts) ∷ items l) (drop_past text (10 ∷ rest) 0)
+    ap items (line_spelled parts rest) ∙ bytes_cut (text_of parts) rest (good limit parts can) (omega (arith, can.size))
 
 -- ---- some parts: `@a :s P m :` and a space
 

@@ -6,6 +6,7 @@ ghost use Rattle.irc_line.specs.Read.{read};
 ghost use Rattle.irc_line.specs.Calls.{Call, GivesItems};
 ghost use Rattle.irc_line.specs.Text.{Parts};
 ghost use Rattle.irc_line.specs.CanStand.{CanStand, IsCutOut, HasMeaning, ReadsBack};
+ghost use Rattle.irc_line.specs.Lines.{AreLines, AreCutOut, ReadBack};
 
 /// Over any list of calls of a new feeder, the items given are a prefix of those of all bytes taken, however these
 /// were cut into pieces, and what is held stands for the others.
@@ -27,4 +28,13 @@ pub fn written_lines_read_back()
     ensures reads { (limit : TagLimit) (p : Parts) → CanStand limit p → HasMeaning limit p }
     ensures read { (limit : TagLimit) (p : Parts) → CanStand limit p → ReadsBack limit p }
     ensures some { (limit : TagLimit) → (p : Parts) × CanStand limit p }
+{}
+
+/// A text that is lines, each of parts that may stand in their places, is cut into just these lines, whatever follows it,
+/// and each of them reads back as its parts.
+pub fn lines_read_back()
+    ensures cut { (limit : TagLimit) (text : List ℕ) (are : AreLines limit text) →
+        AreCutOut text are.lines }
+    ensures read { (limit : TagLimit) (text : List ℕ) (are : AreLines limit text) →
+        ReadBack limit are.lines }
 {}
