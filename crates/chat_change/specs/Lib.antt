@@ -1,4 +1,5 @@
--- ---- what a reader must believe: texts and their limits, buffers, messages, records, keys, orders and refusals
+-- ---- what a reader must believe: texts and their limits, buffers, messages, records, keys, orders, refusals and
+-- lawful changes
 pub mod Words
 pub mod Buffer
 pub mod Message
@@ -6,5 +7,6 @@ pub mod Record
 pub mod Order
 pub mod Key
 pub mod Faults
+pub mod Lawful
 -- ---- what only the proofs use of the code: how texts lie in memory
 pub mod Texts
