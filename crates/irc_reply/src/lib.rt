@@ -6,6 +6,7 @@
 //! each may stand in its place of a line is the caller's to see to.
 #![tactic(auto)]
 
+pub mod laws;
 mod reply;
 
 pub use reply::{Context, write_fail, write_mark, write_reply, write_too_long, write_unknown};

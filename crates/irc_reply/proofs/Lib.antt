@@ -1,0 +1,2 @@
+mod ReplyLemmas
+pub mod CallerLemmas
