@@ -25,3 +25,6 @@ pub use Rattle.chat_history.proofs.AbsorbLemmas.{new_form_differs, first_form_be
 pub use Rattle.chat_history.proofs.AbsorbLemmas.{key_of-remainder, same_buffer_from}
 pub use Rattle.chat_history.proofs.NumberLemmas.{get-numbers, get-numbers_after}
 pub use Rattle.chat_history.proofs.HeldLemmas.{held_counted, held_same}
+-- what is visible was posted, and a marker was set
+pub use Rattle.chat_history.proofs.PostedLemmas.{visible_posted}
+pub use Rattle.chat_history.proofs.StandingLemmas.{mark_greatest}

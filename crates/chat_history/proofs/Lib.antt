@@ -14,4 +14,5 @@ mod StandingLemmas
 mod VisibleLemmas
 mod NormReadLemmas
 mod StoredLemmas
+mod PostedLemmas
 pub mod CallerLemmas
