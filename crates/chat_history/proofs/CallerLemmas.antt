@@ -28,3 +28,4 @@ pub use Rattle.chat_history.proofs.HeldLemmas.{held_counted, held_same}
 -- what is visible was posted, and a marker was set
 pub use Rattle.chat_history.proofs.PostedLemmas.{visible_posted}
 pub use Rattle.chat_history.proofs.StandingLemmas.{mark_greatest}
+pub use Rattle.chat_history.proofs.PostedLemmas.{in_order_member, IsPostedAt, all_latest_posted}

@@ -37,7 +37,7 @@ among_borne k changes c h e =
 
 -- ---- the greatest
 
-greatest_most : (xs : List ℕ) (t : ℕ) → greatest xs ≡ Some t → Among t xs × ((u : ℕ) → Among u xs → u ≤ t)
+pub greatest_most : (xs : List ℕ) (t : ℕ) → greatest xs ≡ Some t → Among t xs × ((u : ℕ) → Among u xs → u ≤ t)
 greatest_most xs t e =
     let h = first_member latest_total latest_exact xs t e in
     (h.0, λ u m. le_from_not_gt u t (h.1 u m))

@@ -1,5 +1,5 @@
 -- Buffers in the order of their latest moments.
-use Rattle.std.proofs.Common.{◌≡◌, ℕ, Bool, true, false, cond, Some, List, [], ◌∷◌, filter, map, refl, sym, ◌∙◌, ap}
+use Rattle.std.proofs.Common.{◌≡◌, ℕ, Bool, true, false, cond, Some, List, [], ◌∷◌, filter, map, refl, sym, ◌∙◌, ap, subst}
 use Rattle.std.specs.Prelude.{◌&&◌, ◌||◌, is_some, T}
 use Rattle.std.proofs.lemmas.Bool.{false≢true}
 use Rattle.std.specs.declared.cmp.Ordering.{Ordering}
@@ -11,6 +11,7 @@ use Rattle.std.specs.BTreeSet as tree
 use Rattle.std.specs.BTreeSet.{BTreeSet}
 use Rattle.std.specs.FinMap.{FinMap, from_entries, keys, entries, entries_sorted, is_sorted, find, get, get-from_entries, contains_key-keys, IsAntisymmetric, nat_cmp-IsAntisymmetric, slice_cmp-IsAntisymmetric}
 use Rattle.std.specs.FinMap.Entries.{below_all}
+use Rattle.std.proofs.lemmas.Cmp.{tied_itself}
 use Rattle.std.proofs.lemmas.List.Kept.{IsStrictlySortedBy-filter}
 use Rattle.std.proofs.lemmas.Map.Lookups.{btree_set_from_contains}
 use Rattle.chat_change.specs.Order.{text_cmp}
@@ -108,3 +109,26 @@ module _ (p : Listed → Bool) (xs : List Listed) where
   set_is s f =
       btree_set_from_contains spot_total s (record { keys = filter p (keys all) }) f.1 (IsStrictlySortedBy-filter spot_cmp p (keys all) (keys_sorted spot_cmp (entries all) (entries_sorted all)))
       (λ q. f.0 q ∙ any_filter p q xs ∙ ap (λ b. p q && b) (sym (member q)) ∙ sym (any_filter p q (keys all))) spot_exact
+
+-- ---- what is true of each of a list is true of each key
+
+all_any : (P : Listed → Type 0) (ys : List Listed) → ((y : Listed) → list_any (eq_by_cmp spot_cmp y) ys ≡ true → P y) → AllByRecursion P ys
+all_any P [] h = tt
+all_any P (y ∷ ys) h = (
+  h y (ap (λ b. b || list_any (eq_by_cmp spot_cmp y) ys) (ap is_eq (tied_itself spot_total y))),
+  all_any P ys (λ z e. h z (ap (λ b. eq_by_cmp spot_cmp z y || b) e ∙ or_true (eq_by_cmp spot_cmp z y))),
+) where
+  or_true : (b : Bool) → (b || true) ≡ true
+  or_true true = refl
+  or_true false = refl
+
+any_has : (P : Listed → Type 0) (q : Listed) (xs : List Listed) → AllByRecursion P xs → list_any (eq_by_cmp spot_cmp q) xs ≡ true → P q
+any_has P q [] each e = absurd (false≢true e)
+any_has P q (x ∷ xs) each e =
+    elim (eq_by_cmp spot_cmp q x) as (λ b. eq_by_cmp spot_cmp q x ≡ b → (b || list_any (eq_by_cmp spot_cmp q) xs) ≡ true → P q) [
+      | true ↦ λ t _. subst P (sym (spot_exact q x (tied (spot_cmp q x) t))) each.0
+      | false ↦ λ _ r. any_has P q xs each.1 r
+    ] refl e
+
+pub keys_all : (P : Listed → Type 0) (xs : List Listed) → AllByRecursion P xs → AllByRecursion P (keys (from_entries {R = spot_cmp} (map (λ (e : Listed). (e, e)) xs)))
+keys_all P xs all = all_any P (keys (from_entries {R = spot_cmp} (map (λ (e : Listed). (e, e)) xs))) (λ q e. any_has P q xs all (sym (member (λ _. true) xs q) ∙ e))

@@ -1,10 +1,11 @@
--- what a reader must believe: what a client asks for, and the page that answers it
+-- what a reader must believe: what a client asks for, the page that answers it, and what it may have
 pub mod Scope
 pub mod Limit
 pub mod Parameters
 pub mod ListedBuffer
 pub mod Page
 pub mod Walk
+pub mod Posted
 -- what only the proofs use of the code: records between two cuts, and the place of a selector
 pub mod Cuts
 pub mod Place

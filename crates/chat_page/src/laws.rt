@@ -1,6 +1,6 @@
 //! Laws of pages. Their contracts are the laws, and their bodies are empty.
 
-ghost use Rattle.std.specs.Prelude.{◌≡◌, ◌<◌, ◌∷◌, ◌++◌, ℕ, List, reverse};
+ghost use Rattle.std.specs.Prelude.{◌≡◌, ◌<◌, ◌∷◌, ◌++◌, ℕ, List, reverse, IfSome};
 ghost use Rattle.std.specs.List.{flat_map};
 ghost use Rattle.chat_change.specs.Record.{Record};
 ghost use Rattle.chat_change.specs.declared.change.Change.{Change};
@@ -9,6 +9,7 @@ ghost use Rattle.chat_history.specs.Visible.{visible};
 ghost use Rattle.chat_page.specs.Scope.{Scope};
 ghost use Rattle.chat_page.specs.declared.query.Query.{Query};
 ghost use Rattle.chat_page.specs.Page.{page, buffer_of};
+ghost use Rattle.chat_page.specs.Posted.{IsOfPosts};
 ghost use Rattle.chat_page.specs.Walk.{FollowPages, LatestPages};
 
 /// A page, or that a message is unknown, depends on the normal form alone.
@@ -17,6 +18,12 @@ pub fn pages_are_of_the_normal_form()
         → page a scope query ≡ page b scope query }
     ensures normal { (a : List Change) (scope : Scope) (query : Query) → page (changes_of
         (norm a)) scope query ≡ page a scope query }
+{}
+
+/// A page has only records that were posted, and lists a buffer only by the moment of a record that was posted in it.
+pub fn pages_are_of_posts()
+    ensures { (changes : List Change) (scope : Scope) (query : Query) →
+        IfSome (page changes scope query) (IsOfPosts changes) }
 {}
 
 /// With the set of changes unchanged, AFTER by the last message of the page before, repeated from a visible message until

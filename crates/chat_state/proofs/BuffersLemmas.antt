@@ -16,15 +16,12 @@ use Rattle.chat_history.specs.History.{History, changes_of}
 use Rattle.chat_history.specs.Choice.{keep, Among, IsFirst}
 use Rattle.chat_store.specs.Buffers.{sought_in, sought_buffers, is_past, sought_past, all_past}
 use Rattle.chat_history.specs.Buffers.{in_buffer_order}
-use Rattle.chat_history.proofs.CallerLemmas.{among-filter_map, among_made}
+use Rattle.chat_history.proofs.CallerLemmas.{among-filter_map, among_made, in_order_member}
 use Rattle.chat_history.proofs.CallerLemmas.{ordered_member, member_ordered, ordered_by_key}
 use Rattle.chat_history.proofs.CallerLemmas.{less_upto, from_member, passing_from, none_passing}
 use Rattle.chat_state.proofs.CursorLemmas.{passed}
 
 -- ---- buffers in their order
-
-pub in_order_member : (bs : List Buffer) (b : Buffer) → Among b (in_buffer_order bs) → Among b bs
-in_order_member bs b m = ordered_member buffer_total buffer_exact (λ (b : Buffer). b) bs b m
 
 pub member_in_order : (bs : List Buffer) (b : Buffer) → Among b bs → Among b (in_buffer_order bs)
 member_in_order bs b m = member_ordered buffer_total buffer_exact (λ (b : Buffer). b) bs b m (λ d n e. e)

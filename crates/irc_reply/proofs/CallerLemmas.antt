@@ -1,2 +1,2 @@
 -- What the crates above may name of these proofs.
-pub use Rattle.irc_reply.proofs.ReplyLemmas.{reply_line, unknown_line, too_long_line, fail_line, mark_line, time_middle}
+pub use Rattle.irc_reply.proofs.ReplyLemmas.{reply_parts, reply_stands, reply_line, unknown_line, too_long_line, fail_line, mark_line, time_middle, low_behind}

@@ -16,23 +16,23 @@ use Rattle.irc_time.proofs.CallerLemmas.{IsTimeShape, time_shape}
 use Rattle.irc_reply.specs.Reply.{reply, unknown_text, too_long_text, fail_text, marker_word, mark_text}
 use Rattle.irc_reply.specs.Standing.{IsCluster, CanBeRefusal, IsWordTo, target_limit, word_limit}
 
-abbrev parts_of : List ℕ → List ℕ → List (List ℕ) → Option (List ℕ) → Parts
-parts_of cluster command middles trailing = record { tags = None; source = Some cluster; command = command; middles = middles; trailing = trailing }
+abbrev pub reply_parts : List ℕ → List ℕ → List (List ℕ) → Option (List ℕ) → Parts
+reply_parts cluster command middles trailing = record { tags = None; source = Some cluster; command = command; middles = middles; trailing = trailing }
 
 module _ (limit : TagLimit) (cluster : List ℕ) (is : IsCluster cluster) where
   -- a line whose words have at most 445 bytes
-  pub reply_line : (command : List ℕ) (middles : List (List ℕ)) (trailing : Option (List ℕ))
+  pub reply_stands : (command : List ℕ) (middles : List (List ℕ)) (trailing : Option (List ℕ))
       → is_command command ≡ true → AllByRecursion CanBeMiddle middles → IfSome trailing HasNoBadByte
       → length (middles ++ option_to_list trailing) ≤ most_parameters
       → length command + (length (middles_text middles) + length (trailing_text trailing)) ≤ 445
-      → AreLines limit (reply cluster command middles trailing)
-  reply_line command middles trailing c m t n size =
+      → CanStand limit (reply_parts cluster command middles trailing)
+  reply_stands command middles trailing c m t n size =
       let name = is.1 in
       let a = length-append cluster (32 ∷ []) in
       let b = length-append (58 ∷ (cluster ++ 32 ∷ [])) (command ++ (middles_text middles ++ trailing_text trailing)) in
       let d = length-append command (middles_text middles ++ trailing_text trailing) in
       let e = length-append (middles_text middles) (trailing_text trailing) in
-      one_line limit (parts_of cluster command middles trailing) (record {
+      record {
         tags = tt;
         source = is.0;
         command = c;
@@ -40,7 +40,15 @@ module _ (limit : TagLimit) (cluster : List ℕ) (is : IsCluster cluster) where
         trailing = t;
         count = n;
         size = omega arith;
-      })
+      }
+
+  pub reply_line : (command : List ℕ) (middles : List (List ℕ)) (trailing : Option (List ℕ))
+      → is_command command ≡ true → AllByRecursion CanBeMiddle middles → IfSome trailing HasNoBadByte
+      → length (middles ++ option_to_list trailing) ≤ most_parameters
+      → length command + (length (middles_text middles) + length (trailing_text trailing)) ≤ 445
+      → AreLines limit (reply cluster command middles trailing)
+  reply_line command middles trailing c m t n size =
+      one_line limit (reply_parts cluster command middles trailing) (reply_stands command middles trailing c m t n size)
 
   pub unknown_line : (nick word : List ℕ) → IsWordTo target_limit nick → IsWordTo word_limit word → AreLines limit (unknown_text cluster nick word)
   unknown_line nick word n w =
@@ -66,7 +74,7 @@ module _ (limit : TagLimit) (cluster : List ℕ) (is : IsCluster cluster) where
 
 -- ---- markers
 
-low_behind : (bytes : List ℕ) → AllByRecursion (λ b. 45 ≤ b) bytes → AllByRecursion (λ b. 33 ≤ b) bytes
+pub low_behind : (bytes : List ℕ) → AllByRecursion (λ b. 45 ≤ b) bytes → AllByRecursion (λ b. 33 ≤ b) bytes
 low_behind [] p = tt
 low_behind (b ∷ bytes) p = (let low = p.0 in omega arith, low_behind bytes p.1)
 
