@@ -56,11 +56,22 @@ fn shows_only(
     Ok(is_first && records.next().is_none())
 }
 
+fn m2(alloc: Global) -> Result<MsgId, Fail> {
+    Ok(MsgId::new(alloc, b"m2")?)
+}
+
+fn moment_of_m2(alloc: Global, state: &State) -> Result<Option<u64>, Fail> {
+    let buffer = buffer_of(alloc, b"#a")?;
+    let id = m2(alloc)?;
+    Ok(ms_of(state.position(&buffer, &id)))
+}
+
 // Whether the message m2 of the channel #a is gone, and had that moment.
 fn is_m2_gone(alloc: Global, state: &State, at: Option<u64>) -> Result<bool, Fail> {
     let buffer = buffer_of(alloc, b"#a")?;
-    let id = MsgId::new(alloc, b"m2")?;
-    Ok(state.is_gone(&buffer, &id) && ms_of(state.position(&buffer, &id)) == at)
+    let id = m2(alloc)?;
+    let gone = state.is_gone(&buffer, &id);
+    Ok(gone && moment_of_m2(alloc, state)? == at)
 }
 
 fn list_of(alloc: Global, steps: &[Step]) -> Result<Vec<Vec<Change>>, Fail> {
@@ -95,12 +106,14 @@ fn the_smaller_post_of_one_moment_is_kept(rt: HostRuntime) -> Result<(), Fail> {
     let first = message(b"#a", b"m1", 1000, b"b");
     let smaller = message(b"#a", b"m1", 1000, b"a");
     let notice = sent(b"#a", b"m1", 1000, b'N', b"bob!b@h", b"#a", b"z");
-    take(alloc, &mut state, &[first])?;
-    assert!(rt; shows_only(alloc, &state, b"m1", 1000, b'P', b"b")?);
-    take(alloc, &mut state, &[smaller, first])?;
-    assert!(rt; shows_only(alloc, &state, b"m1", 1000, b'P', b"a")?);
-    take(alloc, &mut state, &[notice, smaller])?;
-    assert!(rt; shows_only(alloc, &state, b"m1", 1000, b'N', b"z")?);
+    for (steps, letter, body) in [
+        ([first, first], b'P', b"b"),
+        ([smaller, first], b'P', b"a"),
+        ([notice, smaller], b'N', b"z"),
+    ] {
+        take(alloc, &mut state, &steps)?;
+        assert!(rt; shows_only(alloc, &state, b"m1", 1000, letter, body)?);
+    }
     assert_eq!(rt; state.front(), 3);
     Ok(())
 }
@@ -167,43 +180,59 @@ fn shows_both(alloc: Global, both: Option<State>) -> Result<bool, Fail> {
     Ok(is_shown && is_gone && wrong_look_up(alloc, &mut state, &left)?.is_none())
 }
 
-#[test]
-fn states_merge_both_ways(rt: HostRuntime) -> Result<(), Fail> {
-    let alloc = rt.alloc();
+fn late_into_early(alloc: Global) -> Result<Option<State>, Fail> {
     let early = early_state(alloc)?;
     let late = late_state(alloc)?;
-    assert!(rt; shows_both(alloc, merged_twice(alloc, &early, &late)?)?);
-    assert!(rt; shows_both(alloc, merged_twice(alloc, &late, &early)?)?);
-    assert!(rt; shows_only(alloc, &late, b"m1", 2000, b'P', b"b")?);
-    assert_eq!(rt; early.front(), 2);
+    merged_twice(alloc, &early, &late)
+}
+
+fn early_into_late(alloc: Global) -> Result<Option<State>, Fail> {
+    let early = early_state(alloc)?;
+    let late = late_state(alloc)?;
+    merged_twice(alloc, &late, &early)
+}
+
+#[test]
+fn states_merge_both_ways(rt: HostRuntime) -> Result<(), Fail> {
+    let both = late_into_early(rt.alloc())?;
+    assert!(rt; shows_both(rt.alloc(), both)?);
+    let both = early_into_late(rt.alloc())?;
+    assert!(rt; shows_both(rt.alloc(), both)?);
     Ok(())
+}
+
+// Sets the floors that are due, and says of which channel the first is and how many there are.
+fn set_due_floors(alloc: Global, state: &mut State) -> Result<(bool, usize), Fail> {
+    let floors = state.due_floors(alloc, moment(86_402_000)?, 1)?;
+    state.take(&floors)?;
+    let is_first = match floors.first() {
+        Some(floor) => floor.key().buffer().target() == b"#a".as_slice(),
+        None => false,
+    };
+    Ok((is_first, floors.len()))
 }
 
 #[test]
 fn floors_that_are_due_are_due_once(rt: HostRuntime) -> Result<(), Fail> {
     let alloc = rt.alloc();
-    let now = moment(86_402_000)?;
-    let mut state = state_of(
-        alloc,
-        &[
-            message(b"#b", b"m1", 1000, b"a"),
-            message(b"#a", b"m1", 1999, b"b"),
-            message(b"#a", b"m2", 2000, b"c"),
-        ],
-    )?;
-    let floors = state.due_floors(alloc, now, 1)?;
-    assert_eq!(rt; floors.len(), 2);
-    assert_eq!(rt; floors[0].key().buffer().target(), b"#a".as_slice());
-    state.take(&floors)?;
-    let left = [
-        message(b"#a", b"m2", 2000, b"c"),
-        floor(b"#a", 2000),
-        floor(b"#b", 2000),
+    let last = message(b"#a", b"m2", 2000, b"c");
+    let steps = [
+        message(b"#b", b"m1", 1000, b"a"),
+        message(b"#a", b"m1", 1999, b"b"),
+        last,
     ];
+    let mut state = state_of(alloc, &steps)?;
+    assert_eq!(rt; set_due_floors(alloc, &mut state)?, (true, 2));
+    let left = [last, floor(b"#a", 2000), floor(b"#b", 2000)];
     assert_eq!(rt; wrong_look_up(alloc, &mut state, &left)?, None);
-    assert!(rt; state.due_floors(alloc, now, 1)?.is_empty());
-    let redacted = state_of(alloc, &[redact_at(b"#a", b"m1", 1000)])?;
-    assert!(rt; redacted.due_floors(alloc, now, 1)?.is_empty());
+    assert_eq!(rt; set_due_floors(alloc, &mut state)?, (false, 0));
+    Ok(())
+}
+
+#[test]
+fn no_floor_is_due_for_a_redaction(rt: HostRuntime) -> Result<(), Fail> {
+    let mut state = state_of(rt.alloc(), &[redact_at(b"#a", b"m1", 1000)])?;
+    assert_eq!(rt; set_due_floors(rt.alloc(), &mut state)?, (false, 0));
     Ok(())
 }
 
@@ -238,6 +267,16 @@ fn what_was_taken_before_the_last_number_stands(rt: HostRuntime) -> Result<(), F
     Ok(())
 }
 
+// What refused a merge with a state that has taken those steps.
+fn refusal_of_merge(
+    alloc: Global,
+    state: &mut State,
+    steps: &[Step],
+) -> Result<Option<TakeFault>, Fail> {
+    let other = state_of(alloc, steps)?;
+    Ok(state.merge(&other).err())
+}
+
 // The message was posted first, and again after the redaction and the marker: the redaction has the least number.
 #[test]
 fn a_merge_goes_by_number_up_to_the_last(rt: HostRuntime) -> Result<(), Fail> {
@@ -245,14 +284,13 @@ fn a_merge_goes_by_number_up_to_the_last(rt: HostRuntime) -> Result<(), Fail> {
     let redaction = redact(b"#a", b"m2");
     let early = message(b"#a", b"m1", 1000, b"a");
     let late = message(b"#a", b"m1", 2000, b"b");
-    let other = state_of(alloc, &[early, redaction, mark(b"#a", 1000), late])?;
+    let steps = [early, redaction, mark(b"#a", 1000), late];
     let mut state = State::new_at(alloc, LAST - 1);
-    let refused = state.merge(&other);
-    assert_eq!(rt; refused.err(), Some(EXHAUSTED_AFTER_1));
-    assert_eq!(rt; wrong_look_up(alloc, &mut state, &[redaction])?, None);
+    let refusal = refusal_of_merge(alloc, &mut state, &steps)?;
+    assert_eq!(rt; refusal, Some(EXHAUSTED_AFTER_1));
+    assert_eq!(rt; wrong_look_up(alloc, &mut state, &steps[1..2])?, None);
     assert_eq!(rt; state.front(), LAST);
-    let part = state_of(alloc, &[redaction])?;
-    state.merge(&part)?;
-    assert_eq!(rt; wrong_look_up(alloc, &mut state, &[redaction])?, None);
+    assert_eq!(rt; refusal_of_merge(alloc, &mut state, &steps[1..2])?, None);
+    assert_eq!(rt; wrong_look_up(alloc, &mut state, &steps[1..2])?, None);
     Ok(())
 }

@@ -134,7 +134,7 @@ impl State {
 fn discard(_change: Change) {}
 
 /// Takes each delta in turn into an empty state. After a refusal no state is handed out; `taken` counts through the
-/// deltas all_changes.
+/// deltas as one list.
 pub fn run(alloc: Global, deltas: &[Vec<Change>]) -> Result<State, TakeFault>
     ensures held { IfOk result (λ state. state ≡ spec.state_after 0 (all_changes deltas.now)) }
     ensures refused { IfErr result (IsStoppedRun (all_changes deltas.now)) }
