@@ -18,6 +18,8 @@ pub use Rattle.chat_history.proofs.StandingLemmas.{among-bearers_of, most_greate
 -- the visible records of a buffer
 pub use Rattle.chat_history.proofs.VisibleLemmas.{spot_total, rising_total, change_held, held_change}
 pub use Rattle.chat_history.proofs.VisibleLemmas.{IsRecordOf, posted_is, posted_here, record_of, of_record, records_sorted}
+-- buffers in their order
+pub use Rattle.chat_history.proofs.BuffersLemmas.{in_order_member, member_in_order, buffers_sorted}
 -- what one more change does to a normal form and to its numbers
 pub use Rattle.chat_history.proofs.StepLemmas.{floor_set}
 pub use Rattle.chat_history.proofs.AbsorbLemmas.{append_none, get_after, get_floor, low_floor, floor_is, get_is_piece}
@@ -28,4 +30,4 @@ pub use Rattle.chat_history.proofs.HeldLemmas.{held_counted, held_same}
 -- what is visible was posted, and a marker was set
 pub use Rattle.chat_history.proofs.PostedLemmas.{visible_posted}
 pub use Rattle.chat_history.proofs.StandingLemmas.{mark_greatest}
-pub use Rattle.chat_history.proofs.PostedLemmas.{in_order_member, IsPostedAt, all_latest_posted}
+pub use Rattle.chat_history.proofs.PostedLemmas.{IsPostedAt, all_latest_posted}

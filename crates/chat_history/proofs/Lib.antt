@@ -13,6 +13,7 @@ mod HeldLemmas
 mod StandingLemmas
 mod VisibleLemmas
 mod NormReadLemmas
+mod BuffersLemmas
 mod StoredLemmas
 mod PostedLemmas
 pub mod CallerLemmas

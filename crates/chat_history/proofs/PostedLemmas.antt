@@ -12,10 +12,9 @@ use Rattle.chat_change.specs.declared.change.Change.TheVariants.{Post, Redact, M
 use Rattle.chat_history.specs.Choice.{greatest, Among}
 use Rattle.chat_history.specs.History.{norm, changes_of}
 use Rattle.chat_history.specs.Visible.{visible}
-use Rattle.chat_history.specs.Buffers.{buffer_where, is_of_network, in_buffer_order}
+use Rattle.chat_history.specs.Buffers.{buffer_where, is_of_network}
 use Rattle.chat_history.specs.Latest.{latest_moment, with_moment, network_buffers, latest_in}
-use Rattle.chat_change.proofs.CallerLemmas.{buffer_total, buffer_exact}
-use Rattle.chat_history.proofs.EntryLemmas.{ordered_member}
+use Rattle.chat_history.proofs.BuffersLemmas.{in_order_member}
 use Rattle.chat_history.proofs.MemberLemmas.{contained, among-filter_map, first_none, mapped, image}
 use Rattle.chat_history.proofs.NormLemmas.{latest_total, latest_exact}
 use Rattle.chat_history.proofs.PieceLemmas.{norm_keyed}
@@ -29,9 +28,6 @@ visible_posted changes b r m =
     (first.0.0.0, v.0)
 
 -- ---- buffers with their latest moments
-
-pub in_order_member : (bs : List Buffer) (b : Buffer) → Among b (in_buffer_order bs) → Among b bs
-in_order_member bs b m = ordered_member buffer_total buffer_exact (λ (b : Buffer). b) bs b m
 
 post_where : (p : Record → Bool) (c : Change) (b : Buffer) → buffer_where p c ≡ Some b → (r : Record) × (c ≡ Post r) × (r.buffer ≡ b)
 post_where p (Post r) b e =

@@ -7,27 +7,17 @@ use Rattle.std.specs.declared.cmp.Ordering.{Ordering}
 use Rattle.std.specs.declared.cmp.Ordering.TheVariants.{Less, Equal, Greater}
 use Rattle.std.specs.Ordering.{is_lt, is_gt}
 use Rattle.std.specs.List.{filter, filter_map}
-use Rattle.std.specs.List.Sorted.{IsStrictlySortedBy}
 use Rattle.chat_change.specs.Buffer.{Buffer}
 use Rattle.chat_change.specs.Order.{buffer_cmp}
-use Rattle.chat_change.proofs.CallerLemmas.{buffer_total, buffer_exact}
+use Rattle.chat_change.proofs.CallerLemmas.{buffer_total}
 use Rattle.chat_store.specs.declared.buffers.Sought.{Sought}
 use Rattle.chat_history.specs.History.{History, changes_of}
 use Rattle.chat_history.specs.Choice.{keep, Among, IsFirst}
 use Rattle.chat_store.specs.Buffers.{sought_in, sought_buffers, is_past, sought_past, all_past}
-use Rattle.chat_history.specs.Buffers.{in_buffer_order}
-use Rattle.chat_history.proofs.CallerLemmas.{among-filter_map, among_made, in_order_member}
-use Rattle.chat_history.proofs.CallerLemmas.{ordered_member, member_ordered, ordered_by_key}
+use Rattle.chat_history.proofs.CallerLemmas.{among-filter_map, among_made}
+use Rattle.chat_history.proofs.CallerLemmas.{in_order_member, member_in_order, buffers_sorted}
 use Rattle.chat_history.proofs.CallerLemmas.{less_upto, from_member, passing_from, none_passing}
 use Rattle.chat_state.proofs.CursorLemmas.{passed}
-
--- ---- buffers in their order
-
-pub member_in_order : (bs : List Buffer) (b : Buffer) → Among b bs → Among b (in_buffer_order bs)
-member_in_order bs b m = member_ordered buffer_total buffer_exact (λ (b : Buffer). b) bs b m (λ d n e. e)
-
-pub buffers_sorted : (bs : List Buffer) → IsStrictlySortedBy buffer_cmp (in_buffer_order bs)
-buffers_sorted bs = ordered_by_key buffer_total buffer_exact (λ (b : Buffer). b) bs
 
 -- ---- a step of the walk
 

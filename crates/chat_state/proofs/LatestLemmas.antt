@@ -25,12 +25,13 @@ use Rattle.chat_store.specs.Nearest.{nearer_cmp, candidates}
 use Rattle.chat_history.specs.Visible.{records_in}
 use Rattle.chat_history.specs.Buffers.{is_of_network, buffer_where}
 use Rattle.chat_store.specs.Buffers.{is_past, all_past}
-use Rattle.chat_history.proofs.CallerLemmas.{among-filter_map, in_order_member, none_first, mapped, image}
+use Rattle.chat_history.proofs.CallerLemmas.{among-filter_map, none_first, mapped, image}
 use Rattle.chat_history.proofs.CallerLemmas.{most_greatest}
 use Rattle.chat_history.proofs.CallerLemmas.{latest_total, latest_exact}
 use Rattle.chat_history.proofs.CallerLemmas.{from_member, passing_from}
 use Rattle.chat_state.proofs.CursorLemmas.{no_later, candidate_record}
-use Rattle.chat_state.proofs.BuffersLemmas.{buffers_sorted, past_buffer, past_closed, walk_end, is_one, filter_all}
+use Rattle.chat_history.proofs.CallerLemmas.{in_order_member, buffers_sorted}
+use Rattle.chat_state.proofs.BuffersLemmas.{past_buffer, past_closed, walk_end, is_one, filter_all}
 
 -- ---- the latest moment
 
