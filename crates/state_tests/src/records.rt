@@ -1,6 +1,7 @@
 //! Which records cursors give, from each kind of cut on.
 
 use crate::changes::{absorb, channel, id_of, moment, post};
+use chat_change::Moment;
 use chat_state::{Cut, Down, Spot, State, Up};
 use std::alloc::Global;
 use std::test::Fail;
@@ -47,6 +48,8 @@ fn falls(alloc: Global, records: Down<'_>, ids: &[u8]) -> Result<bool, Fail> {
 
 #[test]
 fn all_records_rise(rt: HostRuntime) -> Result<(), Fail> {
+    // The prover is to be shown each type that a cut may hold.
+    let _types: (Option<Moment>, Option<&Spot>) = (None, None);
     let alloc = rt.alloc();
     let state = five_records(alloc)?;
     let here = channel(alloc, b"#a")?;
@@ -57,6 +60,8 @@ fn all_records_rise(rt: HostRuntime) -> Result<(), Fail> {
 
 #[test]
 fn an_unknown_channel_has_no_records(rt: HostRuntime) -> Result<(), Fail> {
+    // The prover is to be shown each type that a cut may hold.
+    let _types: (Option<Moment>, Option<&Spot>) = (None, None);
     let alloc = rt.alloc();
     let state = five_records(alloc)?;
     let there = channel(alloc, b"#none")?;
@@ -66,6 +71,8 @@ fn an_unknown_channel_has_no_records(rt: HostRuntime) -> Result<(), Fail> {
 
 #[test]
 fn all_records_fall(rt: HostRuntime) -> Result<(), Fail> {
+    // The prover is to be shown each type that a cut may hold.
+    let _types: (Option<Moment>, Option<&Spot>) = (None, None);
     let alloc = rt.alloc();
     let state = five_records(alloc)?;
     let here = channel(alloc, b"#a")?;
@@ -76,6 +83,8 @@ fn all_records_fall(rt: HostRuntime) -> Result<(), Fail> {
 
 #[test]
 fn records_beside_a_moment(rt: HostRuntime) -> Result<(), Fail> {
+    // The prover is to be shown each type that a cut may hold.
+    let _types: (Option<Moment>, Option<&Spot>) = (None, None);
     let alloc = rt.alloc();
     let at = moment(1000)?;
     let state = five_records(alloc)?;
