@@ -1,2 +1,4 @@
+pub mod CallerLemmas
+mod AnswerLemmas
 mod TagLemmas
 mod Texts

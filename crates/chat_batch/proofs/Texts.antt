@@ -1,7 +1,7 @@
 -- A text for each item of a list, one after another.
 use Rattle.std.proofs.Common.{◌≡◌, ℕ, ◌+◌, ◌<◌, List, get_or, length, map, take, drop, ◌++◌, ◌∷◌, [], sym, ap, ◌∙◌, append_assoc, append-nil}
 use Rattle.std.specs.List.{flat_map}
-use Rattle.std.proofs.lemmas.List.{take_more, map-append, take-append-drop}
+use Rattle.std.proofs.lemmas.List.{take_more, map-append, map-id, take-append-drop}
 use Rattle.std.proofs.lemmas.List.Concat.{flat_map-append}
 
 -- the text of what each item shows
@@ -31,3 +31,17 @@ module _ {M A : Type 0} (shown : M → A) (text : A → List ℕ) where
       → flat_map text (map shown (take i ms)) ++ text (shown x) ≡ flat_map text (map shown (take (i + 1) ms))
   and_here ms i x is h =
       ap (λ (p : M). flat_map text (map shown (take i ms)) ++ text (shown p)) is ∙ sym (texts_more ms i x h)
+
+-- the text of each item itself
+module _ {A : Type 0} (text : A → List ℕ) where
+  pub here_itself : (ms : List A) (i : ℕ) (x : A) → x ≡ get_or ms i x → i < length ms
+      → flat_map text (take i ms) ++ (text x ++ flat_map text (drop (i + 1) ms)) ≡ flat_map text ms
+  here_itself ms i x is h =
+      (λ j. flat_map text (sym (map-id (take i ms)) j) ++ (text x ++ flat_map text (sym (map-id (drop (i + 1) ms)) j)))
+      ∙ here (λ y. y) text ms i x is h ∙ ap (flat_map text) (map-id ms)
+
+  pub and_here_itself : (ms : List A) (i : ℕ) (x : A) → x ≡ get_or ms i x → i < length ms
+      → flat_map text (take i ms) ++ text x ≡ flat_map text (take (i + 1) ms)
+  and_here_itself ms i x is h =
+      ap (λ l. flat_map text l ++ text x) (sym (map-id (take i ms))) ∙ and_here (λ y. y) text ms i x is h
+      ∙ ap (flat_map text) (map-id (take (i + 1) ms))

@@ -1,6 +1,8 @@
--- what a reader must believe: the tags, lines and batches that are written
+-- what a reader must believe: the tags, lines and batches that are written, and what is answered
 pub mod Tags
 pub mod Message
 pub mod Batch
--- what only the proofs use of the code: the value behind a listed buffer
-pub mod ListedBuffer
+pub mod Reference
+pub mod Answers
+-- what only the proofs use of the code: what a call that answers leaves
+pub mod Gives

@@ -2,28 +2,18 @@
 ghost use Rattle.std.specs.Prelude.{◌++◌, [], map, codes, if◌then◌else◌};
 ghost use Rattle.output.specs.Writes.{Writes};
 ghost use Rattle.irc_reply.specs.Reply.{ending};
+ghost use Rattle.chat_batch.specs.Batch.{batch_start, opening, closing, records_text, history_text, buffer_text, buffers_text, targets_text};
 
 use super::message::put_record;
 use super::tags::put_three;
-use chat_change::{Moment, Record};
+use chat_change::Record;
+use chat_page::ListedBuffer;
 use irc_caps::CapSet;
 use irc_reply::write_reply;
 use irc_time::write_time;
 use output::put;
 use std::io;
 use std::io::Write;
-
-/// A buffer of a list of buffers.
-#[derive(Clone, Copy)]
-pub struct ListedBuffer<'a> {
-    /// The folded target.
-    pub target: &'a [u8],
-    /// The moment of the latest message.
-    pub at: Moment,
-}
-
-ghost use Rattle.chat_batch.specs.Batch.{batch_start, opening, closing, records_text, history_text, buffer_text, buffers_text, targets_text};
-ghost use Rattle.chat_batch.specs.ListedBuffer.{value_of};
 
 fn put_records<W: Write>(
     records: &[&Record],
@@ -150,11 +140,11 @@ fn put_buffer<W: Write>(
     buffer: &ListedBuffer<'_>,
 ) -> io::Result<()>
     ensures { Writes W.contents writer.old writer.new result
-        (buffer_text caps cluster.now reference.now (value_of buffer.now)) }
+        (buffer_text caps cluster.now reference.now buffer.now) }
 {
     put_batch_tag(writer, caps.batch, reference)?;
-    let at = write_time(buffer.at);
-    let middles: [&[u8]; 3] = [b"TARGETS", buffer.target, &at];
+    let at = write_time(buffer.at());
+    let middles: [&[u8]; 3] = [b"TARGETS", buffer.target(), &at];
     write_reply(cluster, b"CHATHISTORY", &middles, None, writer)
 }
 
@@ -166,7 +156,7 @@ fn put_buffers<W: Write>(
     buffers: &[ListedBuffer<'_>],
 ) -> io::Result<()>
     ensures { Writes W.contents writer.old writer.new result
-        (buffers_text caps cluster.now reference.now (map value_of buffers.now)) }
+        (buffers_text caps cluster.now reference.now buffers.now) }
 {
     for buffer in buffers {
         put_buffer(writer, caps, cluster, reference, buffer)?;
@@ -213,7 +203,7 @@ pub fn write_targets<W: Write>(
     writer: &mut W,
 ) -> io::Result<()>
     ensures { Writes W.contents writer.old writer.new result
-        (targets_text caps cluster.now reference.now (map value_of buffers.now)) }
+        (targets_text caps cluster.now reference.now buffers.now) }
 {
     put_open(
         writer,

@@ -1,10 +1,16 @@
 //! Lines as the IRCv3 specifications and RFC 2812 spell them, over a writer that takes one byte at a time, is interrupted
 //! at every second write, and fails after so many writes.
 
-use super::{ListedBuffer, write_live, write_page, write_targets, write_unknown};
+use super::{
+    Answered, Facts, ListedBuffer, answer, next_reference, write_live, write_page, write_targets,
+    write_unknown,
+};
 use chat_change::{Buffer, ChangeFault, Kind, Message, Moment, MsgId, Record};
+use chat_state::State;
 use irc_caps::CapSet;
-use std::alloc::Global;
+use irc_line::{TagLimit, read_line};
+use memory::Text;
+use std::alloc::{AllocError, Global};
 use std::io::ErrorKind;
 use std::test::Fail;
 use test_devices::Sink;
@@ -71,7 +77,7 @@ fn lists_of_buffers_are_batches(rt: HostRuntime) {
         assert!(rt; false, "there is such a moment");
         return;
     };
-    let found = [ListedBuffer { target: b"#c", at }];
+    let found = [ListedBuffer::new(b"#c", at)];
     let mut all = slow_writer(rt.alloc(), 1000);
     assert!(rt; write_targets(&found, CapSet::all(), b"~", b"r1", &mut all).is_ok());
     assert!(rt;
@@ -117,4 +123,103 @@ fn a_fault_of_the_writer_is_answered(rt: HostRuntime) {
         }
         assert!(rt; out.bytes() == &whole[..k], "at {k}");
     }
+}
+
+/// The facts of al of the account demo on the network net, who holds these capabilities.
+fn facts(alloc: Global, caps: CapSet) -> Result<Facts, AllocError> {
+    Ok(Facts {
+        account: Text::new(alloc, b"demo")?,
+        network: Text::new(alloc, b"net")?,
+        nick: Text::new(alloc, b"al")?,
+        caps,
+        reference: 4294967295,
+        cluster: Text::new(alloc, b"~")?,
+        maximum: 100,
+    })
+}
+
+/// What is answered from nothing that was taken.
+fn asked(alloc: Global, facts: &Facts, text: &[u8], out: &mut Sink<'_>) -> Result<Answered, Fail> {
+    let line = read_line(text, TagLimit::Client)?;
+    let answered = answer(alloc, &State::new(alloc), facts, &line, out)?;
+    Ok(answered)
+}
+
+#[test]
+fn questions_are_answered(rt: HostRuntime) -> Result<(), Fail> {
+    let rows: [(&[u8], &[u8]); 14] = [
+        (
+            b"CHATHISTORY LATEST #A * 5",
+            b":~ BATCH +r4294967295 chathistory #A\r\n:~ BATCH -r4294967295\r\n",
+        ),
+        (
+            b"CHATHISTORY TARGETS timestamp=1970-01-01T00:00:01.000Z timestamp=1970-01-01T00:00:02.000Z 5",
+            b":~ BATCH +r4294967295 draft/chathistory-targets\r\n:~ BATCH -r4294967295\r\n",
+        ),
+        (
+            b"CHATHISTORY",
+            b":~ FAIL CHATHISTORY INVALID_PARAMS :Missing parameters\r\n",
+        ),
+        (
+            b"chathistory next #a * 5",
+            b":~ FAIL CHATHISTORY INVALID_PARAMS NEXT :Unknown command\r\n",
+        ),
+        (
+            b"CHATHISTORY LATEST #a",
+            b":~ FAIL CHATHISTORY INVALID_PARAMS LATEST :Missing parameters\r\n",
+        ),
+        (
+            b"CHATHISTORY BEFORE a,b id=1 0",
+            b":~ FAIL CHATHISTORY INVALID_TARGET BEFORE :Invalid target\r\n",
+        ),
+        (
+            b"CHATHISTORY BEFORE #a * 0",
+            b":~ FAIL CHATHISTORY INVALID_MSGREFTYPE BEFORE :Invalid message reference type\r\n",
+        ),
+        (
+            b"CHATHISTORY LATEST #a * 0",
+            b":~ FAIL CHATHISTORY INVALID_PARAMS LATEST :Invalid parameters\r\n",
+        ),
+        (
+            b"CHATHISTORY After #A msgid=m1 5",
+            b":~ FAIL CHATHISTORY MESSAGE_ERROR AFTER #A :No such message\r\n",
+        ),
+        (
+            b"MARKREAD",
+            b":~ FAIL MARKREAD NEED_MORE_PARAMS :Missing parameters\r\n",
+        ),
+        (
+            b"MARKREAD a,b",
+            b":~ FAIL MARKREAD INVALID_PARAMS :Invalid parameters\r\n",
+        ),
+        (
+            b"MARKREAD #a *",
+            b":~ FAIL MARKREAD INVALID_PARAMS :Invalid parameters\r\n",
+        ),
+        (
+            b"MARKREAD #A timestamp=1970-01-01T00:00:05.000Z more",
+            b":~ MARKREAD #A *\r\n",
+        ),
+        (b"PING x", b""),
+    ];
+    let facts = facts(rt.alloc(), CapSet::all())?;
+    for (i, (line, want)) in rows.iter().enumerate() {
+        let mut out = slow_writer(rt.alloc(), 1000);
+        let answered = asked(rt.alloc(), &facts, line, &mut out)?;
+        assert!(rt; out.bytes() == *want, "at {i}");
+        let after = next_reference(4294967295, answered);
+        assert_eq!(rt; after, if i < 2 { 1 } else { 4294967295 }, "at {i}");
+    }
+    Ok(())
+}
+
+#[test]
+fn capabilities_are_looked_at_first(rt: HostRuntime) -> Result<(), Fail> {
+    let facts = facts(rt.alloc(), CapSet::none())?;
+    let mut out = slow_writer(rt.alloc(), 1000);
+    let _ = asked(rt.alloc(), &facts, b"chathistory", &mut out)?;
+    let _ = asked(rt.alloc(), &facts, b"MARKREAD a,b", &mut out)?;
+    let want = b":~ 421 al CHATHISTORY :Unknown command\r\n:~ 421 al MARKREAD :Unknown command\r\n";
+    assert!(rt; out.bytes() == want.as_slice());
+    Ok(())
 }

@@ -33,6 +33,10 @@ has_key word = has_timestamp_key word || has_msgid_key word
 abbrev pub timestamp_of : List ℕ → Option ℕ
 timestamp_of word = time_of (drop 10 word)
 
+-- the moment of a word that is `timestamp=` and a time
+abbrev pub moment_of : List ℕ → Option ℕ
+moment_of word = if has_timestamp_key word then timestamp_of word else None
+
 -- the id behind the key `msgid=`
 abbrev pub id_of : List ℕ → Option (List ℕ)
 id_of word = if is_id (drop 6 word) then Some (drop 6 word) else None

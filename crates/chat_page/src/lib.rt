@@ -22,7 +22,7 @@ pub use answer::page;
 pub use latest::latest_page;
 pub use listed_buffer::ListedBuffer;
 pub use pages::{Page, PageFault};
-pub use parameters::{QueryFault, read_query};
+pub use parameters::{QueryFault, read_moment, read_query};
 pub use query::{GivenId, Query, Selector, Target};
 pub use scope::Scope;
 

@@ -77,6 +77,18 @@ fn read_timestamp(word: &[u8]) -> Option<Moment>
     read_time(behind(10, word))
 }
 
+/// The moment of a word `timestamp=` and a time, as selectors and read markers name it (IRCv3 draft/chathistory,
+/// "CHATHISTORY", and draft/read-marker). None for every other word.
+pub fn read_moment(word: &[u8]) -> Option<Moment>
+    ensures { result ≡ spec.moment_of word.now }
+{
+    if has_timestamp_key(word) {
+        read_timestamp(word)
+    } else {
+        None
+    }
+}
+
 /// The id behind the key `msgid=`.
 fn read_id(word: &[u8]) -> Option<GivenId<'_>>
     ensures { result ≡ spec.id_of word.now }

@@ -1,0 +1,208 @@
+//! Answers to CHATHISTORY (IRCv3 draft/chathistory).
+ghost use Rattle.std.specs.Prelude.{◌≡◌, codes, map, if◌then◌else◌};
+ghost use Rattle.output.specs.Writes.{Writes};
+ghost use Rattle.chat_page.specs.Answer.{value_of};
+ghost use Rattle.chat_batch.specs.Answers as spec;
+ghost use Rattle.chat_batch.specs.Batch.{page_text};
+ghost use Rattle.chat_batch.specs.Gives.{Gives, GivesOf, IsUnwritten};
+
+use crate::answers::{AnswerFault, write_incapable};
+use crate::batch::{write_page, write_targets};
+use crate::facts::{Answered, Facts};
+use crate::reference::reference_text;
+use crate::refusal::{refuse_query, refuse_selector};
+use chat_page::{Page, PageFault, Query, QueryFault, Scope, page, read_query};
+use chat_state::State;
+use irc_caps::CapSet;
+use irc_line::Line;
+use std::alloc::Global;
+use std::io;
+use std::io::Write;
+
+/// Lets a page go.
+fn discard(page: Page<'_>) {
+    let _ = page;
+}
+
+/// Lets a query go.
+fn discard_query(query: Query<'_>) {
+    let _ = query;
+}
+
+fn put_page<W: Write>(
+    page: &Page<'_>,
+    given: &[u8],
+    caps: CapSet,
+    cluster: &[u8],
+    reference: &[u8],
+    writer: &mut W,
+) -> io::Result<()>
+    ensures { Writes W.contents writer.old writer.new result
+        (page_text caps cluster.now reference.now given.now (value_of page.now)) }
+{
+    match page {
+        Page::Records(records) => write_page(records, given, caps, cluster, reference, writer),
+        Page::Buffers(buffers) => write_targets(buffers, caps, cluster, reference, writer),
+    }
+}
+
+/// What an answer by a page is: only a session with `batch` gets the lines of a batch.
+fn page_answered(caps: CapSet) -> Answered
+    ensures { result ≡ (if caps.batch then Answered.Batch else Answered.Plain) }
+{
+    if caps.batch {
+        Answered::Batch
+    } else {
+        Answered::Plain
+    }
+}
+
+/// Answers a query by its page.
+fn write_answer<W: Write>(
+    alloc: Global,
+    facts: &Facts,
+    given: &[u8],
+    page: &Page<'_>,
+    writer: &mut W,
+) -> Result<Answered, AnswerFault>
+    ensures text { Gives W.contents writer.old writer.new result
+        (spec.page_answer facts.now given.now (value_of page.now)) }
+    ensures memory { IsUnwritten result writer.old writer.new }
+{
+    let Ok(reference) = reference_text(alloc, facts.reference) else {
+        return Err(AnswerFault::NoMemory);
+    };
+    let reference = reference.as_bytes();
+    match put_page(
+        page,
+        given,
+        facts.caps,
+        facts.cluster.as_bytes(),
+        reference,
+        writer,
+    ) {
+        Ok(()) => Ok(page_answered(facts.caps)),
+        Err(_) => Err(AnswerFault::Write),
+    }
+}
+
+/// The subcommand, as it was given.
+fn word_of<'a>(parameters: &[&'a [u8]]) -> &'a [u8]
+    ensures { result.now ≡ spec.word_of (map (λ p. p.now) parameters.now) }
+{
+    match parameters {
+        [word, ..] => word,
+        [] => b"",
+    }
+}
+
+/// The target, as it was given.
+fn given_of<'a>(parameters: &[&'a [u8]]) -> &'a [u8]
+    ensures { result.now ≡ spec.given_of (map (λ p. p.now) parameters.now) }
+{
+    match parameters {
+        [_, given, ..] => given,
+        _ => b"",
+    }
+}
+
+/// Answers a query of a session that has buffers.
+fn answer_in_scope<W: Write>(
+    alloc: Global,
+    state: &State,
+    facts: &Facts,
+    scope: &Scope<'_>,
+    parameters: &[&[u8]],
+    query: &Query<'_>,
+    writer: &mut W,
+) -> Result<Answered, AnswerFault>
+    ensures text { GivesOf W.contents writer.old writer.new result state.now.history
+        (λ changes. spec.page_or_unknown facts.now (map (λ p. p.now) parameters.now)
+        (page changes scope.now query.now)) }
+    ensures memory { IsUnwritten result writer.old writer.new }
+{
+    match page(alloc, state, scope, query) {
+        Ok(page) => {
+            let answered = write_answer(alloc, facts, given_of(parameters), &page, writer);
+            discard(page);
+            answered
+        }
+        Err(PageFault::UnknownMessage) => refuse_selector(
+            alloc,
+            facts,
+            word_of(parameters),
+            given_of(parameters),
+            writer,
+        ),
+        Err(PageFault::NoMemory) => Err(AnswerFault::NoMemory),
+    }
+}
+
+ghost use Rattle.chat_page.specs.Page.{page};
+
+/// Answers a query.
+fn answer_query<W: Write>(
+    alloc: Global,
+    state: &State,
+    facts: &Facts,
+    parameters: &[&[u8]],
+    query: &Query<'_>,
+    writer: &mut W,
+) -> Result<Answered, AnswerFault>
+    ensures text { GivesOf W.contents writer.old writer.new result state.now.history
+        (λ changes. spec.query_answer changes facts.now (map (λ p. p.now) parameters.now) query.now) }
+    ensures memory { IsUnwritten result writer.old writer.new }
+{
+    match Scope::new(
+        facts.account.as_bytes(),
+        facts.network.as_bytes(),
+        facts.maximum as usize,
+    ) {
+        Some(scope) => answer_in_scope(alloc, state, facts, &scope, parameters, query, writer),
+        None => refuse_query(alloc, facts, parameters, QueryFault::InvalidTarget, writer),
+    }
+}
+
+/// Answers a CHATHISTORY line of a session that holds its capability.
+fn answer_line<W: Write>(
+    alloc: Global,
+    state: &State,
+    facts: &Facts,
+    line: &Line<'_>,
+    writer: &mut W,
+) -> Result<Answered, AnswerFault>
+    ensures text { GivesOf W.contents writer.old writer.new result state.now.history
+        (λ changes. spec.query_or_refusal changes facts.now line.now.parameters
+        (read_query line.now.parameters)) }
+    ensures memory { IsUnwritten result writer.old writer.new }
+{
+    match read_query(line) {
+        Ok(query) => {
+            let answered = answer_query(alloc, state, facts, line.parameters(), &query, writer);
+            discard_query(query);
+            answered
+        }
+        Err(fault) => refuse_query(alloc, facts, line.parameters(), fault, writer),
+    }
+}
+
+ghost use Rattle.chat_page.specs.Parameters.{read_query};
+
+/// Answers a CHATHISTORY line.
+pub(crate) fn answer_history<W: Write>(
+    alloc: Global,
+    state: &State,
+    facts: &Facts,
+    line: &Line<'_>,
+    writer: &mut W,
+) -> Result<Answered, AnswerFault>
+    ensures text { GivesOf W.contents writer.old writer.new result state.now.history
+        (λ changes. spec.history_answer changes facts.now line.now.parameters) }
+    ensures memory { IsUnwritten result writer.old writer.new }
+{
+    if facts.caps.chathistory {
+        answer_line(alloc, state, facts, line, writer)
+    } else {
+        write_incapable(facts, b"CHATHISTORY", writer)
+    }
+}
