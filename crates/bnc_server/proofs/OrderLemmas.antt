@@ -1,85 +1,56 @@
 -- Nodes that took the same set of changes print the same.
-use Rattle.std.proofs.Common.{◌≡◌, ℕ, Bool, true, false, cond, List, [], ◌∷◌, ◌++◌, Option, None, Some, Ok, Err, refl, sym, ap, ◌∙◌, append_assoc, ⊎_elim}
+use Rattle.std.proofs.Common.{◌≡◌, List, [], ◌∷◌, ◌++◌, Ok, Err, refl, sym, ap, ◌∙◌, append_assoc, ⊎_elim}
 use Rattle.std.specs.Prelude.{codes, Contains}
 use Rattle.std.specs.List.{cons_option}
 use Rattle.std.proofs.lemmas.List.{append-nil}
 use Rattle.std.proofs.lemmas.List.Elements.{Contains-append_right, Contains-append_left, Contains-append_cases}
 use Rattle.irc_line.specs.Stream.{Item}
-use Rattle.chat_change.specs.Words.{lower_case_of}
-use Rattle.chat_change.specs.Buffer.{buffer_of}
 use Rattle.chat_change.specs.declared.change.Change.{Change}
-use Rattle.chat_history.specs.History.{norm, changes_of, mark, SameSet}
-use Rattle.chat_history.proofs.CallerLemmas.{norm_left, norm_of_set, mark-norm}
-use Rattle.chat_page.specs.declared.query.Query.TheVariants.{Latest}
-use Rattle.chat_page.specs.Page.{page_in}
-use Rattle.irc_reply.specs.Reply.{mark_text, too_long_text, unknown_text}
-use Rattle.bnc_server.specs.ClientLine.{nothing, over_long, unknown, other, latest_of, marker_of, maximum}
+use Rattle.chat_history.specs.History.{norm, changes_of, SameSet}
+use Rattle.chat_history.proofs.CallerLemmas.{norm_left, norm_of_set}
+use Rattle.irc_line.specs.Line.{Reading}
+use Rattle.irc_reply.specs.Reply.{too_long_text, unknown_text}
+use Rattle.chat_batch.specs.Reference.{after_answer}
+use Rattle.chat_batch.specs.Answers.{Answer, answer_of}
+use Rattle.chat_batch.specs.declared.facts.Facts.{Facts}
+use Rattle.chat_batch.proofs.CallerLemmas.{same_answer}
+use Rattle.bnc_server.specs.ClientLine.{nothing, over_long, unknown, other, question}
 use Rattle.bnc_server.specs.Request.{Request, of_change, of_client, request_of}
-use Rattle.bnc_server.specs.Script.{Node, Outcome, cluster, after_reference, has_buffer, answer_text, not_yet_text, latest_text, marker_text, reply_of, outcome, text_of}
+use Rattle.bnc_server.specs.Script.{Node, with_reference, outcome, text_of}
 use Rattle.bnc_server.specs.ChangeLines.{IsOfChange, AreChangeLines, TookTheSame, change_in, changes_in, node_after}
 
 -- nodes of one session that hold the same
 record Alike (n m : Node) : Type 0 where
-  account : n.account ≡ m.account
-  network : n.network ≡ m.network
-  nick : n.nick ≡ m.nick
-  reference : n.reference ≡ m.reference
+  facts : n.facts ≡ m.facts
   history : norm n.taken ≡ norm m.taken
 
-text_of_either : (b : Bool) (o p : Outcome) → (cond b o p).text ≡ cond b o.text p.text
-text_of_either true o p = refl
-text_of_either false o p = refl
-
-alike_either : (a b : Bool) (o p o' p' : Outcome) → a ≡ b → Alike o.node o'.node → Alike p.node p'.node → Alike (cond a o p).node (cond b o' p').node
-alike_either true true o p o' p' e s t = s
-alike_either true false o p o' p' e s t = cc
-alike_either false true o p o' p' e s t = cc
-alike_either false false o p o' p' e s t = t
-
 module _ (n m : Node) (s : Alike n m) where
-  has_alike : (given : List ℕ) → has_buffer n.account n.network given ≡ has_buffer m.account m.network given
-  has_alike given i = has_buffer (s.account i) (s.network i) given
-
-  latest_alike : (given : List ℕ) (limit : ℕ) → latest_text n given limit ≡ latest_text m given limit
-  latest_alike given limit i =
-      answer_text (s.reference i) given
-      (page_in (s.history i) (record { account = s.account i; network = s.network i; maximum = maximum }) (Latest (lower_case_of given) None limit))
-
-  marker_alike : (given : List ℕ) → marker_text n given ≡ marker_text m given
-  marker_alike given =
-      ap (mark_text cluster given)
-      (sym (mark-norm n.taken (buffer_of n.account n.network given)) ∙ (λ i. mark (changes_of (s.history i)) (buffer_of (s.account i) (s.network i) given))
-      ∙ mark-norm m.taken (buffer_of m.account m.network given))
+  answer_alike : (line : Reading) → answer_of n.taken n.facts line ≡ answer_of m.taken m.facts line
+  answer_alike line = same_answer n.taken m.taken s.history n.facts line ∙ ap (λ f. answer_of m.taken f line) s.facts
 
   text_alike : (a : Request) → (outcome n a).text ≡ (outcome m a).text
   text_alike (of_change (Ok change)) = refl
   text_alike (of_change (Err refusal)) = refl
   text_alike (of_client nothing) = refl
-  text_alike (of_client over_long) = ap (too_long_text cluster) s.nick
-  text_alike (of_client unknown) = ap (λ nick. unknown_text cluster nick (codes "*")) s.nick
+  text_alike (of_client over_long) = ap (λ (f : Facts). too_long_text f.cluster f.nick) s.facts
+  text_alike (of_client unknown) = ap (λ (f : Facts). unknown_text f.cluster f.nick (codes "*")) s.facts
   text_alike (of_client other) = refl
-  text_alike (of_client (latest_of given limit)) =
-      text_of_either (has_buffer n.account n.network given) _ _ ∙ (λ i. cond (has_alike given i) (latest_alike given limit i) not_yet_text)
-      ∙ sym (text_of_either (has_buffer m.account m.network given) _ _)
-  text_alike (of_client (marker_of given)) =
-      text_of_either (has_buffer n.account n.network given) _ _ ∙ (λ i. cond (has_alike given i) (marker_alike given i) not_yet_text)
-      ∙ sym (text_of_either (has_buffer m.account m.network given) _ _)
+  text_alike (of_client (question line)) = ap (λ (a : Answer). a.text) (answer_alike line)
 
   took_alike : (change : Change) → norm (n.taken ++ change ∷ []) ≡ norm (m.taken ++ change ∷ [])
   took_alike change = sym (norm_left n.taken (change ∷ [])) ∙ ap (λ h. norm (changes_of h ++ change ∷ [])) s.history ∙ norm_left m.taken (change ∷ [])
 
   node_alike : (a : Request) → Alike (outcome n a).node (outcome m a).node
-  node_alike (of_change (Ok change)) = record { account = s.account; network = s.network; nick = s.nick; reference = s.reference; history = took_alike change }
+  node_alike (of_change (Ok change)) = record { facts = s.facts; history = took_alike change }
   node_alike (of_change (Err refusal)) = s
   node_alike (of_client nothing) = s
   node_alike (of_client over_long) = s
   node_alike (of_client unknown) = s
   node_alike (of_client other) = s
-  node_alike (of_client (latest_of given limit)) =
-      alike_either (has_buffer n.account n.network given) (has_buffer m.account m.network given) _ _ _ _ (has_alike given)
-      (record { account = s.account; network = s.network; nick = s.nick; reference = ap after_reference s.reference; history = s.history }) s
-  node_alike (of_client (marker_of given)) =
-      alike_either (has_buffer n.account n.network given) (has_buffer m.account m.network given) _ _ _ _ (has_alike given) s s
+  node_alike (of_client (question line)) = record {
+    facts = λ i. with_reference (s.facts i) (after_answer (answer_alike line i).answered (s.facts i).reference);
+    history = s.history;
+  }
 
 printed_alike : (items : List Item) (n m : Node) → Alike n m → text_of n items ≡ text_of m items
 printed_alike [] n m s = refl
@@ -89,7 +60,7 @@ printed_alike (item ∷ items) n m s =
 pub same_printed : (one two : Node) (items : List Item) → TookTheSame one two → text_of one items ≡ text_of two items
 same_printed one two items s =
     printed_alike items one two
-    (record { account = s.account; network = s.network; nick = s.nick; reference = s.reference; history = norm_of_set one.taken two.taken s.taken })
+    (record { facts = s.facts; history = norm_of_set one.taken two.taken s.taken })
 
 pub text_of-append : (node : Node) (before items : List Item) → text_of node (before ++ items) ≡ text_of node before ++ text_of (node_after node before) items
 text_of-append node [] items = refl
@@ -126,5 +97,5 @@ pub same_after : (node : Node) (one two items : List Item) → AreChangeLines on
 same_after node one two items p q s =
     ap (λ n. text_of n items) (after_changes node one p)
     ∙ same_printed (with_more node (changes_in one)) (with_more node (changes_in two)) items
-    (record { account = refl; network = refl; nick = refl; reference = refl; taken = same_behind node.taken (changes_in one) (changes_in two) s })
+    (record { facts = refl; taken = same_behind node.taken (changes_in one) (changes_in two) s })
     ∙ ap (λ n. text_of n items) (sym (after_changes node two q))

@@ -1,5 +1,5 @@
 -- What a line asks for, by its first words.
-use Rattle.std.proofs.Common.{◌≡◌, ℕ, Bool, true, false, List, sym, ap, ◌∙◌}
+use Rattle.std.proofs.Common.{◌≡◌, ℕ, true, false, List, sym, ap, ◌∙◌}
 use Rattle.std.proofs.lemmas.Bool.{cond-true, cond-false}
 use Rattle.bnc_server.specs.Words.{begins_with, word, behind}
 use Rattle.bnc_server.specs.ChangeLine.{read_change}

@@ -1,5 +1,5 @@
 -- What the code's fault of a line stands for.
-use Rattle.std.specs.Prelude.{◌≡◌, ⊤, Bool, true, false, Result, Err}
+use Rattle.std.specs.Prelude.{◌≡◌, ⊤, Bool, false, Result, Err}
 use Rattle.chat_change.specs.declared.change.Change.{Change}
 use Rattle.chat_change.specs.declared.faults.ChangeFault as maker
 use Rattle.chat_change.specs.declared.faults.ChangeFault.TheVariants as made
@@ -28,13 +28,3 @@ line_fault made.BadSource = BadField
 line_fault made.BadBody = BadField
 line_fault made.LineTooLong = BadField
 line_fault made.NoMemory = NoMemory
-
--- whether it was memory that a maker wanted
-abbrev pub is_want_of_memory : maker.ChangeFault → Bool
-is_want_of_memory made.BadName = false
-is_want_of_memory made.BadTarget = false
-is_want_of_memory made.BadId = false
-is_want_of_memory made.BadSource = false
-is_want_of_memory made.BadBody = false
-is_want_of_memory made.LineTooLong = false
-is_want_of_memory made.NoMemory = true

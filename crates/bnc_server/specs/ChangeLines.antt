@@ -31,8 +31,5 @@ node_after node (item ∷ items) = node_after (outcome node (request_of item)).n
 
 -- two nodes of one session took the same set of changes, whatever their order and repeats
 pub record TookTheSame (one other : Node) : Type 0 where
-  pub account : one.account ≡ other.account
-  pub network : one.network ≡ other.network
-  pub nick : one.nick ≡ other.nick
-  pub reference : one.reference ≡ other.reference
+  pub facts : one.facts ≡ other.facts
   pub taken : SameSet one.taken other.taken

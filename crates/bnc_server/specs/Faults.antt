@@ -6,7 +6,7 @@ use Rattle.chat_change.specs.declared.change.Change.{Change}
 use Rattle.chat_history.specs.StateValue.{IsPastTheLast}
 use Rattle.bnc_server.specs.declared.fault.ReplayFault.{ReplayFault}
 use Rattle.bnc_server.specs.declared.fault.ReplayFault.TheVariants.{NoMemory, Read, Write}
-use Rattle.bnc_server.specs.ClientLine.{nothing, over_long, unknown, other, latest_of, marker_of}
+use Rattle.bnc_server.specs.ClientLine.{nothing, over_long, unknown, other, question}
 use Rattle.bnc_server.specs.Request.{Request, of_change, of_client}
 use Rattle.bnc_server.specs.HeldNode.{HeldNode}
 
@@ -29,5 +29,4 @@ MayEnd held (of_client nothing) fault = ⊥
 MayEnd held (of_client over_long) fault = fault ≡ Write
 MayEnd held (of_client unknown) fault = fault ≡ Write
 MayEnd held (of_client other) fault = fault ≡ Write
-MayEnd held (of_client (latest_of given limit)) fault = fault ≢ Read
-MayEnd held (of_client (marker_of given)) fault = fault ≢ Read
+MayEnd held (of_client (question line)) fault = fault ≢ Read

@@ -2,25 +2,17 @@
 use Rattle.std.specs.Prelude.{◌≡◌, ℕ, List, Option, Result, OnOk}
 use Rattle.output.specs.Writes.{WritesKnown}
 use Rattle.chat_history.specs.StateValue.{StateValue, state_after}
+use Rattle.chat_batch.specs.declared.facts.Facts.{Facts}
 use Rattle.bnc_server.specs.Request.{Request}
 use Rattle.bnc_server.specs.Script.{Node, outcome}
 
 pub record HeldNode : Type 0 where
-  pub account : List ℕ
-  pub network : List ℕ
-  pub nick : List ℕ
+  pub facts : Facts
   pub state : StateValue
-  pub reference : ℕ
 
 -- what a node holds
 abbrev pub held_node : Node → HeldNode
-held_node node = record {
-  account = node.account;
-  network = node.network;
-  nick = node.nick;
-  state = state_after 0 node.taken;
-  reference = node.reference;
-}
+held_node node = record { facts = node.facts; state = state_after 0 node.taken }
 
 -- a call writes a text of each node of a script that holds this
 abbrev pub WritesOf : {W T E : Type 0}

@@ -1,5 +1,5 @@
 -- Decimal numbers.
-use Rattle.std.specs.Prelude.{ℕ, ◌+◌, ◌*◌, ◌-◌, Bool, not, ◌&&◌, nat_lt, nat_le, min, List, [], ◌∷◌, length, Option, None, Some, if◌then◌else◌}
+use Rattle.std.specs.Prelude.{ℕ, ◌+◌, ◌*◌, ◌-◌, Bool, not, ◌&&◌, nat_lt, nat_le, List, [], ◌∷◌, length, Option, None, Some, if◌then◌else◌}
 use Rattle.std.specs.List.{list_all}
 use Rattle.bnc_server.specs.Words.{begins_with}
 
@@ -28,8 +28,3 @@ number_to most text =
     if is_digits text && not (has_leading_zero text) && nat_le (value text) most
     then Some (value text)
     else None
-
--- the limit that a text spells: digits of a value above 0, which counts as `most` where it is above that
-abbrev pub limit_to : ℕ → List ℕ → Option ℕ
-limit_to most text =
-    if is_digits text && nat_lt 0 (value text) then Some (min most (value text)) else None

@@ -2,12 +2,10 @@
 ghost use Rattle.std.specs.Prelude.{◌≡◌, map};
 ghost use Rattle.bnc_server.specs.ClientLine as spec;
 
-use crate::number::limit_to;
-use crate::words::is_text;
-use irc_line::{LineFault, TagLimit, read_line};
+use irc_line::{Line, LineFault, TagLimit, read_line};
 
-/// What a client's line asks for. Targets stand as they were given.
-#[derive(Clone, Copy)]
+/// What a client's line asks for.
+#[derive(Drop)]
 pub(crate) enum ClientLine<'a> {
     /// Nothing: the line is empty.
     Nothing,
@@ -17,62 +15,33 @@ pub(crate) enum ClientLine<'a> {
     Unknown,
     /// What isn't served yet.
     Other,
-    /// The latest records of a target.
-    Latest { given: &'a [u8], limit: u64 },
-    /// The read marker of a target.
-    Marker { given: &'a [u8] },
+    /// A question about the past: CHATHISTORY, or a MARKREAD that doesn't set a marker.
+    Question(Line<'a>),
 }
 
-/// The greatest limit of a page.
-const MAXIMUM: u64 = 100;
-
-fn latest_to<'a>(given: &'a [u8], limit: Option<u64>) -> ClientLine<'a>
-    ensures { spec.value_of result ≡ spec.latest_to given.now limit }
+/// Whether there is a second parameter.
+fn has_second(parameters: &[&[u8]]) -> bool
+    ensures { result ≡ spec.has_second (map (λ p. p.now) parameters.now) }
 {
-    match limit {
-        None => ClientLine::Other,
-        Some(limit) => ClientLine::Latest { given, limit },
+    match parameters {
+        [_, _, ..] => true,
+        _ => false,
     }
 }
 
-fn is_latest(sub: &[u8], star: &[u8]) -> bool
-    ensures { result ≡ spec.is_latest sub.now star.now }
+fn is_question(line: &Line<'_>) -> bool
+    ensures { result ≡ spec.is_question line.now }
 {
-    sub.eq_ignore_ascii_case(b"LATEST") && is_text(star, b"*")
+    let command = line.command();
+    command.eq_ignore_ascii_case(b"CHATHISTORY")
+        || command.eq_ignore_ascii_case(b"MARKREAD") && !has_second(line.parameters())
 }
 
-fn history<'a>(parameters: &[&'a [u8]]) -> ClientLine<'a>
-    ensures { spec.value_of result ≡ spec.of_history (map (λ p. p.now) parameters.now) }
+fn of_line<'a>(line: Line<'a>) -> ClientLine<'a>
+    ensures { spec.value_of result ≡ spec.of_line line.entry }
 {
-    if parameters.len() < 4 {
-        return ClientLine::Other;
-    }
-    if is_latest(parameters[0], parameters[2]) {
-        latest_to(parameters[1], limit_to(MAXIMUM, parameters[3]))
-    } else {
-        ClientLine::Other
-    }
-}
-
-fn marker<'a>(parameters: &[&'a [u8]]) -> ClientLine<'a>
-    ensures { spec.value_of result ≡ spec.of_marker (map (λ p. p.now) parameters.now) }
-{
-    if parameters.len() == 1 {
-        ClientLine::Marker {
-            given: parameters[0],
-        }
-    } else {
-        ClientLine::Other
-    }
-}
-
-fn command<'a>(command: &[u8], parameters: &[&'a [u8]]) -> ClientLine<'a>
-    ensures { spec.value_of result ≡ spec.of_command command.now (map (λ p. p.now) parameters.now) }
-{
-    if command.eq_ignore_ascii_case(b"CHATHISTORY") {
-        history(parameters)
-    } else if command.eq_ignore_ascii_case(b"MARKREAD") {
-        marker(parameters)
+    if is_question(&line) {
+        ClientLine::Question(line)
     } else {
         ClientLine::Other
     }
@@ -89,6 +58,6 @@ pub(crate) fn client_line<'a>(bytes: &'a [u8]) -> ClientLine<'a>
         Err(LineFault::TooLong) => ClientLine::OverLong,
         Err(LineFault::BadByte) => ClientLine::Unknown,
         Err(LineFault::NoCommand) => ClientLine::Unknown,
-        Ok(line) => command(line.command(), line.parameters()),
+        Ok(line) => of_line(line),
     }
 }

@@ -1,25 +1,24 @@
 //! A node with its session: what it holds, and how it answers.
-ghost use Rattle.std.specs.Prelude.{◌≡◌, ◌≢◌, Some, None, Ok, IfOk, IfErr, if◌then◌else◌, string_bytes};
-ghost use Rattle.chat_change.specs.Buffer.{buffer_of};
+ghost use Rattle.std.specs.Prelude.{◌≡◌, Ok, IfOk, IfErr};
 ghost use Rattle.bnc_server.specs.Words.{word, behind};
 ghost use Rattle.bnc_server.specs.ChangeLine as line;
-ghost use Rattle.bnc_server.specs.ChangeLineFault.{is_want_of_memory};
 ghost use Rattle.bnc_server.specs.ClientLine as client;
 ghost use Rattle.bnc_server.specs.Request.{request_in, request_in_change_line, is_change_line, is_later_kind, of_change, of_client};
 ghost use Rattle.bnc_server.specs.Script as spec;
-ghost use Rattle.bnc_server.specs.HeldNode.{held_node, WritesOf, Prints, Becomes};
+ghost use Rattle.bnc_server.specs.HeldNode.{held_node, Prints, Becomes};
 ghost use Rattle.bnc_server.specs.Faults.{of_state, MayRefuse, MayEnd};
 
 use crate::change_line::{ChangeLineFault, read_change};
 use crate::client_line::{ClientLine, client_line};
 use crate::fault::ReplayFault;
-use crate::reply::{
-    put_bad_field, put_bad_form, put_marker, put_not_yet, put_page, put_too_long, put_unknown,
-};
-use crate::words::{Text, begins_with, is_text, split_word};
-use chat_change::{Buffer, Change, ChangeFault};
-use chat_page::latest_page;
+use crate::reply::{put_bad_field, put_bad_form, put_not_yet, put_too_long, put_unknown};
+use crate::words::{begins_with, is_text, split_word};
+use chat_batch::{AnswerFault, Facts, answer, next_reference};
+use chat_change::Change;
 use chat_state::{State, StateFault};
+use irc_caps::CapSet;
+use irc_line::Line;
+use memory::Text;
 use std::alloc::{AllocError, Global};
 use std::io::Write;
 use std::marker::Model;
@@ -27,12 +26,8 @@ use std::marker::Model;
 /// A node with its session.
 #[derive(Drop)]
 pub(crate) struct Node {
-    account: Text,
-    network: Text,
-    nick: Text,
+    facts: Facts,
     state: State,
-    // The number of the next batch.
-    reference: u32,
 }
 
 impl Model for Node {
@@ -44,26 +39,23 @@ impl Model for Node {
 
     ghost coded = { Prim.hlevel (codes, coded_state) };
 
-    ghost view = { λ n. record {
-      account = n.account;
-      network = n.network;
-      nick = n.nick;
-      state = n.state;
-      reference = n.reference;
-    } };
+    ghost view = { λ n. record { facts = n.facts; state = n.state } };
 }
 
-// The text of a batch's number.
-fn reference_text(alloc: Global, n: u32) -> Result<String, AllocError>
-    ensures { IfOk result (λ text. string_bytes text ≡ spec.reference_text n) }
+// The facts of a session that holds all capabilities.
+fn facts_of(alloc: Global, account: &[u8], network: &[u8], nick: &[u8]) -> Result<Facts, AllocError>
+    ensures { IfOk result
+        (λ facts. facts ≡ spec.facts_of account.now network.now nick.now) }
 {
-    format!(in alloc; "r{n}")
-}
-
-fn after_reference(n: u32) -> u32
-    ensures { result ≡ spec.after_reference n }
-{
-    if n == u32::MAX { 1 } else { n + 1 }
+    Ok(Facts {
+        account: Text::new(alloc, account)?,
+        network: Text::new(alloc, network)?,
+        nick: Text::new(alloc, nick)?,
+        caps: CapSet::all(),
+        reference: 1,
+        cluster: Text::new(alloc, b"bnc.example")?,
+        maximum: 100,
+    })
 }
 
 fn is_change_line(text: &[u8]) -> bool
@@ -87,20 +79,6 @@ fn second_word(text: &[u8]) -> &[u8]
     second
 }
 
-fn is_want_of_memory(fault: ChangeFault) -> bool
-    ensures { result ≡ is_want_of_memory fault }
-{
-    match fault {
-        ChangeFault::BadName => false,
-        ChangeFault::BadTarget => false,
-        ChangeFault::BadId => false,
-        ChangeFault::BadSource => false,
-        ChangeFault::BadBody => false,
-        ChangeFault::LineTooLong => false,
-        ChangeFault::NoMemory => true,
-    }
-}
-
 fn state_fault(fault: StateFault) -> ReplayFault
     ensures { result ≡ of_state fault }
 {
@@ -120,40 +98,10 @@ impl Node {
         ensures { IfOk result
             (λ node. node ≡ held_node (spec.start account.now network.now nick.now)) }
     {
-        let account = Text::new(alloc, account)?;
-        let network = Text::new(alloc, network)?;
-        let nick = Text::new(alloc, nick)?;
         Ok(Node {
-            account,
-            network,
-            nick,
+            facts: facts_of(alloc, account, network, nick)?,
             state: State::new(alloc),
-            reference: 1,
         })
-    }
-
-    // The buffer of a target, if it is a lawful one.
-    fn buffer(&self, alloc: Global, given: &[u8]) -> Result<Option<Buffer>, ReplayFault>
-        ensures found { IfOk result
-            (λ found. found ≡ (if spec.has_buffer self.now.account self.now.network given.now
-            then Some (buffer_of self.now.account self.now.network given.now) else None)) }
-        ensures fault { IfErr result (λ fault. fault ≡ ReplayFault.NoMemory) }
-    {
-        match Buffer::new(
-            alloc,
-            self.account.as_bytes(),
-            self.network.as_bytes(),
-            given,
-        ) {
-            Ok(buffer) => Ok(Some(buffer)),
-            Err(fault) => {
-                if is_want_of_memory(fault) {
-                    Err(ReplayFault::NoMemory)
-                } else {
-                    Ok(None)
-                }
-            }
-        }
     }
 
     fn take(&mut self, change: Change) -> Result<(), ReplayFault>
@@ -185,69 +133,25 @@ impl Node {
         }
     }
 
-    // Writes the page of a buffer.
-    fn put_latest<W: Write>(
-        &self,
-        alloc: Global,
-        buffer: &Buffer,
-        given: &[u8],
-        limit: u64,
-        writer: &mut W,
-    ) -> Result<(), ReplayFault>
-        requires { buffer.now ≡ buffer_of self.now.account self.now.network given.now }
-        ensures text { WritesOf W.contents writer.old writer.new result self.now
-            (λ node. spec.latest_text node given.now limit) }
-        ensures fault { IfErr result (λ fault. fault ≢ ReplayFault.Read) }
-    {
-        let Ok(reference) = reference_text(alloc, self.reference) else {
-            return Err(ReplayFault::NoMemory);
-        };
-        let n = limit.min(100) as usize;
-        let Ok(records) = latest_page(alloc, &self.state, buffer, n) else {
-            return Err(ReplayFault::NoMemory);
-        };
-        put_page(&records, given, reference.as_bytes(), writer)
-    }
-
-    fn answer_latest<W: Write>(
+    // Answers a question about the past.
+    fn answer_question<W: Write>(
         &mut self,
         alloc: Global,
-        given: &[u8],
-        limit: u64,
+        line: &Line<'_>,
         writer: &mut W,
     ) -> Result<(), ReplayFault>
         ensures text { Prints W.contents writer.old writer.new result self.old
-            (of_client (client.latest_of given.now limit)) }
-        ensures node { Becomes result self.old
-            (of_client (client.latest_of given.now limit)) self.new }
-        ensures fault { IfErr result
-            (MayEnd self.old (of_client (client.latest_of given.now limit))) }
+            (of_client (client.question line.now)) }
+        ensures node { Becomes result self.old (of_client (client.question line.now)) self.new }
+        ensures fault { IfErr result (MayEnd self.old (of_client (client.question line.now))) }
     {
-        match self.buffer(alloc, given) {
-            Err(fault) => Err(fault),
-            Ok(None) => put_not_yet(writer),
-            Ok(Some(buffer)) => {
-                self.put_latest(alloc, &buffer, given, limit, writer)?;
-                self.reference = after_reference(self.reference);
+        match answer(alloc, &self.state, &self.facts, line, writer) {
+            Ok(answered) => {
+                self.facts.reference = next_reference(self.facts.reference, answered);
                 Ok(())
             }
-        }
-    }
-
-    fn answer_marker<W: Write>(
-        &self,
-        alloc: Global,
-        given: &[u8],
-        writer: &mut W,
-    ) -> Result<(), ReplayFault>
-        ensures text { Prints W.contents writer.old writer.new result self.now
-            (of_client (client.marker_of given.now)) }
-        ensures fault { IfErr result (MayEnd self.now (of_client (client.marker_of given.now))) }
-    {
-        match self.buffer(alloc, given) {
-            Err(fault) => Err(fault),
-            Ok(None) => put_not_yet(writer),
-            Ok(Some(buffer)) => put_marker(writer, given, self.state.mark(&buffer)),
+            Err(AnswerFault::NoMemory) => Err(ReplayFault::NoMemory),
+            Err(AnswerFault::Write) => Err(ReplayFault::Write),
         }
     }
 
@@ -257,7 +161,7 @@ impl Node {
             (of_client client.over_long) }
         ensures fault { IfErr result (MayEnd self.now (of_client client.over_long)) }
     {
-        put_too_long(writer, self.nick.as_bytes())
+        put_too_long(writer, &self.facts)
     }
 
     fn serve_client<W: Write>(
@@ -273,11 +177,10 @@ impl Node {
     {
         match client_line(text) {
             ClientLine::Nothing => Ok(()),
-            ClientLine::OverLong => put_too_long(writer, self.nick.as_bytes()),
-            ClientLine::Unknown => put_unknown(writer, self.nick.as_bytes()),
+            ClientLine::OverLong => put_too_long(writer, &self.facts),
+            ClientLine::Unknown => put_unknown(writer, &self.facts),
             ClientLine::Other => put_not_yet(writer),
-            ClientLine::Latest { given, limit } => self.answer_latest(alloc, given, limit, writer),
-            ClientLine::Marker { given } => self.answer_marker(alloc, given, writer),
+            ClientLine::Question(line) => self.answer_question(alloc, &line, writer),
         }
     }
 

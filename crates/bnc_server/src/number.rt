@@ -1,5 +1,5 @@
 //! Decimal numbers in lines.
-ghost use Rattle.std.specs.Prelude.{◌≡◌, ◌≤◌, ◌<◌, ◌-◌, min};
+ghost use Rattle.std.specs.Prelude.{◌≡◌, ◌≤◌, ◌-◌, min};
 ghost use Rattle.std.specs.List.{list_all};
 ghost use Rattle.bnc_server.specs.Number as spec;
 
@@ -59,17 +59,4 @@ pub(crate) fn number_to(most: u64, text: &[u8]) -> Option<u64>
     }
     let n = value_to(most + 1, text);
     if n <= most { Some(n) } else { None }
-}
-
-/// The limit that the text spells, at most `most`.
-pub(crate) fn limit_to(most: u64, text: &[u8]) -> Option<u64>
-    requires bound { most ≤ 1000000000000000 }
-    requires some { 0 < most }
-    ensures { result ≡ spec.limit_to most text.now }
-{
-    if !is_digits(text) {
-        return None;
-    }
-    let n = value_to(most, text);
-    if n > 0 { Some(n) } else { None }
 }

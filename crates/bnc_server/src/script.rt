@@ -143,8 +143,8 @@ pub(crate) fn replay_within<In: Read, Out: Write>(
 ///
 /// - `C POST account network target id ms P|N target source :body` and `C MARK account network target ms` are taken, and
 ///   answered `% BadForm` or `% BadField` where they spell no post and no marker;
-/// - `CHATHISTORY LATEST target * limit` (IRCv3 draft/chathistory) is answered by the target's last messages as a batch;
-/// - `MARKREAD target` (IRCv3 draft/read-marker) is answered by the target's marker;
+/// - CHATHISTORY (IRCv3 draft/chathistory), and MARKREAD (IRCv3 draft/read-marker) with one parameter or none, are answered
+///   as `chat_batch::answer` answers them, to a session that holds all capabilities;
 /// - an empty line is answered by nothing, a line or tags of too many bytes by numeric 417, a line with no command by
 ///   numeric 421, and every other line by `% NotYet`.
 ///

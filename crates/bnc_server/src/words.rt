@@ -1,10 +1,8 @@
 //! The words of a line.
-ghost use Rattle.std.specs.Prelude.{◌≡◌, IfOk, List, ℕ};
+ghost use Rattle.std.specs.Prelude.{◌≡◌};
 ghost use Rattle.bnc_server.specs.Words as spec;
 
 use byte_search::find_byte;
-use std::alloc::{AllocError, Global};
-use std::marker::Model;
 
 /// Whether the text is that word, byte for byte.
 pub(crate) fn is_text(text: &[u8], word: &[u8]) -> bool
@@ -28,33 +26,5 @@ pub(crate) fn split_word(bytes: &[u8]) -> (&[u8], &[u8])
     match find_byte(bytes, b' ') {
         Some(at) => (&bytes[..at], &bytes[at + 1..]),
         None => (bytes, &bytes[bytes.len()..]),
-    }
-}
-
-/// Bytes of one's own, as contracts see them their list.
-#[derive(Drop)]
-pub(crate) struct Text {
-    bytes: Vec<u8>,
-}
-
-impl Model for Text {
-    ghost Value = { List ℕ };
-
-    ghost view = { λ t. t.bytes.items };
-}
-
-impl Text {
-    pub(crate) fn new(alloc: Global, bytes: &[u8]) -> Result<Text, AllocError>
-        ensures { IfOk result (λ text. text ≡ bytes.now) }
-    {
-        let mut copied = Vec::new(alloc);
-        copied.extend_from_slice(bytes)?;
-        Ok(Text { bytes: copied })
-    }
-
-    pub(crate) fn as_bytes(&self) -> &[u8]
-        ensures { result.now ≡ self.now }
-    {
-        &self.bytes
     }
 }

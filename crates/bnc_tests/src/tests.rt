@@ -52,7 +52,7 @@ fn pages_are_printed(rt: HostRuntime) {
 
 #[test]
 fn other_lines_are_answered(rt: HostRuntime) {
-    let rows: [(&[u8], &[u8]); 9] = [
+    let rows: [(&[u8], &[u8]); 10] = [
         // The form of a change, and then its fields.
         (
             b"C POST demo net #A m1 1000 P #a bob!b@h :hi\n",
@@ -72,12 +72,17 @@ fn other_lines_are_answered(rt: HostRuntime) {
         ),
         // What isn't served yet.
         (
-            b"C REDACT demo net #a m1 *\nC FLOOR demo net #a 1\n%2\n%0\n% x\nPRIVMSG #a :hi\nMARKREAD #a *\nMARKREAD a,b\nMARKREAD\n",
-            b"% NotYet\r\n% NotYet\r\n% NotYet\r\n% NotYet\r\n% NotYet\r\n% NotYet\r\n% NotYet\r\n% NotYet\r\n% NotYet\r\n",
+            b"C REDACT demo net #a m1 *\nC FLOOR demo net #a 1\n%2\n%0\n% x\nPRIVMSG #a :hi\nMARKREAD #a *\n",
+            b"% NotYet\r\n% NotYet\r\n% NotYet\r\n% NotYet\r\n% NotYet\r\n% NotYet\r\n% NotYet\r\n",
+        ),
+        // Questions that are refused.
+        (
+            b"CHATHISTORY\nCHATHISTORY NEXT #a * 5\nCHATHISTORY LATEST #a\nCHATHISTORY BEFORE a,b id=1 0\nCHATHISTORY BEFORE #a * 0\n",
+            b":bnc.example FAIL CHATHISTORY INVALID_PARAMS :Missing parameters\r\n:bnc.example FAIL CHATHISTORY INVALID_PARAMS NEXT :Unknown command\r\n:bnc.example FAIL CHATHISTORY INVALID_PARAMS LATEST :Missing parameters\r\n:bnc.example FAIL CHATHISTORY INVALID_TARGET BEFORE :Invalid target\r\n:bnc.example FAIL CHATHISTORY INVALID_MSGREFTYPE BEFORE :Invalid message reference type\r\n",
         ),
         (
-            b"CHATHISTORY LATEST #a * 0\nCHATHISTORY LATEST #a * x\nCHATHISTORY LATEST #a *\nCHATHISTORY LATEST * * 5\nCHATHISTORY BEFORE #a msgid=m1 5\n",
-            b"% NotYet\r\n% NotYet\r\n% NotYet\r\n% NotYet\r\n% NotYet\r\n",
+            b"MARKREAD a,b\nMARKREAD\n",
+            b":bnc.example FAIL MARKREAD INVALID_PARAMS :Invalid parameters\r\n:bnc.example FAIL MARKREAD NEED_MORE_PARAMS :Missing parameters\r\n",
         ),
         // Empty lines, lines with no command, and a NUL.
         (

@@ -8,8 +8,8 @@ use Rattle.output.proofs.CallerLemmas.{prefix_none}
 use Rattle.irc_reply.specs.Reply.{fail_text, mark_text}
 use Rattle.chat_change.specs.Buffer.{Buffer, buffer_of}
 use Rattle.chat_change.specs.declared.change.Change.{Change}
-use Rattle.chat_state.specs.History.{norm, changes_of, mark}
-use Rattle.chat_state.proofs.CallerLemmas.{mark-norm}
+use Rattle.chat_history.specs.History.{norm, changes_of, mark}
+use Rattle.chat_history.proofs.CallerLemmas.{mark-norm}
 use Rattle.chat_page.specs.Parameters.{read_query}
 use Rattle.chat_page.specs.Page.{page_in}
 use Rattle.chat_page.specs.declared.query.Query.{Query}

@@ -9,7 +9,7 @@ use Rattle.irc_reply.specs.Reply.{fail_text, mark_text, unknown_text}
 use Rattle.chat_change.specs.Words.{is_name, is_target}
 use Rattle.chat_change.specs.Buffer.{buffer_of}
 use Rattle.chat_change.specs.declared.change.Change.{Change}
-use Rattle.chat_state.specs.History.{mark}
+use Rattle.chat_history.specs.History.{mark}
 use Rattle.chat_page.specs.Scope.{Scope}
 use Rattle.chat_page.specs.Parameters.{read_query, moment_of}
 use Rattle.chat_page.specs.Page.{Page, page}

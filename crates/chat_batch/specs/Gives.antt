@@ -3,7 +3,7 @@ use Rattle.std.specs.Prelude.{◌≡◌, ⊤, ℕ, List, Option, Result, Ok, Err
 use Rattle.std.specs.Io.KnownBytes.{Appends}
 use Rattle.output.specs.Writes.{AppendsPrefix}
 use Rattle.chat_change.specs.declared.change.Change.{Change}
-use Rattle.chat_state.specs.History.{History, norm}
+use Rattle.chat_history.specs.History.{History, norm}
 use Rattle.chat_batch.specs.Answers.{Answer}
 use Rattle.chat_batch.specs.declared.facts.Answered.{Answered}
 use Rattle.chat_batch.specs.declared.answers.AnswerFault.{AnswerFault}

@@ -2,7 +2,7 @@
 ghost use Rattle.std.specs.Prelude.{◌≡◌, Err, List, IfOk, codes};
 ghost use Rattle.output.specs.Writes.{Writes};
 ghost use Rattle.chat_change.specs.declared.change.Change.{Change};
-ghost use Rattle.chat_state.specs.History.{norm};
+ghost use Rattle.chat_history.specs.History.{norm};
 ghost use Rattle.chat_batch.specs.Answers as spec;
 ghost use Rattle.chat_batch.specs.Gives.{Gives, IsUnwritten};
 

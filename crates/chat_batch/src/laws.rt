@@ -2,7 +2,7 @@
 ghost use Rattle.std.specs.Prelude.{◌≡◌, List};
 ghost use Rattle.irc_line.specs.Line.{Reading};
 ghost use Rattle.chat_change.specs.declared.change.Change.{Change};
-ghost use Rattle.chat_state.specs.History.{norm, changes_of};
+ghost use Rattle.chat_history.specs.History.{norm, changes_of};
 ghost use Rattle.chat_batch.specs.declared.facts.Facts.{Facts};
 ghost use Rattle.chat_batch.specs.Answers.{answer_of};
 

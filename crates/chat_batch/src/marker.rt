@@ -70,7 +70,7 @@ fn marker_of(
 
 ghost use Rattle.std.specs.Prelude.{List, true};
 ghost use Rattle.chat_change.specs.declared.change.Change.{Change};
-ghost use Rattle.chat_state.specs.History.{norm, mark};
+ghost use Rattle.chat_history.specs.History.{norm, mark};
 
 /// Answers the marker of a target.
 fn write_marker<W: Write>(

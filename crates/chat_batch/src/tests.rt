@@ -5,7 +5,7 @@ use super::{
     Answered, Facts, ListedBuffer, answer, next_reference, write_live, write_page, write_targets,
     write_unknown,
 };
-use chat_change::{Buffer, ChangeFault, Kind, Message, Moment, MsgId, Record};
+use chat_change::{Buffer, Change, ChangeFault, Kind, Message, Moment, MsgId, Record};
 use chat_state::State;
 use irc_caps::CapSet;
 use irc_line::{TagLimit, read_line};
@@ -141,7 +141,7 @@ fn facts(alloc: Global, caps: CapSet) -> Result<Facts, AllocError> {
 /// What is answered from nothing that was taken.
 fn asked(alloc: Global, facts: &Facts, text: &[u8], out: &mut Sink<'_>) -> Result<Answered, Fail> {
     let line = read_line(text, TagLimit::Client)?;
-    let answered = answer(alloc, &State::new(alloc), facts, &line, out)?;
+    let answered = answer(alloc, state, facts, &line, out)?;
     Ok(answered)
 }
 
@@ -202,10 +202,11 @@ fn questions_are_answered(rt: HostRuntime) -> Result<(), Fail> {
         ),
         (b"PING x", b""),
     ];
+    let state = State::new(rt.alloc());
     let facts = facts(rt.alloc(), CapSet::all())?;
     for (i, (line, want)) in rows.iter().enumerate() {
         let mut out = slow_writer(rt.alloc(), 1000);
-        let answered = asked(rt.alloc(), &facts, line, &mut out)?;
+        let answered = asked(rt.alloc(), &state, &facts, line, &mut out)?;
         assert!(rt; out.bytes() == *want, "at {i}");
         let after = next_reference(4294967295, answered);
         assert_eq!(rt; after, if i < 2 { 1 } else { 4294967295 }, "at {i}");
@@ -215,11 +216,36 @@ fn questions_are_answered(rt: HostRuntime) -> Result<(), Fail> {
 
 #[test]
 fn capabilities_are_looked_at_first(rt: HostRuntime) -> Result<(), Fail> {
+    let state = State::new(rt.alloc());
     let facts = facts(rt.alloc(), CapSet::none())?;
     let mut out = slow_writer(rt.alloc(), 1000);
-    let _ = asked(rt.alloc(), &facts, b"chathistory", &mut out)?;
-    let _ = asked(rt.alloc(), &facts, b"MARKREAD a,b", &mut out)?;
+    let one = asked(rt.alloc(), &state, &facts, b"chathistory", &mut out)?;
+    let other = asked(rt.alloc(), &state, &facts, b"MARKREAD a,b", &mut out)?;
     let want = b":~ 421 al CHATHISTORY :Unknown command\r\n:~ 421 al MARKREAD :Unknown command\r\n";
     assert!(rt; out.bytes() == want.as_slice());
+    assert!(rt; one == Answered::Plain && other == Answered::Plain);
+    Ok(())
+}
+
+#[test]
+fn a_page_without_capabilities_is_bare(rt: HostRuntime) -> Result<(), Fail> {
+    let mut state = State::new(rt.alloc());
+    let record = posted(rt.alloc(), b"m1", Kind::Privmsg)?;
+    let _ = state.absorb(Change::Post(record))?;
+    let caps = CapSet {
+        chathistory: true,
+        ..CapSet::none()
+    };
+    let facts = facts(rt.alloc(), caps)?;
+    let mut out = slow_writer(rt.alloc(), 1000);
+    let answered = asked(
+        rt.alloc(),
+        &state,
+        &facts,
+        b"CHATHISTORY LATEST #a * 5",
+        &mut out,
+    )?;
+    assert!(rt; out.bytes() == b":bob!b@h PRIVMSG #A :hi\r\n".as_slice());
+    assert!(rt; answered == Answered::Plain);
     Ok(())
 }

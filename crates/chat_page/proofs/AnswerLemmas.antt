@@ -1,5 +1,5 @@
 -- Pages, from the records between two cuts.
-use Rattle.std.proofs.Common.{◌≡◌, ◌-◌, ℕ, zero, suc, Bool, true, false, not, cond, Option, Some, None, Result, Ok, Err, List, [], ◌∷◌, length, drop, take, filter, map, min, refl, sym, ◌∙◌, ap, subst, arith, length-drop}
+use Rattle.std.proofs.Common.{◌≡◌, ◌-◌, ℕ, zero, suc, Bool, true, false, not, cond, Option, Some, None, Result, Ok, Err, List, [], ◌∷◌, length, take, filter, map, min, refl, sym, ◌∙◌, ap, subst, arith, length-drop}
 use Rattle.std.specs.Prelude.{◌&&◌, ◌==◌, Vec, IfOk, OnErr, IsSome}
 use Rattle.std.specs.Option.{option_map, option_and_then}
 use Rattle.std.specs.Borrow.{Bor}
@@ -16,10 +16,10 @@ use Rattle.chat_page.specs.Scope.{Scope}
 use Rattle.chat_page.specs.declared.query.Selector.{Selector}
 use Rattle.chat_page.specs.declared.query.Query.TheVariants as queries
 use Rattle.chat_page.specs.declared.answer.Side.TheVariants.{LatestAfter, Before, After, Around}
-use Rattle.chat_page.specs.Page.{Point, is_before, is_after, last, Page, page, page_in, of_records, buffer_of, point_of}
+use Rattle.chat_page.specs.Page.{Point, is_before, is_after, last, page, page_in, of_records, buffer_of, point_of}
 use Rattle.chat_page.specs.Answer.{AreRecords, side_of, between_of}
 use Rattle.chat_page.specs.declared.pages.PageFault.{PageFault}
-use Rattle.chat_page.specs.declared.pages.PageFault.TheVariants.{UnknownMessage, NoMemory}
+use Rattle.chat_page.specs.declared.pages.PageFault.TheVariants.{NoMemory}
 use Rattle.chat_page.proofs.CutLemmas.{filter_alike}
 
 and_true : (b : Bool) → (b && true) ≡ b

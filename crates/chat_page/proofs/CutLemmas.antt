@@ -1,7 +1,7 @@
 -- The records between two cuts, as a walk from the one finds them.
-use Rattle.std.proofs.Common.{◌≡◌, ◌≤◌, ◌+◌, ℕ, suc, Bool, true, false, cond, not, nat_le, List, [], ◌∷◌, ◌++◌, take, reverse, filter, refl, sym, ◌∙◌, ap, subst, arith, append-nil}
+use Rattle.std.proofs.Common.{◌≡◌, ◌≤◌, ◌+◌, suc, Bool, true, false, cond, not, List, [], ◌∷◌, ◌++◌, take, reverse, filter, refl, sym, ◌∙◌, ap, subst, arith, append-nil}
 use Rattle.std.specs.Prelude.{◌&&◌}
-use Rattle.std.proofs.lemmas.Bool.{false≢true, cond-true, cond-false}
+use Rattle.std.proofs.lemmas.Bool.{false≢true}
 use Rattle.std.proofs.lemmas.Bool.Decides.{nat_tests}
 use Rattle.std.specs.declared.cmp.Ordering.{Ordering}
 use Rattle.std.specs.declared.cmp.Ordering.TheVariants.{Less, Equal, Greater}
@@ -17,7 +17,7 @@ use Rattle.chat_change.specs.Record.{Record}
 use Rattle.chat_change.specs.Order.{text_cmp}
 use Rattle.chat_history.specs.declared.cut.Cut.{Cut}
 use Rattle.chat_history.specs.declared.cut.Cut.TheVariants.{Bottom, UnderTime, OverTime, UnderMsg, OverMsg, Top}
-use Rattle.chat_history.specs.Cut.{cut_cmp, cut_total, of_record, is_after as is_after_cut, after as after_cut, before as before_cut}
+use Rattle.chat_history.specs.Cut.{cut_total, of_record, is_after as is_after_cut, after as after_cut, before as before_cut}
 use Rattle.chat_history.specs.Visible.{spot_cmp, spot_of}
 use Rattle.chat_page.specs.Cuts.{between_cuts}
 

@@ -1,11 +1,7 @@
 -- The last of a list, taken from its end.
 use Rattle.std.proofs.Common.{◌≡◌, ◌≤◌, ◌<◌, ◌-◌, ℕ, Bool, true, false, nat_le, List, [], ◌∷◌, ◌++◌, length, map, take, drop, reverse, refl, sym, ap, ◌∙◌, arith, length-drop}
-use Rattle.std.specs.Prelude.{filter, not}
 use Rattle.std.proofs.lemmas.Bool.{leb-true, leb-false}
 use Rattle.std.proofs.lemmas.List.{take_all, take_at, take-append-drop, reverse-append, reverse-reverse, length-reverse, map-append}
-use Rattle.chat_change.specs.Record.{Record}
-use Rattle.chat_history.specs.Cut.{before}
-use Rattle.chat_history.specs.declared.cut.Cut.TheVariants.{Top}
 use Rattle.chat_page.specs.Page.{last}
 
 pub map_reverse : {A B : Type 0} (f : A → B) (xs : List A) → map f (reverse xs) ≡ reverse (map f xs)
@@ -13,11 +9,6 @@ map_reverse f [] = refl
 map_reverse f (x ∷ xs) =
     ap (map f) (reverse-append (x ∷ []) xs) ∙ map-append f (reverse xs) (x ∷ []) ∙ ap (λ zs. zs ++ f x ∷ []) (map_reverse f xs)
     ∙ sym (reverse-append (f x ∷ []) (map f xs))
-
--- all stand below the top
-pub below_top : (records : List Record) → before Top records ≡ records
-below_top [] = refl
-below_top (r ∷ records) = ap (λ l. r ∷ l) (below_top records)
 
 module _ {A : Type 0} (n : ℕ) (xs : List A) where
   few : length xs ≤ n → reverse (take n (reverse xs)) ≡ last n xs

@@ -1,5 +1,5 @@
 -- What stands before and after the place of a selector.
-use Rattle.std.proofs.Common.{◌≡◌, ℕ, Bool, true, false, not, List, Option, None, Some, refl, sym, ◌∙◌, ap, subst}
+use Rattle.std.proofs.Common.{◌≡◌, ℕ, not, List, Option, None, Some, refl, sym, ◌∙◌, ap}
 use Rattle.std.specs.declared.cmp.Ordering.{Ordering}
 use Rattle.std.specs.declared.cmp.Ordering.TheVariants.{Less, Equal, Greater}
 use Rattle.std.specs.Ordering.{is_lt, is_le, ordering_reverse}
@@ -8,7 +8,6 @@ use Rattle.chat_change.specs.Buffer.{Buffer}
 use Rattle.chat_change.specs.Record.{Record}
 use Rattle.chat_change.specs.declared.change.Change.{Change}
 use Rattle.chat_history.specs.History.{norm, position_of}
-use Rattle.chat_history.specs.Lookups.{position_in}
 use Rattle.chat_history.specs.Visible.{spot_cmp}
 use Rattle.chat_history.specs.Cut.{cut_cmp, of_record}
 use Rattle.chat_history.specs.declared.cut.Spot.{Spot}

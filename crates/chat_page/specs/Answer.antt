@@ -1,5 +1,5 @@
 -- Whether a page, or a refusal, is the answer of the definition.
-use Rattle.std.specs.Prelude.{◌≡◌, ⊤, ℕ, ◌/◌, ◌-◌, Option, Some, None, List, map, filter, take, Vec, Result, Ok, Err}
+use Rattle.std.specs.Prelude.{◌≡◌, ⊤, ℕ, Option, Some, None, List, map, filter, take, Vec, Result, Ok, Err}
 use Rattle.std.specs.Option.{option_map, option_and_then}
 use Rattle.std.specs.Borrow.{Bor}
 use Rattle.chat_change.specs.Record.{Record}

@@ -1,6 +1,5 @@
 -- A buffer of a list of buffers is seen as its latest moment and its folded target.
 use Rattle.std.specs.Prelude.{ℕ, List}
-use Rattle.std.specs.declared.cmp.Ordering.{Ordering}
 use Rattle.std.specs.Cmp.{IsTotalOrder, then_total, on_total, nat_cmp_total}
 use Rattle.std.specs.Cmp.Lexicographic.{lists_total}
 use Rattle.chat_history.specs.Visible.{spot_cmp}

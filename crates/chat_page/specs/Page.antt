@@ -7,7 +7,7 @@ use Rattle.std.specs.FinMap.{from_entries, keys}
 use Rattle.chat_change.specs.Buffer.{Buffer}
 use Rattle.chat_change.specs.Record.{Record}
 use Rattle.chat_change.specs.declared.change.Change.{Change}
-use Rattle.chat_history.specs.History.{History, norm, changes_of}
+use Rattle.chat_history.specs.History.{History, norm}
 use Rattle.chat_history.specs.Latest.{latest_in}
 use Rattle.chat_history.specs.Lookups.{position_in}
 use Rattle.chat_history.specs.Visible.{records_in, spot_cmp}

@@ -1,5 +1,5 @@
 -- Where a selector stands.
-use Rattle.std.specs.Prelude.{ℕ, List, Option, Some}
+use Rattle.std.specs.Prelude.{Option, Some}
 use Rattle.std.specs.Option.{option_map}
 use Rattle.chat_page.specs.Page.{Point, moment, spot}
 use Rattle.chat_page.specs.declared.place.Place.{Place}

@@ -1,5 +1,5 @@
-use Rattle.chat_state.specs.History.{norm, changes_of}
-use Rattle.chat_state.proofs.CallerLemmas.{norm-changes_of}
+use Rattle.chat_history.specs.History.{norm, changes_of}
+use Rattle.chat_history.proofs.CallerLemmas.{norm-changes_of}
 use Rattle.chat_batch.proofs.AnswerLemmas.{same_answer}
 use Rattle.chat_batch.proofs.laws.answers_are_of_the_normal_form.Goals as goal
 

@@ -1,4 +1,4 @@
-use Rattle.std.proofs.Common.{sym, subst, ap, ◌∙◌}
+use Rattle.std.proofs.Common.{subst, ap, ◌∙◌}
 use Rattle.chat_history.specs.Visible.{records_in}
 use Rattle.chat_page.specs.Place.{value_of}
 use Rattle.chat_page.specs.Page.{point_of}
