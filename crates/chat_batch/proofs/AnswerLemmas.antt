@@ -1,11 +1,11 @@
 -- Answers of sets of one normal form, and what a call that gives an answer leaves.
-use Rattle.std.proofs.Common.{◌≡◌, ℕ, Bool, cond, List, [], ◌∷◌, Option, Some, None, Result, Ok, Err, codes, refl, sym, ap, ◌∙◌, subst}
+use Rattle.std.proofs.Common.{◌≡◌, ℕ, cond, List, [], ◌∷◌, Option, Some, None, Result, Ok, Err, codes, refl, sym, ap, ◌∙◌, subst}
 use Rattle.std.specs.Prelude.{IfOk, ◌&&◌}
 use Rattle.std.specs.Str.{str_eq_ignore_ascii_case}
 use Rattle.irc_line.specs.Line.{Reading}
 use Rattle.output.specs.Writes.{AppendsPrefix, WritesKnown}
 use Rattle.output.proofs.CallerLemmas.{prefix_none}
-use Rattle.irc_reply.specs.Reply.{fail_text, mark_text}
+use Rattle.irc_reply.specs.Reply.{mark_text}
 use Rattle.chat_change.specs.Buffer.{Buffer, buffer_of}
 use Rattle.chat_change.specs.declared.change.Change.{Change}
 use Rattle.chat_history.specs.History.{norm, changes_of, mark}
@@ -15,7 +15,7 @@ use Rattle.chat_page.specs.Page.{page_in}
 use Rattle.chat_page.specs.declared.query.Query.{Query}
 use Rattle.chat_page.specs.declared.parameters.QueryFault.{QueryFault}
 use Rattle.chat_page.specs.declared.parameters.QueryFault.TheVariants.{InvalidTarget}
-use Rattle.chat_batch.specs.Answers.{Answer, plain, unknown, has_buffers, has_buffer, scope_of, subcommand_of, code_of, reason_of, refusal_about, query_refusal, unknown_message, page_or_unknown, query_or_refusal, history_answer, marker_refusal, asks_or_sets, marker_answer, marker_or_refusal, markread_answer, answer_of}
+use Rattle.chat_batch.specs.Answers.{Answer, plain, fail, unknown, has_buffers, has_buffer, scope_of, subcommand_of, code_of, reason_of, refusal_about, query_refusal, unknown_message, page_or_unknown, query_or_refusal, history_answer, marker_refusal, asks_or_sets, marker_or_refusal, answer_of}
 use Rattle.chat_batch.specs.declared.facts.Facts.{Facts}
 use Rattle.chat_batch.specs.Gives.{Gives, IsUnwritten}
 use Rattle.chat_batch.specs.declared.facts.Answered.{Answered}
@@ -50,16 +50,16 @@ module _ (a b : List Change) (e : norm a ≡ norm b) (facts : Facts) where
 -- ---- refusals of parts that were found
 
 pub selector_refused : (facts : Facts) (word given told : List ℕ) → told ≡ subcommand_of word
-    → plain (fail_text facts.cluster (codes "CHATHISTORY") (codes "MESSAGE_ERROR") (told ∷ given ∷ []) (codes "No such message")) ≡ unknown_message facts word given
-selector_refused facts word given told e = ap (λ l. plain (fail_text facts.cluster (codes "CHATHISTORY") (codes "MESSAGE_ERROR") (l ∷ given ∷ []) (codes "No such message"))) e
+    → fail facts (codes "CHATHISTORY") (codes "MESSAGE_ERROR") (told ∷ given ∷ []) (codes "No such message") ≡ unknown_message facts word given
+selector_refused facts word given told e = ap (λ l. fail facts (codes "CHATHISTORY") (codes "MESSAGE_ERROR") (l ∷ given ∷ []) (codes "No such message")) e
 
 pub subcommand_refused : (facts : Facts) (word : List ℕ) (fault : QueryFault) (code told reason : List ℕ) → code ≡ code_of fault → told ≡ subcommand_of word → reason ≡ reason_of fault
-    → plain (fail_text facts.cluster (codes "CHATHISTORY") code (told ∷ []) reason) ≡ refusal_about facts (Some word) fault
-subcommand_refused facts word fault code told reason d e f = λ i. plain (fail_text facts.cluster (codes "CHATHISTORY") (d i) (e i ∷ []) (f i))
+    → fail facts (codes "CHATHISTORY") code (told ∷ []) reason ≡ refusal_about facts (Some word) fault
+subcommand_refused facts word fault code told reason d e f = λ i. fail facts (codes "CHATHISTORY") (d i) (e i ∷ []) (f i)
 
 pub bare_refused : (facts : Facts) (fault : QueryFault) (code reason : List ℕ) → code ≡ code_of fault → reason ≡ reason_of fault
-    → plain (fail_text facts.cluster (codes "CHATHISTORY") code [] reason) ≡ refusal_about facts None fault
-bare_refused facts fault code reason d f = λ i. plain (fail_text facts.cluster (codes "CHATHISTORY") (d i) [] (f i))
+    → fail facts (codes "CHATHISTORY") code [] reason ≡ refusal_about facts None fault
+bare_refused facts fault code reason d f = λ i. fail facts (codes "CHATHISTORY") (d i) [] (f i)
 
 -- ---- what a call leaves
 

@@ -1,6 +1,6 @@
 -- What is answered to a question about the past: to CHATHISTORY (IRCv3 draft/chathistory) and to MARKREAD (IRCv3
 -- draft/read-marker). It is defined over the set of changes that was taken.
-use Rattle.std.specs.Prelude.{ℕ, Bool, true, ◌&&◌, is_some, List, [], ◌∷◌, ◌++◌, codes, Option, None, Some, Result, Ok, Err, map, if◌then◌else◌}
+use Rattle.std.specs.Prelude.{ℕ, Bool, true, ◌&&◌, is_some, List, [], ◌∷◌, codes, Option, None, Some, Result, Ok, Err, map, if◌then◌else◌}
 use Rattle.std.specs.Char.{to_ascii_uppercase}
 use Rattle.std.specs.Str.{str_eq_ignore_ascii_case}
 use Rattle.irc_line.specs.Line.{Reading}
@@ -33,6 +33,10 @@ plain text = record { text = text; answered = Plain }
 -- a command that the session has no capability for is told as unknown
 abbrev pub unknown : Facts → List ℕ → Answer
 unknown facts command = plain (unknown_text facts.cluster facts.nick command)
+
+-- a refusal of a command: its code, its context, and what is wrong (IRCv3 standard-replies, `FAIL`)
+abbrev pub fail : Facts → List ℕ → List ℕ → List (List ℕ) → List ℕ → Answer
+fail facts command code context reason = plain (fail_text facts.cluster command code context reason)
 
 -- ---- buffers of a session
 
@@ -88,8 +92,7 @@ reason_of InvalidParams = codes "Invalid parameters"
 
 abbrev pub refusal_about : Facts → Option (List ℕ) → QueryFault → Answer
 refusal_about facts subcommand fault =
-    plain (fail_text facts.cluster (codes "CHATHISTORY") (code_of fault) (context_of subcommand)
-    (reason_of fault))
+    fail facts (codes "CHATHISTORY") (code_of fault) (context_of subcommand) (reason_of fault)
 
 abbrev pub query_refusal : Facts → List (List ℕ) → QueryFault → Answer
 query_refusal facts parameters fault = refusal_about facts (first_of parameters) fault
@@ -97,8 +100,8 @@ query_refusal facts parameters fault = refusal_about facts (first_of parameters)
 -- a selector names a message that has no position in the buffer
 abbrev pub unknown_message : Facts → List ℕ → List ℕ → Answer
 unknown_message facts word given =
-    plain (fail_text facts.cluster (codes "CHATHISTORY") (codes "MESSAGE_ERROR")
-    (subcommand_of word ∷ given ∷ []) (codes "No such message"))
+    fail facts (codes "CHATHISTORY") (codes "MESSAGE_ERROR") (subcommand_of word ∷ given ∷ [])
+    (codes "No such message")
 
 -- ---- answers to CHATHISTORY
 
@@ -133,18 +136,20 @@ history_answer changes facts parameters =
 -- ---- answers to MARKREAD
 
 abbrev pub marker_refusal : Facts → List ℕ → List ℕ → Answer
-marker_refusal facts code reason =
-    plain (fail_text facts.cluster (codes "MARKREAD") code [] reason)
+marker_refusal facts code reason = fail facts (codes "MARKREAD") code [] reason
 
 -- nothing behind the target asks for the marker; `timestamp=` and a time sets it
 abbrev pub asks_or_sets : List (List ℕ) → Bool
 asks_or_sets [] = true
 asks_or_sets (word ∷ more) = is_some (moment_of word)
 
+abbrev pub marker_of : List Change → Facts → List ℕ → Option ℕ
+marker_of changes facts given = mark changes (buffer_of facts.account facts.network given)
+
 -- the marker that is set now, of a target that is printed as it was given
 abbrev pub marker_answer : List Change → Facts → List ℕ → Answer
 marker_answer changes facts given =
-    plain (mark_text facts.cluster given (mark changes (buffer_of facts.account facts.network given)))
+    plain (mark_text facts.cluster given (marker_of changes facts given))
 
 abbrev pub marker_or_refusal : List Change → Facts → List (List ℕ) → Answer
 marker_or_refusal changes facts [] =

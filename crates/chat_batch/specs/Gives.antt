@@ -22,7 +22,8 @@ Gives contents old new (Err NoMemory) answer = ⊤
 abbrev pub GivesOf : {W : Type 0} → (W → Option (List ℕ)) → W → W → Result Answered AnswerFault
     → History → (List Change → Answer) → Type 0
 GivesOf contents old new result history answer =
-    (changes : List Change) → history ≡ norm changes → Gives contents old new result (answer changes)
+    (changes : List Change) → history ≡ norm changes
+    → Gives contents old new result (answer changes)
 
 -- for want of memory the writer is as it was
 abbrev pub IsUnwritten : {W : Type 0} → Result Answered AnswerFault → W → W → Type 0

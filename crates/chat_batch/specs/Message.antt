@@ -8,11 +8,18 @@ use Rattle.chat_batch.specs.Tags.{tag_part, batch_tags, message_tags}
 
 -- the message as it was sent
 abbrev pub message_line : Record → List ℕ
-message_line r = line_text (record { tags = None; source = Some r.message.source; command = kind_word r.message.kind; middles = r.message.target ∷ []; trailing = Some r.message.body })
+message_line r = line_text (record {
+  tags = None;
+  source = Some r.message.source;
+  command = kind_word r.message.kind;
+  middles = r.message.target ∷ [];
+  trailing = Some r.message.body;
+})
 
 -- a record in a batch under that reference
 abbrev pub record_text : CapSet → List ℕ → Record → List ℕ
-record_text caps reference r = tag_part (batch_tags caps reference ++ message_tags caps r) ++ message_line r
+record_text caps reference r =
+    tag_part (batch_tags caps reference ++ message_tags caps r) ++ message_line r
 
 -- a record that is sent as it comes
 abbrev pub live_text : CapSet → Record → List ℕ

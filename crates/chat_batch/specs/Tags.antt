@@ -23,7 +23,9 @@ batch_tags caps reference = only_if caps.batch (codes "batch=" ++ reference)
 
 -- the tags of a message: its id (IRCv3 message-ids) and its moment (IRCv3 server-time)
 abbrev pub message_tags : CapSet → Record → List (List ℕ)
-message_tags caps r = only_if caps.message_tags (codes "msgid=" ++ value_text r.id) ++ only_if caps.server_time (codes "time=" ++ time_text r.at)
+message_tags caps r =
+    only_if caps.message_tags (codes "msgid=" ++ value_text r.id)
+    ++ only_if caps.server_time (codes "time=" ++ time_text r.at)
 
 -- ---- one tag after another
 

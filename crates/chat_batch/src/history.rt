@@ -150,7 +150,8 @@ fn answer_query<W: Write>(
     writer: &mut W,
 ) -> Result<Answered, AnswerFault>
     ensures text { GivesOf W.contents writer.old writer.new result state.now.history
-        (λ changes. spec.query_answer changes facts.now (map (λ p. p.now) parameters.now) query.now) }
+        (λ changes. spec.query_answer changes facts.now (map (λ p. p.now) parameters.now)
+        query.now) }
     ensures memory { IsUnwritten result writer.old writer.new }
 {
     match Scope::new(

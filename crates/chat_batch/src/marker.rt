@@ -1,6 +1,5 @@
 //! Answers to MARKREAD (IRCv3 draft/read-marker).
 ghost use Rattle.std.specs.Prelude.{◌≡◌, codes, map, IfOk};
-ghost use Rattle.chat_change.specs.Buffer.{buffer_of};
 ghost use Rattle.chat_batch.specs.Answers as spec;
 ghost use Rattle.chat_batch.specs.Gives.{Gives, GivesOf, IsUnwritten};
 
@@ -53,8 +52,7 @@ fn marker_of(
 ) -> Result<Option<Moment>, AllocError>
     requires { spec.has_buffer facts.now given.now ≡ true }
     ensures { (changes : List Change) → state.now.history ≡ norm changes
-        → IfOk result (λ marker. marker
-        ≡ mark changes (buffer_of facts.now.account facts.now.network given.now)) }
+        → IfOk result (λ marker. marker ≡ spec.marker_of changes facts.now given.now) }
 {
     // Names and target are lawful.
     let Ok(buffer) = Buffer::new(
@@ -70,7 +68,7 @@ fn marker_of(
 
 ghost use Rattle.std.specs.Prelude.{List, true};
 ghost use Rattle.chat_change.specs.declared.change.Change.{Change};
-ghost use Rattle.chat_history.specs.History.{norm, mark};
+ghost use Rattle.chat_history.specs.History.{norm};
 
 /// Answers the marker of a target.
 fn write_marker<W: Write>(

@@ -1,7 +1,7 @@
 //! Refusals of CHATHISTORY and MARKREAD (IRCv3 standard-replies, `FAIL`).
 ghost use Rattle.std.specs.Prelude.{◌≡◌, Some, None, IfOk, map};
 ghost use Rattle.std.specs.Option.{option_copied};
-ghost use Rattle.irc_reply.specs.Reply.{fail_text, context_words};
+ghost use Rattle.irc_reply.specs.Reply.{context_words};
 ghost use Rattle.chat_batch.specs.Answers as spec;
 ghost use Rattle.chat_batch.specs.Gives.{Gives, IsUnwritten};
 
@@ -24,7 +24,7 @@ pub(crate) fn refuse<W: Write>(
     writer: &mut W,
 ) -> Result<Answered, AnswerFault>
     ensures text { Gives W.contents writer.old writer.new result
-        (spec.plain (fail_text facts.now.cluster command.now code.now (context_words context.entry) reason.now)) }
+        (spec.fail facts.now command.now code.now (context_words context.entry) reason.now) }
     ensures memory { IsUnwritten result writer.old writer.new }
 {
     match write_fail(

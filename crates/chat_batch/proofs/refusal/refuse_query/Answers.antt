@@ -1,4 +1,4 @@
-use Rattle.std.proofs.Common.{◌∙◌, ap, subst}
+use Rattle.std.proofs.Common.{ap, subst}
 use Rattle.chat_batch.specs.Answers.{Answer, refusal_about}
 use Rattle.chat_batch.specs.Gives.{Gives}
 use Rattle.chat_batch.proofs.refusal.refuse_query.Goals as goal

@@ -1,4 +1,4 @@
-use Rattle.std.proofs.Common.{◌≡◌, ◌∙◌, subst, Some}
+use Rattle.std.proofs.Common.{◌≡◌, ◌∙◌, subst}
 use Rattle.chat_batch.specs.Answers.{subcommand_of, Answer}
 use Rattle.chat_batch.specs.Gives.{Gives}
 use Rattle.chat_batch.proofs.AnswerLemmas.{subcommand_refused}
