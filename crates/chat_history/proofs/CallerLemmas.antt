@@ -31,3 +31,8 @@ pub use Rattle.chat_history.proofs.HeldLemmas.{held_counted, held_same}
 pub use Rattle.chat_history.proofs.PostedLemmas.{visible_posted}
 pub use Rattle.chat_history.proofs.StandingLemmas.{mark_greatest}
 pub use Rattle.chat_history.proofs.PostedLemmas.{IsPostedAt, all_latest_posted}
+-- what a set includes, and the numbers of pieces after one more change
+pub use Rattle.chat_history.proofs.SetLemmas.{norm_right, norm_swap}
+pub use Rattle.chat_history.proofs.IncludesLemmas.{Includes-more, Includes-member, includes_all}
+pub use Rattle.chat_history.proofs.PieceStepLemmas.{piece_step, front_rises, front_grows, on_and_on}
+pub use Rattle.chat_history.proofs.PieceStepLemmas.{number_above, number_within, number_tells}

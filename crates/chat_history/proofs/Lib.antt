@@ -16,4 +16,6 @@ mod NormReadLemmas
 mod BuffersLemmas
 mod StoredLemmas
 mod PostedLemmas
+mod IncludesLemmas
+mod PieceStepLemmas
 pub mod CallerLemmas

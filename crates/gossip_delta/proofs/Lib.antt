@@ -1,0 +1,9 @@
+mod EntryLemmas
+mod DeltaLemmas
+mod SinceLemmas
+mod TestLemmas
+mod WordsLemmas
+mod NumberLemmas
+mod ReadBackLemmas
+mod SpellingLemmas
+pub mod CallerLemmas

@@ -1,0 +1,268 @@
+-- A line that spells a change is the one line that is written for it, and the change's parts are lawful.
+use Rattle.std.proofs.Common.{◌≡◌, ℕ, ◌≤◌, Bool, true, false, ◌&&◌, cond, Option, Some, None, Result, Ok, Err, List, [], ◌∷◌, ◌++◌, codes, drop, refl, sym, ◌∙◌, ap, subst, arith, append_assoc}
+use Rattle.std.specs.Prelude.{decimal}
+use Rattle.std.specs.Char.{to_ascii_lowercase}
+use Rattle.std.specs.Option.{IfSome, option_map}
+use Rattle.std.proofs.lemmas.Bool.{false≢true, eqb-true}
+use Rattle.std.proofs.lemmas.Bool.Decides.{nat_tests}
+use Rattle.std.proofs.lemmas.List.Concat.{flat_map-append}
+use Rattle.irc_time.specs.Time.{greatest}
+use Rattle.chat_change.specs.Words.{is_name, is_target, is_id, begins_with, lower_case_of}
+use Rattle.chat_change.specs.Buffer.{Buffer, IsLawfulBuffer}
+use Rattle.chat_change.specs.Faults.{is_message}
+use Rattle.chat_change.specs.Message.{kind_letter}
+use Rattle.chat_change.specs.declared.change.Change.{Change}
+use Rattle.chat_change.specs.declared.change.Change.TheVariants.{Post, Redact, Mark, Floor}
+use Rattle.chat_change.specs.declared.message.Kind.{Kind}
+use Rattle.chat_change.specs.declared.message.Kind.TheVariants.{Privmsg, Notice}
+use Rattle.chat_change.proofs.CallerLemmas.{is_message-lawful}
+use Rattle.gossip_delta.specs.Words.{is_text, is_filled, is_last_word, word, behind, words_text}
+use Rattle.gossip_delta.specs.ChangeLine.{BufferFields, buffer_fields, PostFields, post_fields, has_names, has_form, has_post_form, moment_of, named_moment, message_kind, is_folded_byte, is_folded, is_buffer, buffer_named, message_of, post_with, redaction_with, change_in, change_kind, or_bad_field, fields_change, kind_change, read_change}
+use Rattle.chat_change.specs.Lawful.{IsLawfulChange}
+use Rattle.gossip_delta.specs.ChangeText.{buffer_words, moment_text, line_of}
+use Rattle.gossip_delta.specs.declared.fault.ChangeLineFault.{ChangeLineFault}
+use Rattle.gossip_delta.specs.declared.fault.ChangeLineFault.TheVariants.{BadForm}
+use Rattle.gossip_delta.specs.declared.fields.ChangeKind.{ChangeKind}
+use Rattle.gossip_delta.specs.declared.fields.ChangeKind.TheVariants as of_kind
+use Rattle.gossip_delta.proofs.TestLemmas.{left, right, text_is}
+use Rattle.gossip_delta.proofs.NumberLemmas.{number_spelled}
+use Rattle.gossip_delta.proofs.WordsLemmas.{filled_words, words_rejoined}
+
+abbrev Line : Type 0
+Line = Result Change ChangeLineFault
+
+-- ---- what a line has that spells a change
+
+chosen : (t : Bool) (x y : Line) (c : Change) → cond t x y ≡ Ok c → ((c : Change) → y ≡ Ok c → ⊥) → (t ≡ true) × (x ≡ Ok c)
+chosen true x y c h fails = (refl, h)
+chosen false x y c h fails = absurd (fails c h)
+
+no_form : (c : Change) → Err BadForm ≡ Ok c → ⊥
+no_form c h = cc
+
+good_field : (o : Option Change) (c : Change) → or_bad_field o ≡ Ok c → o ≡ Some c
+good_field None c h = cc
+good_field (Some d) c h = cc
+
+some_of : (t : Bool) (o : Option Change) (c : Change) → cond t o None ≡ Some c → (t ≡ true) × (o ≡ Some c)
+some_of true o c h = (refl, h)
+some_of false o c h = cc
+
+-- the fields behind the kind
+record SaysFields (kind : ChangeKind) (b : BufferFields) (c : Change) : Type 0 where
+  form : (has_names b && has_form kind b.rest) ≡ true
+  lawful : is_buffer b ≡ true
+  value : change_in kind (buffer_named b) b.rest ≡ Some c
+
+fields_say : (kind : ChangeKind) (b : BufferFields) (c : Change) → fields_change kind b ≡ Ok c → SaysFields kind b c
+fields_say kind b c h =
+    let p = chosen (has_names b && has_form kind b.rest) _ (Err BadForm) c h no_form in
+    let q = some_of (is_buffer b) (change_in kind (buffer_named b) b.rest) c (good_field _ c p.1) in
+    record { form = p.0; lawful = q.0; value = q.1 }
+
+kind_says : (o : Option ChangeKind) (rest : List ℕ) (c : Change) → kind_change o rest ≡ Ok c → (kind : ChangeKind) × (o ≡ Some kind) × SaysFields kind (buffer_fields rest) c
+kind_says None rest c h = absurd (no_form c h)
+kind_says (Some kind) rest c h = (kind, refl, fields_say kind (buffer_fields rest) c h)
+
+line_says : (line : List ℕ) (c : Change) → read_change line ≡ Ok c → (word line ≡ codes "C") × (kind_change (change_kind (word (behind line))) (behind (behind line)) ≡ Ok c)
+unfolding read_change
+line_says line c h =
+    let p = chosen (is_text (word line) (codes "C")) _ (Err BadForm) c h no_form in
+    (text_is (word line) (codes "C") p.0, p.1)
+
+abbrev kind_word : ChangeKind → List ℕ
+kind_word of_kind.Post = codes "POST"
+kind_word of_kind.Redact = codes "REDACT"
+kind_word of_kind.Mark = codes "MARK"
+kind_word of_kind.Floor = codes "FLOOR"
+
+-- the first of some tests that passes says which word it is
+found : (w v : List ℕ) (k kind : ChangeKind) (more : Option ChangeKind) → v ≡ kind_word k → (more ≡ Some kind → w ≡ kind_word kind) → cond (is_text w v) (Some k) more ≡ Some kind → w ≡ kind_word kind
+found w v k kind more is others =
+    elim (is_text w v) as (λ t. is_text w v ≡ t → cond t (Some k) more ≡ Some kind → w ≡ kind_word kind) [
+      | true ↦ λ t h. let same : k ≡ kind = cc h in text_is w v t ∙ is ∙ ap kind_word same
+      | false ↦ λ _ h. others h
+    ] refl
+
+kind_is : (w : List ℕ) (kind : ChangeKind) → change_kind w ≡ Some kind → w ≡ kind_word kind
+kind_is w kind h =
+    found w (codes "POST") of_kind.Post kind _ refl
+    (found w (codes "REDACT") of_kind.Redact kind _ refl
+    (found w (codes "MARK") of_kind.Mark kind _ refl
+    (found w (codes "FLOOR") of_kind.Floor kind None refl (λ e. cc e)))) h
+
+-- ---- buffers
+
+folds_nothing : (t : List ℕ) → is_folded t ≡ true → lower_case_of t ≡ t
+folds_nothing [] h = refl
+folds_nothing (b ∷ t) h =
+    let first = eqb-true (to_ascii_lowercase b) b (left (is_folded_byte b) (is_folded t) h) in
+    let rest = folds_nothing t (right (is_folded_byte b) (is_folded t) h) in
+    λ i. first i ∷ rest i
+
+module _ (b : BufferFields) (h : is_buffer b ≡ true) where
+  names_of : (is_name b.account && is_name b.network && is_target b.target) ≡ true
+  names_of = left (is_name b.account && is_name b.network && is_target b.target) (is_folded b.target) h
+
+  stays : lower_case_of b.target ≡ b.target
+  stays = folds_nothing b.target (right (is_name b.account && is_name b.network && is_target b.target) (is_folded b.target) h)
+
+  lawful_names : IsLawfulBuffer (buffer_named b)
+  lawful_names =
+      let both_names = left (is_name b.account && is_name b.network) (is_target b.target) names_of in
+      record {
+        account = left (is_name b.account) (is_name b.network) both_names;
+        network = right (is_name b.account) (is_name b.network) both_names;
+        target = ap is_target stays ∙ right (is_name b.account && is_name b.network) (is_target b.target) names_of;
+        folded = ap lower_case_of stays;
+      }
+
+-- ---- moments
+
+moment_is : (text : List ℕ) (t : ℕ) → moment_of text ≡ Some t → (t ≤ greatest) × (text ≡ decimal t)
+moment_is text t h = number_spelled greatest t text (omega arith) h
+
+mapped : {A B : Type 0} (f : A → B) (o : Option A) (b : B) → option_map f o ≡ Some b → (a : A) × (o ≡ Some a) × (f a ≡ b)
+mapped f None b h = cc
+mapped f (Some a) b h = (a, refl, cc h)
+
+abbrev IsMoment : Option ℕ → Type 0
+IsMoment at = IfSome at (λ t. t ≤ greatest)
+
+named_is : (text : List ℕ) (at : Option ℕ) → named_moment text ≡ Some at → IsMoment at × (text ≡ moment_text at)
+named_is text at =
+    elim (is_text text (codes "*")) as (λ s. is_text text (codes "*") ≡ s → cond s (Some None) (option_map Some (moment_of text)) ≡ Some at → IsMoment at × (text ≡ moment_text at)) [
+      | true ↦ λ s h.
+          let none : None ≡ at = cc h in
+          subst (λ o. IsMoment o × (text ≡ moment_text o)) none (tt, text_is text (codes "*") s)
+      | false ↦ λ _ h.
+          let p = mapped Some (moment_of text) at h in
+          let q = moment_is text p.0 p.1 in
+          subst (λ o. IsMoment o × (text ≡ moment_text o)) p.2 (q.0, q.1)
+    ] refl
+
+-- ---- the line of the words
+
+words_more : (ws more : List (List ℕ)) (last : List ℕ) → words_text ws ++ (words_text more ++ last) ≡ words_text (ws ++ more) ++ last
+words_more ws more last = sym (append_assoc (words_text ws) (words_text more) last) ∙ ap (λ l. l ++ last) (sym (flat_map-append (λ w. w ++ codes " ") ws more))
+
+module _ (line : List ℕ) (kind : ChangeKind) (first : word line ≡ codes "C") (second : word (behind line) ≡ kind_word kind) where
+  abbrev fields : BufferFields
+  fields = buffer_fields (behind (behind line))
+
+  begins : (h : is_buffer fields ≡ true) → is_filled fields.rest ≡ true → (more : List (List ℕ)) (last : List ℕ) → fields.rest ≡ words_text more ++ last
+      → line ≡ words_text (buffer_words (kind_word kind) (buffer_named fields) more) ++ last
+  begins h filled more last e =
+      let folded : fields.target ≡ lower_case_of fields.target = sym (stays fields h) in
+      sym (words_rejoined 5 line filled)
+      ∙ (λ i. words_text (first i ∷ second i ∷ fields.account ∷ fields.network ∷ folded i ∷ []) ++ e i)
+      ∙ words_more (codes "C" ∷ kind_word kind ∷ fields.account ∷ fields.network ∷ lower_case_of fields.target ∷ []) more last
+
+-- ---- each kind of change
+
+redaction_is : (b : Buffer) (m : List ℕ) (o : Option (Option ℕ)) (c : Change) → redaction_with b m o ≡ Some c
+    → (at : Option ℕ) × (o ≡ Some at) × (is_id m ≡ true) × (Redact b m at ≡ c)
+redaction_is b m None c h = cc
+redaction_is b m (Some at) c h =
+    let p = some_of (is_id m) (Some (Redact b m at)) c h in
+    (at, refl, p.0, cc (p.1))
+
+abbrev post_of : Buffer → PostFields → Kind → ℕ → Change
+post_of b p kind at = Post (record { buffer = b; id = p.id; at = at; message = message_of p kind })
+
+record IsPost (b : Buffer) (p : PostFields) (k : Option Kind) (t : Option ℕ) (c : Change) : Type 0 where
+  sort : Kind
+  at : ℕ
+  sort_read : k ≡ Some sort
+  at_read : t ≡ Some at
+  id : is_id p.id ≡ true
+  message : is_message (message_of p sort) ≡ true
+  made : post_of b p sort at ≡ c
+
+post_is : (b : Buffer) (p : PostFields) (k : Option Kind) (t : Option ℕ) (c : Change) → post_with b p k t ≡ Some c → IsPost b p k t c
+post_is b p None t c h = cc
+post_is b p (Some k) None c h = cc
+post_is b p (Some k) (Some at) c h =
+    let q = some_of (is_id p.id && is_message (message_of p k)) (Some (post_of b p k at)) c h in
+    let made : post_of b p k at ≡ c = cc (q.1) in
+    record { sort = k; at = at; sort_read = refl; at_read = refl; id = left (is_id p.id) _ q.0; message = right (is_id p.id) (is_message (message_of p k)) q.0; made = made }
+
+letter_is : (text : List ℕ) (k : Kind) → message_kind text ≡ Some k → text ≡ kind_letter k ∷ []
+letter_is text k =
+    elim (is_text text (codes "P")) as (λ s. is_text text (codes "P") ≡ s → cond s (Some Privmsg) (cond (is_text text (codes "N")) (Some Notice) None) ≡ Some k → text ≡ kind_letter k ∷ []) [
+      | true ↦ λ s h. let same : Privmsg ≡ k = cc h in text_is text (codes "P") s ∙ ap (λ j. kind_letter j ∷ []) same
+      | false ↦ λ _. elim (is_text text (codes "N")) as (λ s. is_text text (codes "N") ≡ s → cond s (Some Notice) None ≡ Some k → text ≡ kind_letter k ∷ []) [
+        | true ↦ λ s h. let same : Notice ≡ k = cc h in text_is text (codes "N") s ∙ ap (λ j. kind_letter j ∷ []) same
+        | false ↦ λ _ h. cc h
+      ] refl
+    ] refl
+
+colon_first : (body : List ℕ) → begins_with 58 body ≡ true → (body ≡ 58 ∷ drop 1 body) × (is_filled body ≡ true)
+colon_first [] h = absurd (false≢true h)
+colon_first (b ∷ body) h = (ap (λ x. x ∷ body) (eqb-true b 58 h), grind (arith, nat_tests))
+
+module _ (line : List ℕ) (first : word line ≡ codes "C") where
+  abbrev names : BufferFields
+  names = buffer_fields (behind (behind line))
+
+  abbrev IsSpelled : Change → Type 0
+  IsSpelled c = (line ≡ line_of c) × IsLawfulChange c
+
+  mark_spelled : word (behind line) ≡ codes "MARK" → (c : Change) → SaysFields of_kind.Mark names c → IsSpelled c
+  mark_spelled second c h =
+      let form = right (has_names names) (is_last_word names.rest) h.form in
+      let v = mapped (Mark (buffer_named names)) (moment_of names.rest) c h.value in
+      let m = moment_is names.rest v.0 v.1 in
+      subst IsSpelled v.2
+      (begins line of_kind.Mark first second h.lawful (left (is_filled names.rest) _ form) [] (decimal v.0) m.1, (lawful_names names h.lawful, m.0))
+
+  floor_spelled : word (behind line) ≡ codes "FLOOR" → (c : Change) → SaysFields of_kind.Floor names c → IsSpelled c
+  floor_spelled second c h =
+      let form = right (has_names names) (is_last_word names.rest) h.form in
+      let v = mapped (Floor (buffer_named names)) (moment_of names.rest) c h.value in
+      let m = moment_is names.rest v.0 v.1 in
+      subst IsSpelled v.2
+      (begins line of_kind.Floor first second h.lawful (left (is_filled names.rest) _ form) [] (decimal v.0) m.1, (lawful_names names h.lawful, m.0))
+
+  redaction_spelled : word (behind line) ≡ codes "REDACT" → (c : Change) → SaysFields of_kind.Redact names c → IsSpelled c
+  redaction_spelled second c h =
+      let m = word names.rest in
+      let end = behind names.rest in
+      let form = right (has_names names) (is_filled m && is_last_word end) h.form in
+      let filled = left (is_filled end) _ (right (is_filled m) (is_last_word end) form) in
+      let v = redaction_is (buffer_named names) m (named_moment end) c h.value in
+      let t = named_is end v.0 v.1 in
+      subst IsSpelled v.3 (
+        begins line of_kind.Redact first second h.lawful (filled_words 1 names.rest filled) (m ∷ []) (moment_text v.0)
+            (sym (words_rejoined 1 names.rest filled) ∙ ap (λ l. words_text (m ∷ []) ++ l) t.1),
+        (lawful_names names h.lawful, v.2, t.0),
+      )
+
+  post_spelled : word (behind line) ≡ codes "POST" → (c : Change) → SaysFields of_kind.Post names c → IsSpelled c
+  post_spelled second c h =
+      let p = post_fields names.rest in
+      let form = right (has_names names) (has_post_form p) h.form in
+      let body = colon_first p.body (right _ (begins_with 58 p.body) form) in
+      let v = post_is (buffer_named names) p (message_kind p.kind) (moment_of p.at) c h.value in
+      let t = moment_is p.at v.at v.at_read in
+      let letter = letter_is p.kind v.sort v.sort_read in
+      let at_is = t.1 in
+      let body_is = body.0 in
+      subst IsSpelled v.made (
+        begins line of_kind.Post first second h.lawful (filled_words 5 names.rest body.1)
+            (p.id ∷ decimal v.at ∷ (kind_letter v.sort ∷ []) ∷ p.to ∷ p.source ∷ []) (58 ∷ drop 1 p.body)
+            (sym (words_rejoined 5 names.rest body.1) ∙ (λ i. words_text (p.id ∷ at_is i ∷ letter i ∷ p.to ∷ p.source ∷ []) ++ body_is i)),
+        record { buffer = lawful_names names h.lawful; id = v.id; at = t.0; message = (is_message-lawful (message_of p v.sort)).0 v.message },
+      )
+
+  spelled : (kind : ChangeKind) → word (behind line) ≡ kind_word kind → (c : Change) → SaysFields kind names c → IsSpelled c
+  spelled of_kind.Post = post_spelled
+  spelled of_kind.Redact = redaction_spelled
+  spelled of_kind.Mark = mark_spelled
+  spelled of_kind.Floor = floor_spelled
+
+pub one_spelling : (line : List ℕ) (c : Change) → read_change line ≡ Ok c → (line ≡ line_of c) × IsLawfulChange c
+one_spelling line c h =
+    let p = line_says line c h in
+    let q = kind_says (change_kind (word (behind line))) (behind (behind line)) c p.1 in
+    spelled line p.0 q.0 (kind_is (word (behind line)) q.0 q.1) c q.2

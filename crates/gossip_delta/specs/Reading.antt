@@ -1,0 +1,26 @@
+-- The change that a reading of the code stands for.
+use Rattle.std.specs.Prelude.{Result, Ok, Err}
+use Rattle.chat_change.specs.Message as message
+use Rattle.chat_change.specs.declared.change.Change as change
+use Rattle.chat_change.specs.declared.change.Change.TheVariants as change_kind
+use Rattle.gossip_delta.specs.ChangeLine.{buffer_named}
+use Rattle.gossip_delta.specs.BufferFields.{value_of}
+use Rattle.gossip_delta.specs.declared.fault.ChangeLineFault.{ChangeLineFault}
+use Rattle.gossip_delta.specs.declared.reading.Reading.{Reading}
+use Rattle.gossip_delta.specs.declared.reading.Reading.TheVariants.{Post, Redact, Mark, Floor}
+
+abbrev pub change_of : Reading → change.Change
+change_of (Post names id at m) =
+    change_kind.Post (record {
+      buffer = buffer_named (value_of names);
+      id = id.now;
+      at = at;
+      message = message.value_of m;
+    })
+change_of (Redact names id at) = change_kind.Redact (buffer_named (value_of names)) id.now at
+change_of (Mark names at) = change_kind.Mark (buffer_named (value_of names)) at
+change_of (Floor names at) = change_kind.Floor (buffer_named (value_of names)) at
+
+abbrev pub change_or_fault : Result Reading ChangeLineFault → Result change.Change ChangeLineFault
+change_or_fault (Ok reading) = Ok (change_of reading)
+change_or_fault (Err fault) = Err fault

@@ -1,0 +1,245 @@
+//! Reading the line of a change.
+ghost use Rattle.std.specs.Prelude.{◌≡◌, true, Ok, IfOk, IfErr};
+ghost use Rattle.chat_change.specs.Message as parts;
+ghost use Rattle.chat_change.specs.declared.change.Change.TheVariants as change;
+ghost use Rattle.gossip_delta.specs.ChangeLine as spec;
+ghost use Rattle.gossip_delta.specs.BufferFields as fields;
+ghost use Rattle.gossip_delta.specs.Reading.{change_of};
+
+use crate::fault::ChangeLineFault;
+use crate::fields::BufferFields;
+use crate::reading::{Reading, read_line};
+use chat_change::{Buffer, Change, Message, Moment, MsgId, Record};
+use memory::NoMemory;
+use std::alloc::Global;
+
+// Whether these are the names of a buffer that is known.
+fn is_known(buffer: &Buffer, b: BufferFields<'_>) -> bool
+    ensures { result ≡ true → buffer.now ≡ spec.buffer_named (fields.value_of b.entry) }
+{
+    buffer.account() == b.account && buffer.network() == b.network && buffer.target() == b.target
+}
+
+// The maker refuses nothing here, since the names are those of a buffer: it can only want memory.
+fn new_buffer(alloc: Global, b: BufferFields<'_>) -> Result<Buffer, NoMemory>
+    ensures { IfOk result (λ buffer. buffer ≡ spec.buffer_named (fields.value_of b.entry)) }
+{
+    match Buffer::new(alloc, b.account, b.network, b.target) {
+        Ok(buffer) => Ok(buffer),
+        Err(_) => Err(NoMemory),
+    }
+}
+
+fn clone_of(buffer: &Buffer) -> Result<Buffer, NoMemory>
+    ensures { IfOk result (λ copy. copy ≡ buffer.now) }
+{
+    match buffer.try_clone() {
+        Ok(copy) => Ok(copy),
+        Err(_) => Err(NoMemory),
+    }
+}
+
+// The buffer of these names: a clone of the known one, if it is that.
+fn buffer_for(
+    alloc: Global,
+    known: Option<&Buffer>,
+    b: BufferFields<'_>,
+) -> Result<Buffer, NoMemory>
+    ensures { IfOk result (λ buffer. buffer ≡ spec.buffer_named (fields.value_of b.entry)) }
+{
+    match known {
+        None => new_buffer(alloc, b),
+        Some(buffer) => {
+            if is_known(buffer, b) {
+                clone_of(buffer)
+            } else {
+                new_buffer(alloc, b)
+            }
+        }
+    }
+}
+
+fn new_id(alloc: Global, id: &[u8]) -> Result<MsgId, NoMemory>
+    ensures { IfOk result (λ made. made ≡ id.now) }
+{
+    match MsgId::new(alloc, id) {
+        Ok(made) => Ok(made),
+        Err(_) => Err(NoMemory),
+    }
+}
+
+fn new_record(
+    alloc: Global,
+    buffer: Buffer,
+    id: MsgId,
+    at: Moment,
+    message: Message<'_>,
+) -> Result<Change, NoMemory>
+    ensures { IfOk result (λ made. made ≡ change.Post (record {
+      buffer = buffer;
+      id = id;
+      at = at;
+      message = parts.value_of message.entry;
+    })) }
+{
+    match Record::new(alloc, buffer, id, at, message) {
+        Ok(post) => Ok(Change::Post(post)),
+        Err(_) => Err(NoMemory),
+    }
+}
+
+fn new_post(
+    alloc: Global,
+    buffer: Buffer,
+    id: &[u8],
+    at: Moment,
+    message: Message<'_>,
+) -> Result<Change, NoMemory>
+    ensures { IfOk result (λ made. made ≡ change.Post (record {
+      buffer = buffer;
+      id = id.now;
+      at = at;
+      message = parts.value_of message.entry;
+    })) }
+{
+    match new_id(alloc, id) {
+        Ok(id) => new_record(alloc, buffer, id, at, message),
+        Err(fault) => Err(fault),
+    }
+}
+
+fn new_redaction(
+    alloc: Global,
+    buffer: Buffer,
+    id: &[u8],
+    at: Option<Moment>,
+) -> Result<Change, NoMemory>
+    ensures { IfOk result (λ made. made ≡ change.Redact buffer id.now at) }
+{
+    match new_id(alloc, id) {
+        Ok(id) => Ok(Change::Redact { buffer, id, at }),
+        Err(fault) => Err(fault),
+    }
+}
+
+fn post_for(
+    alloc: Global,
+    known: Option<&Buffer>,
+    b: BufferFields<'_>,
+    id: &[u8],
+    at: Moment,
+    message: Message<'_>,
+) -> Result<Change, NoMemory>
+    ensures { IfOk result (λ made. made ≡ change.Post (record {
+      buffer = spec.buffer_named (fields.value_of b.entry);
+      id = id.now;
+      at = at;
+      message = parts.value_of message.entry;
+    })) }
+{
+    match buffer_for(alloc, known, b) {
+        Ok(buffer) => new_post(alloc, buffer, id, at, message),
+        Err(fault) => Err(fault),
+    }
+}
+
+fn redaction_for(
+    alloc: Global,
+    known: Option<&Buffer>,
+    b: BufferFields<'_>,
+    id: &[u8],
+    at: Option<Moment>,
+) -> Result<Change, NoMemory>
+    ensures { IfOk result (λ made. made
+        ≡ change.Redact (spec.buffer_named (fields.value_of b.entry)) id.now at) }
+{
+    match buffer_for(alloc, known, b) {
+        Ok(buffer) => new_redaction(alloc, buffer, id, at),
+        Err(fault) => Err(fault),
+    }
+}
+
+fn mark_for(
+    alloc: Global,
+    known: Option<&Buffer>,
+    b: BufferFields<'_>,
+    at: Moment,
+) -> Result<Change, NoMemory>
+    ensures { IfOk result (λ made. made
+        ≡ change.Mark (spec.buffer_named (fields.value_of b.entry)) at) }
+{
+    match buffer_for(alloc, known, b) {
+        Ok(buffer) => Ok(Change::Mark { buffer, at }),
+        Err(fault) => Err(fault),
+    }
+}
+
+fn floor_for(
+    alloc: Global,
+    known: Option<&Buffer>,
+    b: BufferFields<'_>,
+    at: Moment,
+) -> Result<Change, NoMemory>
+    ensures { IfOk result (λ made. made
+        ≡ change.Floor (spec.buffer_named (fields.value_of b.entry)) at) }
+{
+    match buffer_for(alloc, known, b) {
+        Ok(buffer) => Ok(Change::Floor { buffer, at }),
+        Err(fault) => Err(fault),
+    }
+}
+
+// The change that a line says, made in memory of its own.
+fn change_for(
+    alloc: Global,
+    known: Option<&Buffer>,
+    reading: &Reading<'_>,
+) -> Result<Change, NoMemory>
+    ensures { IfOk result (λ made. made ≡ change_of reading.now) }
+{
+    match reading {
+        Reading::Post {
+            names,
+            id,
+            at,
+            message,
+        } => post_for(alloc, known, *names, id, *at, *message),
+        Reading::Redact { names, id, at } => redaction_for(alloc, known, *names, id, *at),
+        Reading::Mark { names, at } => mark_for(alloc, known, *names, *at),
+        Reading::Floor { names, at } => floor_for(alloc, known, *names, *at),
+    }
+}
+
+/// The change that a line spells. The line stands without its ending.
+///
+/// Fields stand exactly one space apart, numbers have no leading zeros, and the target of the buffer stands folded, so
+/// that a change has one line ([`changes_have_one_spelling`](crate::laws::changes_have_one_spelling)). The form of the
+/// line is checked before its fields, and both before memory is asked for: [`ChangeLineFault::NoMemory`] comes only of a
+/// line that spells a change.
+pub fn read_change(alloc: Global, line: &[u8]) -> Result<Change, ChangeLineFault>
+    ensures made { IfOk result (λ change. spec.read_change line.now ≡ Ok change) }
+    ensures refused { IfErr result
+        (λ fault. fault ≡ spec.fault_or_no_memory (spec.read_change line.now)) }
+{
+    read_change_in(alloc, None, line)
+}
+
+/// The same, with a buffer that is known already. A line of that buffer gets a clone of it, which shares its memory; of
+/// every other line the change is made anew. What is answered doesn't depend on it.
+pub fn read_change_in(
+    alloc: Global,
+    known: Option<&Buffer>,
+    line: &[u8],
+) -> Result<Change, ChangeLineFault>
+    ensures made { IfOk result (λ change. spec.read_change line.now ≡ Ok change) }
+    ensures refused { IfErr result
+        (λ fault. fault ≡ spec.fault_or_no_memory (spec.read_change line.now)) }
+{
+    match read_line(line) {
+        Err(fault) => Err(fault),
+        Ok(reading) => match change_for(alloc, known, &reading) {
+            Ok(change) => Ok(change),
+            Err(_) => Err(ChangeLineFault::NoMemory),
+        },
+    }
+}

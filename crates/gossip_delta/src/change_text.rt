@@ -1,0 +1,134 @@
+//! Writing the line of a change.
+ghost use Rattle.std.specs.Prelude.{◌≡◌, ◌≤◌, ◌++◌, [], ◌∷◌, map, decimal, Ok};
+ghost use Rattle.irc_time.specs.Time.{greatest};
+ghost use Rattle.chat_change.specs.Buffer.{IsLawfulBuffer};
+ghost use Rattle.output.specs.Writes.{Writes};
+ghost use Rattle.chat_change.specs.declared.change.Change.TheVariants as change;
+ghost use Rattle.gossip_delta.specs.Words.{words_text};
+ghost use Rattle.gossip_delta.specs.ChangeLine.{read_change};
+ghost use Rattle.gossip_delta.specs.ChangeText.{line_of, line_end, buffer_words};
+ghost use Rattle.chat_change.specs.Lawful.{IsLawfulRecord, IsLawfulChange};
+
+use chat_change::{Buffer, Change, Moment, MsgId, Record};
+use output::put;
+use std::io;
+use std::io::Write;
+
+// Writes a word and the space behind it.
+fn put_word<W: Write>(writer: &mut W, word: &[u8]) -> io::Result<()>
+    ensures { Writes W.contents writer.old writer.new result (word.now ++ (32 ∷ [])) }
+{
+    put(writer, word)?;
+    put(writer, b" ")
+}
+
+fn put_words<W: Write>(writer: &mut W, words: &[&[u8]]) -> io::Result<()>
+    ensures { Writes W.contents writer.old writer.new result
+        (words_text (map (λ w. w.now) words.now)) }
+{
+    for word in words {
+        put_word(writer, word)?;
+    }
+    Ok(())
+}
+
+// Writes the last field behind its sign, and the end of the line.
+fn put_end<W: Write>(writer: &mut W, sign: &[u8], last: &[u8]) -> io::Result<()>
+    ensures { Writes W.contents writer.old writer.new result
+        (sign.now ++ (last.now ++ line_end)) }
+{
+    put(writer, sign)?;
+    put(writer, last)?;
+    put(writer, b"\r\n")
+}
+
+fn put_line<W: Write>(writer: &mut W, words: &[&[u8]], sign: &[u8], last: &[u8]) -> io::Result<()>
+    ensures { Writes W.contents writer.old writer.new result
+        ((words_text (map (λ w. w.now) words.now) ++ (sign.now ++ last.now)) ++ line_end) }
+{
+    put_words(writer, words)?;
+    put_end(writer, sign, last)
+}
+
+fn put_post<W: Write>(writer: &mut W, post: &Record) -> io::Result<()>
+    ensures text { Writes W.contents writer.old writer.new result
+        (line_of (change.Post post.now) ++ line_end) }
+    ensures lawful { IsLawfulRecord post.now }
+{
+    let mut digits = itoa::Buffer::new();
+    let buffer = post.buffer();
+    let message = post.message();
+    let words: [&[u8]; 10] = [
+        b"C",
+        b"POST",
+        buffer.account(),
+        buffer.network(),
+        buffer.target(),
+        post.id().as_bytes(),
+        digits.format(post.at().ms()).as_bytes(),
+        &[message.kind.letter()],
+        message.target,
+        message.source,
+    ];
+    put_line(writer, &words, b":", message.body)
+}
+
+fn put_redaction<W: Write>(
+    writer: &mut W,
+    buffer: &Buffer,
+    id: &MsgId,
+    at: Option<Moment>,
+) -> io::Result<()>
+    ensures text { Writes W.contents writer.old writer.new result
+        (line_of (change.Redact buffer.now id.now at) ++ line_end) }
+    ensures lawful { IsLawfulChange (change.Redact buffer.now id.now at) }
+{
+    let words: [&[u8]; 6] = [
+        b"C",
+        b"REDACT",
+        buffer.account(),
+        buffer.network(),
+        buffer.target(),
+        id.as_bytes(),
+    ];
+    match at {
+        None => put_line(writer, &words, b"", b"*"),
+        Some(at) => {
+            let mut digits = itoa::Buffer::new();
+            put_line(writer, &words, b"", digits.format(at.ms()).as_bytes())
+        }
+    }
+}
+
+// Writes the line of a marker or of a floor.
+fn put_moment<W: Write>(writer: &mut W, kind: &[u8], buffer: &Buffer, at: Moment) -> io::Result<()>
+    ensures text { Writes W.contents writer.old writer.new result
+        ((words_text (buffer_words kind.now buffer.now []) ++ decimal at) ++ line_end) }
+    ensures buffer { IsLawfulBuffer buffer.now }
+    ensures at { at ≤ greatest }
+{
+    let mut digits = itoa::Buffer::new();
+    let words: [&[u8]; 5] = [
+        b"C",
+        kind,
+        buffer.account(),
+        buffer.network(),
+        buffer.target(),
+    ];
+    put_line(writer, &words, b"", digits.format(at.ms()).as_bytes())
+}
+
+/// Writes the one line that spells the change, and CR LF behind it: all of it at `Ok`, and a prefix of it where the
+/// writer failed. It takes no memory. The line is read back as that change.
+pub fn write_change<W: Write>(change: &Change, writer: &mut W) -> io::Result<()>
+    ensures text { Writes W.contents writer.old writer.new result
+        (line_of change.now ++ line_end) }
+    ensures read_back { read_change (line_of change.now) ≡ Ok change.now }
+{
+    match change {
+        Change::Post(record) => put_post(writer, record),
+        Change::Redact { buffer, id, at } => put_redaction(writer, buffer, id, *at),
+        Change::Mark { buffer, at } => put_moment(writer, b"MARK", buffer, *at),
+        Change::Floor { buffer, at } => put_moment(writer, b"FLOOR", buffer, *at),
+    }
+}
