@@ -227,7 +227,9 @@ impl Negotiation {
         }
     }
 
-    fn answer_cap(
+    /// Answers a CAP of these parameters (IRCv3 capability negotiation): [`step`](Negotiation::step) of a line whose
+    /// command is known. `CAP END` has no answer. For want of memory nothing changes.
+    pub fn answer_cap(
         &mut self,
         alloc: Global,
         parameters: &[&[u8]],

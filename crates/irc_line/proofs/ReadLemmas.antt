@@ -7,8 +7,8 @@ use Rattle.irc_line.specs.declared.line.LineFault.TheVariants.{Empty, TagsTooLon
 use Rattle.irc_line.specs.declared.line.TagLimit.{TagLimit}
 use Rattle.irc_line.specs.Line.{Reading, colon, at_sign, rank, SkipsSpaces, SplitsWord, SplitsTags, SplitsSource, HasParameters, HasHead, IsRefused, Reads}
 use Rattle.irc_line.specs.Faults.{shows, first_fault}
-use Rattle.irc_line.specs.Read.{after_spaces, word, after_word, tags_of, after_tags, source_of, after_source, last_parameter, next_parameter, parameters, head_of, reading_of, fault_or, read}
-use Rattle.irc_line.proofs.LineLemmas.{skips_at_first, splits_at_first, spelled_once, match_true, match_false}
+use Rattle.irc_line.specs.Read.{after_spaces, word, after_word, tags_of, after_tags, source_of, after_source, last_parameter, next_parameter, parameters, head_of, reading_of, fault_or, read, text_in}
+use Rattle.irc_line.proofs.LineLemmas.{skips_at_first, splits_at_first, tags_once, source_once, spelled_once, match_true, match_false}
 use Rattle.irc_line.proofs.FaultsLemmas.{refused, sound}
 
 skips : (xs : List ℕ) → SkipsSpaces xs (after_spaces xs)
@@ -34,6 +34,14 @@ source_split xs = go (after_spaces xs) (skips xs) where
   go : (text : List ℕ) → SkipsSpaces xs text → SplitsSource xs (source_of text) (after_source text)
   go [] p = (p, refl)
   go (b ∷ bytes) p = at b bytes p (b == colon) refl
+
+-- what is left behind tags and source is the text from the command on
+pub text_is : (bytes : List ℕ) (tags source : Option (List ℕ)) (rest text : List ℕ)
+    → SplitsTags bytes tags rest → SplitsSource rest source text → text ≡ text_in bytes
+text_is bytes tags source rest text before behind =
+    let e = (tags_once bytes tags (tags_of bytes) rest (after_tags bytes) before (tags_split bytes)).1 in
+    let moved = subst (λ (l : List ℕ). SplitsSource l source text) e behind in
+    (source_once (after_tags bytes) source _ text _ moved (source_split (after_tags bytes))).1
 
 has_parameters : (left n : ℕ) (bytes : List ℕ) → left + n ≡ 14 → HasParameters n bytes (parameters left bytes)
 has_parameters zero n bytes e = go (after_spaces bytes) (skips bytes) where

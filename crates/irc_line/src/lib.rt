@@ -7,7 +7,7 @@ mod line;
 mod stream;
 mod text;
 
-pub use line::{Line, LineFault, TagLimit, read_line};
+pub use line::{Line, LineFault, TagLimit, read_line, text_of};
 pub use memory::NoMemory;
 pub use stream::{Feeder, Next};
 pub use text::{OutLine, write_line};

@@ -3,7 +3,7 @@ ghost use Rattle.std.specs.Prelude.{◌≡◌, ◌≤◌, ◌==◌, nat_lt, not,
 ghost use Rattle.std.specs.List.{list_any, list_all};
 ghost use Rattle.std.specs.Option.{option_copied};
 ghost use Rattle.irc_line.specs.Faults.{shows, first_fault, is_empty_source};
-ghost use Rattle.irc_line.specs.Read.{read};
+ghost use Rattle.irc_line.specs.Read.{read, text_in};
 ghost use Rattle.irc_line.specs.Line.{Reading, most_parameters, tag_limit, space, colon, begins_with, is_bad, is_letter, is_digit, is_command, SkipsSpaces, SplitsWord, SplitsTags, SplitsSource, HasParameters, IsRefused, Reads};
 
 use byte_search::find_byte;
@@ -319,4 +319,14 @@ pub fn read_line(bytes: &[u8], limit: TagLimit) -> Result<Line<'_>, LineFault>
         parameters,
         count,
     })
+}
+
+/// The text of a line from its command on, without the tags and the source that may stand before it (RFC 1459 and RFC
+/// 2812, section 2.3; IRCv3 message-tags). It copies nothing.
+pub fn text_of(bytes: &[u8]) -> &[u8]
+    ensures { result.now ≡ text_in bytes.now }
+{
+    let (_, after_tags) = split_tags(bytes);
+    let (_, text) = split_source(after_tags);
+    text
 }

@@ -1,0 +1,2 @@
+mod SecretLemmas
+mod FirstLemmas

@@ -1,0 +1,20 @@
+//! The accounts of the cluster, with their secrets and their networks, and how the session with each network's server
+//! stands at one moment.
+//!
+//! A [`Directory`] is handed to each step of a client's session. It says who is let in, by [`Directory::entry_by_secret`],
+//! and which nick and which channels the network gives. No type of this crate has a `Debug` text, so no secret stands in one.
+#![tactic(auto)]
+
+mod account;
+mod directory;
+mod entry;
+mod network;
+mod secret;
+
+pub use account::Account;
+pub use directory::Directory;
+pub use entry::Entry;
+pub use network::Network;
+
+#[cfg(test)]
+mod tests;

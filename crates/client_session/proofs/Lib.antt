@@ -1,0 +1,4 @@
+mod HeldLemmas
+mod RegistrationLemmas
+mod RegisteredLemmas
+mod EventLemmas

@@ -1,0 +1,159 @@
+-- A session after its registration: what each command does.
+use Rattle.std.specs.Prelude.{ℕ, Bool, false, not, ◌&&◌, List, [], ◌∷◌, ◌++◌, codes, take, drop, Option, None, Some, if◌then◌else◌}
+use Rattle.std.specs.Str.{bytes_eq}
+use Rattle.irc_time.specs.Reading.{time_of}
+use Rattle.irc_reply.specs.Reply.{unknown_text}
+use Rattle.irc_caps.specs.Negotiation.{registered, cap_answer}
+use Rattle.irc_caps.specs.Replies.{need_more_params}
+use Rattle.chat_change.specs.Words.{is_name, is_target, is_id}
+use Rattle.chat_change.specs.Buffer.{buffer_of}
+use Rattle.chat_change.specs.declared.change.Change.TheVariants.{Mark}
+use Rattle.chat_batch.specs.declared.facts.Facts.{Facts}
+use Rattle.client_directory.specs.Entry.{Entry}
+use Rattle.client_replies.specs.Replies.{may_not_reregister, not_connected, plain_line, passed_line, redact_needs_more, redact_bad_target, redact_unknown_id, redact_forbidden}
+use Rattle.client_session.specs.declared.command.Command.{Command}
+use Rattle.client_session.specs.declared.command.Command.TheVariants.{Cap, Pass, Nick, User, Ping, Pong, Quit, Chathistory, Markread, Redact, Tagmsg, Other}
+use Rattle.client_session.specs.declared.effect.Effect.{Effect}
+use Rattle.client_session.specs.declared.effect.Effect.TheVariants.{Send, Put, Ask, Upstream}
+use Rattle.client_session.specs.declared.stage.Stage.TheVariants as stage
+use Rattle.client_session.specs.Step.{Step, answer, ping, quit, nick_refusal}
+use Rattle.client_session.specs.Registration.{user_name}
+
+abbrev pub stays : Facts → List Effect → Step
+stays f effects = record { session = stage.Registered f; effects = effects }
+
+-- ---- the network, where the directory has it
+
+abbrev pub is_up : Option Entry → Bool
+is_up None = false
+is_up (Some entry) = entry.is_up
+
+abbrev pub takes_redact : Option Entry → Bool
+takes_redact None = false
+takes_redact (Some entry) = entry.is_up && entry.takes_redact
+
+-- the session's nick is the network's present nick
+abbrev pub with_nick_of : Option Entry → Facts → Facts
+with_nick_of None f = f
+with_nick_of (Some entry) f = record f { nick = entry.nick }
+
+-- a line for the network's server, where that is up
+abbrev pub upstream : Option Entry → Facts → List ℕ → List Effect
+upstream entry f line =
+    if is_up entry then Upstream line ∷ [] else answer (not_connected f.cluster f.nick f.network)
+
+-- ---- CAP, PASS, USER, NICK
+
+abbrev pub answer_if : Option (List ℕ) → List Effect
+answer_if None = []
+answer_if (Some line) = answer line
+
+abbrev pub cap : Facts → List (List ℕ) → Step
+cap f parameters =
+    let a = cap_answer f.cluster f.nick (registered f.caps) parameters in
+    stays (record f { caps = a.negotiation.caps }) (answer_if a.line)
+
+abbrev pub need_more : Facts → List ℕ → List Effect
+need_more f command = answer (need_more_params f.cluster f.nick command)
+
+abbrev pub pass : Facts → List (List ℕ) → List Effect
+pass f [] = need_more f (codes "PASS")
+pass f _ = answer (may_not_reregister f.cluster f.nick)
+
+abbrev pub user_if : Facts → Option (List ℕ) → List Effect
+user_if f None = need_more f (codes "USER")
+user_if f (Some name) = answer (may_not_reregister f.cluster f.nick)
+
+abbrev pub user : Facts → List (List ℕ) → List Effect
+user f parameters = user_if f (user_name parameters)
+
+abbrev pub nick_unless : Option Entry → Facts → List (List ℕ) → Option (List ℕ) → List Effect
+nick_unless entry f parameters None =
+    upstream entry f (plain_line (codes "NICK") (take 1 parameters) None)
+nick_unless entry f parameters (Some refusal) = answer refusal
+
+abbrev pub nick : Option Entry → Facts → List (List ℕ) → List Effect
+nick entry f parameters =
+    nick_unless entry f parameters (nick_refusal f.cluster f.nick parameters)
+
+-- ---- the commands that hang on a capability (IRCv3 draft/chathistory, draft/read-marker, draft/message-redaction)
+
+abbrev pub with_capability : Bool → Facts → List ℕ → List Effect → List Effect
+with_capability has f command effects =
+    if has then effects else answer (unknown_text f.cluster f.nick command)
+
+-- CHATHISTORY is asked as it came
+abbrev pub chathistory : Facts → List ℕ → List Effect
+chathistory f bytes = with_capability f.caps.chathistory f (codes "CHATHISTORY") (Ask bytes ∷ [])
+
+-- the target has a buffer
+abbrev pub has_buffer : Facts → List ℕ → Bool
+has_buffer f target = is_name f.account && is_name f.network && is_target target
+
+-- the moment of `timestamp=` and a time
+abbrev pub marker_in : List ℕ → Option ℕ
+marker_in word =
+    if bytes_eq (take 10 word) (codes "timestamp=") then time_of (drop 10 word) else None
+
+abbrev pub marker_put : Facts → List ℕ → Option ℕ → List Effect
+marker_put f target None = []
+marker_put f target (Some at) =
+    if has_buffer f target then Put (Mark (buffer_of f.account f.network target) at) ∷ [] else []
+
+-- `MARKREAD target timestamp=time` puts a marker
+abbrev pub markread_put : Facts → List (List ℕ) → List Effect
+markread_put f (target ∷ word ∷ more) = marker_put f target (marker_in word)
+markread_put f _ = []
+
+-- each MARKREAD is asked as it came, behind its marker
+abbrev pub markread : Facts → List ℕ → List (List ℕ) → List Effect
+markread f bytes parameters =
+    with_capability f.caps.read_marker f (codes "MARKREAD")
+    (markread_put f parameters ++ Ask bytes ∷ [])
+
+abbrev pub first_of : List (List ℕ) → Option (List ℕ)
+first_of [] = None
+first_of (word ∷ words) = Some word
+
+-- `REDACT target id [reason]`, where it is known whether the buffer shows a message of that id
+abbrev pub redact_named :
+    Option Entry → Facts → Bool → List ℕ → List ℕ → Option (List ℕ) → List Effect
+redact_named entry f shown target id reason =
+    if not (has_buffer f target) then answer (redact_bad_target f.cluster)
+    else if not (is_id id && shown) then answer (redact_unknown_id f.cluster target)
+    else if not (takes_redact entry) then answer (redact_forbidden f.cluster target)
+    else Upstream (plain_line (codes "REDACT") (target ∷ id ∷ []) reason) ∷ []
+
+abbrev pub redact_of : Option Entry → Facts → Bool → List (List ℕ) → List Effect
+redact_of entry f shown (target ∷ id ∷ more) = redact_named entry f shown target id (first_of more)
+redact_of entry f shown _ = answer (redact_needs_more f.cluster)
+
+abbrev pub redact : Option Entry → Facts → Bool → List (List ℕ) → List Effect
+redact entry f shown parameters =
+    with_capability f.caps.message_redaction f (codes "REDACT") (redact_of entry f shown parameters)
+
+-- ---- the tables
+
+-- what the commands do that leave the session as it is
+abbrev pub effects :
+    Option Entry → Facts → Bool → List ℕ → Command → List (List ℕ) → List Effect
+effects entry f shown bytes Cap parameters = []
+effects entry f shown bytes Quit parameters = []
+effects entry f shown bytes Pong parameters = []
+effects entry f shown bytes Tagmsg parameters = []
+effects entry f shown bytes Pass parameters = pass f parameters
+effects entry f shown bytes User parameters = user f parameters
+effects entry f shown bytes Ping parameters = ping f.cluster f.nick parameters
+effects entry f shown bytes Nick parameters = nick entry f parameters
+effects entry f shown bytes Chathistory parameters = chathistory f bytes
+effects entry f shown bytes Markread parameters = markread f bytes parameters
+effects entry f shown bytes Redact parameters = redact entry f shown parameters
+effects entry f shown bytes Other parameters = upstream entry f (passed_line bytes)
+
+-- the table of the commands after registration
+abbrev pub after_registration :
+    Option Entry → Facts → Bool → List ℕ → Command → List (List ℕ) → Step
+after_registration entry f shown bytes Cap parameters = cap f parameters
+after_registration entry f shown bytes Quit parameters = quit
+after_registration entry f shown bytes command parameters =
+    stays f (effects entry f shown bytes command parameters)

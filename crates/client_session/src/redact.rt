@@ -1,0 +1,94 @@
+//! REDACT of a registered session (IRCv3 draft/message-redaction).
+ghost use Rattle.std.specs.Prelude.{◌≡◌, ◌∷◌, [], map, IfOk};
+ghost use Rattle.std.specs.Option.{option_copied};
+ghost use Rattle.client_session.specs.Registered as spec;
+
+use crate::effect::Effect;
+use crate::markread::has_buffer;
+use crate::registered::{takes_redact, unknown_command};
+use crate::shared::{answer, one};
+use chat_batch::Facts;
+use chat_change::is_id;
+use client_directory::Entry;
+use client_replies::{
+    redact_bad_target, redact_forbidden, redact_line, redact_needs_more, redact_unknown_id,
+};
+use memory::NoMemory;
+use std::alloc::Global;
+
+fn first_of<'a>(parameters: &[&'a [u8]]) -> Option<&'a [u8]>
+    ensures { option_copied result ≡ spec.first_of (map (λ p. p.now) parameters.now) }
+{
+    if parameters.is_empty() {
+        None
+    } else {
+        Some(parameters[0])
+    }
+}
+
+fn redact_named(
+    alloc: Global,
+    entry: Option<&Entry>,
+    facts: &Facts,
+    shown: bool,
+    target: &[u8],
+    id: &[u8],
+    reason: Option<&[u8]>,
+) -> Result<Vec<Effect>, NoMemory>
+    ensures { IfOk result (λ list. list.items ≡ spec.redact_named (option_copied entry.entry)
+        facts.now shown target.now id.now (option_copied reason.entry)) }
+{
+    let cluster = facts.cluster.as_bytes();
+    if !has_buffer(facts, target) {
+        let text = redact_bad_target(alloc, cluster)?;
+        answer(alloc, text)
+    } else if !(is_id(id) && shown) {
+        let text = redact_unknown_id(alloc, cluster, target)?;
+        answer(alloc, text)
+    } else if !takes_redact(entry) {
+        let text = redact_forbidden(alloc, cluster, target)?;
+        answer(alloc, text)
+    } else {
+        let line = redact_line(alloc, target, id, reason)?;
+        one(alloc, Effect::Upstream(line))
+    }
+}
+
+fn redact_of(
+    alloc: Global,
+    entry: Option<&Entry>,
+    facts: &Facts,
+    shown: bool,
+    parameters: &[&[u8]],
+) -> Result<Vec<Effect>, NoMemory>
+    ensures { IfOk result (λ list. list.items ≡ spec.redact_of (option_copied entry.entry)
+        facts.now shown (map (λ p. p.now) parameters.now)) }
+{
+    match parameters {
+        [target, id, rest @ ..] => {
+            redact_named(alloc, entry, facts, shown, target, id, first_of(rest))
+        }
+        _ => {
+            let text = redact_needs_more(alloc, facts.cluster.as_bytes())?;
+            answer(alloc, text)
+        }
+    }
+}
+
+/// REDACT, where it is known whether the message is shown that it names: a refusal, or a line for the network's server.
+pub(crate) fn redact(
+    alloc: Global,
+    entry: Option<&Entry>,
+    facts: &Facts,
+    shown: bool,
+    parameters: &[&[u8]],
+) -> Result<Vec<Effect>, NoMemory>
+    ensures { IfOk result (λ list. list.items ≡ spec.redact (option_copied entry.entry)
+        facts.now shown (map (λ p. p.now) parameters.now)) }
+{
+    if facts.caps.message_redaction {
+        redact_of(alloc, entry, facts, shown, parameters)
+    } else {
+        unknown_command(alloc, facts, b"REDACT")
+    }
+}

@@ -1,0 +1,360 @@
+//! A session after its registration.
+ghost use Rattle.std.specs.Prelude.{◌≡◌, ◌∷◌, [], map, take, codes, IfOk, OnErr, None};
+ghost use Rattle.std.specs.Option.{option_copied};
+ghost use Rattle.irc_reply.specs.Reply.{unknown_text};
+ghost use Rattle.client_replies.specs.Replies.{plain_line, may_not_reregister};
+ghost use Rattle.client_session.specs.Step as steps;
+ghost use Rattle.client_session.specs.Registered as spec;
+ghost use Rattle.client_session.specs.Session as session;
+ghost use Rattle.client_session.specs.Standing.{stage_of, with_former_nick};
+
+use crate::command::Command;
+use crate::effect::Effect;
+use crate::markread::markread;
+use crate::redact::redact;
+use crate::registration::user_name;
+use crate::shared::{answer, closing, nick_refusal, one, ping, refusal};
+use crate::stage::Standing;
+use chat_batch::Facts;
+use client_directory::Entry;
+use client_replies::{may_not_reregister, nick_line, not_connected, passed_line, unknown};
+use irc_caps::{Negotiation, need_more_params};
+use irc_line::LineFault;
+use memory::{NoMemory, Text};
+use std::alloc::Global;
+use std::mem;
+
+fn is_up(entry: Option<&Entry>) -> bool
+    ensures { result ≡ spec.is_up (option_copied entry.entry) }
+{
+    match entry {
+        None => false,
+        Some(found) => found.is_up(),
+    }
+}
+
+/// Whether a REDACT can go to the network's server.
+pub(crate) fn takes_redact(entry: Option<&Entry>) -> bool
+    ensures { result ≡ spec.takes_redact (option_copied entry.entry) }
+{
+    match entry {
+        None => false,
+        Some(found) => found.is_up() && found.takes_redact(),
+    }
+}
+
+fn not_up(alloc: Global, facts: &Facts) -> Result<Vec<Effect>, NoMemory>
+    ensures { IfOk result (λ list. list.items ≡ spec.upstream None facts.now []) }
+{
+    let cluster = facts.cluster.as_bytes();
+    let nick = facts.nick.as_bytes();
+    let text = not_connected(alloc, cluster, nick, facts.network.as_bytes())?;
+    answer(alloc, text)
+}
+
+/// A command that the session has no capability for (ERR_UNKNOWNCOMMAND, RFC 2812, section 5.2).
+pub(crate) fn unknown_command(
+    alloc: Global,
+    facts: &Facts,
+    command: &[u8],
+) -> Result<Vec<Effect>, NoMemory>
+    ensures { IfOk result (λ list. list.items ≡ steps.answer
+        (unknown_text facts.now.cluster facts.now.nick command.now)) }
+{
+    let cluster = facts.cluster.as_bytes();
+    let text = unknown(alloc, cluster, facts.nick.as_bytes(), command)?;
+    answer(alloc, text)
+}
+
+fn need_more(alloc: Global, facts: &Facts, command: &[u8]) -> Result<Vec<Effect>, NoMemory>
+    ensures { IfOk result (λ list. list.items ≡ spec.need_more facts.now command.now) }
+{
+    let cluster = facts.cluster.as_bytes();
+    let text = need_more_params(alloc, cluster, facts.nick.as_bytes(), command)?;
+    answer(alloc, text)
+}
+
+fn reregisters(alloc: Global, facts: &Facts) -> Result<Vec<Effect>, NoMemory>
+    ensures { IfOk result (λ list. list.items ≡ steps.answer
+        (may_not_reregister facts.now.cluster facts.now.nick)) }
+{
+    let text = may_not_reregister(alloc, facts.cluster.as_bytes(), facts.nick.as_bytes())?;
+    answer(alloc, text)
+}
+
+/// PASS, which comes too late (RFC 2812, section 3.1.1).
+fn pass(alloc: Global, facts: &Facts, parameters: &[&[u8]]) -> Result<Vec<Effect>, NoMemory>
+    ensures { IfOk result (λ list. list.items
+        ≡ spec.pass facts.now (map (λ p. p.now) parameters.now)) }
+{
+    if parameters.is_empty() {
+        need_more(alloc, facts, b"PASS")
+    } else {
+        reregisters(alloc, facts)
+    }
+}
+
+/// USER, which comes too late (RFC 2812, section 3.1.3).
+fn user(alloc: Global, facts: &Facts, parameters: &[&[u8]]) -> Result<Vec<Effect>, NoMemory>
+    ensures { IfOk result (λ list. list.items
+        ≡ spec.user facts.now (map (λ p. p.now) parameters.now)) }
+{
+    match user_name(parameters) {
+        None => need_more(alloc, facts, b"USER"),
+        Some(_) => reregisters(alloc, facts),
+    }
+}
+
+fn ask_nick(
+    alloc: Global,
+    entry: Option<&Entry>,
+    facts: &Facts,
+    nick: &[u8],
+) -> Result<Vec<Effect>, NoMemory>
+    ensures { IfOk result (λ list. list.items ≡ spec.upstream (option_copied entry.entry)
+        facts.now (plain_line (codes "NICK") (nick.now ∷ []) None)) }
+{
+    if is_up(entry) {
+        let line = nick_line(alloc, nick)?;
+        one(alloc, Effect::Upstream(line))
+    } else {
+        not_up(alloc, facts)
+    }
+}
+
+/// NICK (RFC 2812, section 3.1.2), which the network's server decides.
+fn nick(
+    alloc: Global,
+    entry: Option<&Entry>,
+    facts: &Facts,
+    parameters: &[&[u8]],
+) -> Result<Vec<Effect>, NoMemory>
+    ensures { IfOk result (λ list. list.items ≡ spec.nick (option_copied entry.entry)
+        facts.now (map (λ p. p.now) parameters.now)) }
+{
+    let cluster = facts.cluster.as_bytes();
+    match nick_refusal(alloc, cluster, facts.nick.as_bytes(), parameters)? {
+        Some(text) => answer(alloc, text),
+        None => ask_nick(alloc, entry, facts, parameters[0]),
+    }
+}
+
+/// CHATHISTORY (IRCv3 draft/chathistory), which is asked as it came.
+fn chathistory(alloc: Global, facts: &Facts, bytes: &[u8]) -> Result<Vec<Effect>, NoMemory>
+    ensures { IfOk result (λ list. list.items ≡ spec.chathistory facts.now bytes.now) }
+{
+    if facts.caps.chathistory {
+        let line = Text::new(alloc, bytes)?;
+        one(alloc, Effect::Ask(line))
+    } else {
+        unknown_command(alloc, facts, b"CHATHISTORY")
+    }
+}
+
+/// Any other line, which goes to the network's server.
+fn pass_on(
+    alloc: Global,
+    entry: Option<&Entry>,
+    facts: &Facts,
+    bytes: &[u8],
+) -> Result<Vec<Effect>, NoMemory>
+    ensures { IfOk result (λ list. list.items ≡ spec.upstream (option_copied entry.entry)
+        facts.now (passed_line bytes.now)) }
+{
+    if is_up(entry) {
+        let line = passed_line(alloc, bytes)?;
+        one(alloc, Effect::Upstream(line))
+    } else {
+        not_up(alloc, facts)
+    }
+}
+
+ghost use Rattle.client_replies.specs.Replies.{passed_line};
+
+/// What a command does that leaves the session as it is.
+fn effects(
+    alloc: Global,
+    entry: Option<&Entry>,
+    facts: &Facts,
+    shown: bool,
+    bytes: &[u8],
+    command: Command,
+    parameters: &[&[u8]],
+) -> Result<Vec<Effect>, NoMemory>
+    ensures { IfOk result (λ list. list.items ≡ spec.effects (option_copied entry.entry)
+        facts.now shown bytes.now command (map (λ p. p.now) parameters.now)) }
+{
+    match command {
+        Command::Cap | Command::Quit | Command::Pong | Command::Tagmsg => Ok(Vec::new(alloc)),
+        Command::Pass => pass(alloc, facts, parameters),
+        Command::User => user(alloc, facts, parameters),
+        Command::Ping => {
+            let cluster = facts.cluster.as_bytes();
+            ping(alloc, cluster, facts.nick.as_bytes(), parameters)
+        }
+        Command::Nick => nick(alloc, entry, facts, parameters),
+        Command::Chathistory => chathistory(alloc, facts, bytes),
+        Command::Markread => markread(alloc, facts, bytes, parameters),
+        Command::Redact => redact(alloc, entry, facts, shown, parameters),
+        Command::Other => pass_on(alloc, entry, facts, bytes),
+    }
+}
+
+/// CAP (IRCv3 capability negotiation).
+fn cap(alloc: Global, facts: &mut Facts, parameters: &[&[u8]]) -> Result<Vec<Effect>, NoMemory>
+    ensures ok { IfOk result (λ list. spec.stays facts.new list.items
+        ≡ spec.cap facts.old (map (λ p. p.now) parameters.now)) }
+    ensures err { OnErr result (facts.new ≡ facts.old) }
+{
+    let mut negotiation = Negotiation::registered(facts.caps);
+    let cluster = facts.cluster.as_bytes();
+    let line = negotiation.answer_cap(alloc, parameters, cluster, facts.nick.as_bytes())?;
+    let list = match line {
+        None => Vec::new(alloc),
+        Some(text) => answer(alloc, text)?,
+    };
+    facts.caps = negotiation.caps();
+    Ok(list)
+}
+
+fn serve_named(
+    alloc: Global,
+    entry: Option<&Entry>,
+    facts: &mut Facts,
+    shown: bool,
+    bytes: &[u8],
+    command: Command,
+    parameters: &[&[u8]],
+) -> Result<(Standing, Vec<Effect>), NoMemory>
+    ensures ok { IfOk result (λ r. record { session = stage_of r.0 facts.new; effects = r.1.items }
+        ≡ spec.after_registration (option_copied entry.entry) facts.old shown bytes.now command
+        (map (λ p. p.now) parameters.now)) }
+    ensures err { OnErr result (facts.new ≡ facts.old) }
+{
+    match command {
+        Command::Cap => {
+            let list = cap(alloc, facts, parameters)?;
+            Ok((Standing::Stays, list))
+        }
+        Command::Quit => {
+            let list = closing(alloc)?;
+            Ok((Standing::Closes, list))
+        }
+        Command::Pass
+        | Command::User
+        | Command::Ping
+        | Command::Pong
+        | Command::Tagmsg
+        | Command::Nick
+        | Command::Chathistory
+        | Command::Markread
+        | Command::Redact
+        | Command::Other => {
+            let list = effects(alloc, entry, facts, shown, bytes, command, parameters)?;
+            Ok((Standing::Stays, list))
+        }
+    }
+}
+
+fn changed_nick(
+    alloc: Global,
+    entry: Option<&Entry>,
+    facts: &Facts,
+) -> Result<Option<Text>, NoMemory>
+    ensures { IfOk result (λ nick. with_former_nick nick facts.now
+        ≡ spec.with_nick_of (option_copied entry.entry) facts.now) }
+{
+    match entry {
+        None => Ok(None),
+        Some(found) => {
+            if is_same_nick(facts.nick.as_bytes(), found.nick()) {
+                Ok(None)
+            } else {
+                Ok(Some(Text::new(alloc, found.nick())?))
+            }
+        }
+    }
+}
+
+fn is_same_nick(a: &[u8], b: &[u8]) -> bool
+    ensures { result ≡ bytes_eq a.now b.now }
+{
+    a == b
+}
+
+ghost use Rattle.std.specs.Str.{bytes_eq};
+
+// Gives the facts another nick, if there is one, and answers the one that they had.
+fn exchange_nick(facts: &mut Facts, nick: Option<Text>) -> Option<Text>
+    ensures now { facts.new ≡ with_former_nick nick facts.old }
+    ensures former { with_former_nick result facts.new ≡ facts.old }
+{
+    match nick {
+        None => None,
+        Some(nick) => Some(mem::replace(&mut facts.nick, nick)),
+    }
+}
+
+fn discard(nick: Option<Text>) {
+    let _ = nick;
+}
+
+/// What a command comes to, under the network's present nick. For want of memory nothing changes.
+pub(crate) fn serve(
+    alloc: Global,
+    entry: Option<&Entry>,
+    facts: &mut Facts,
+    shown: bool,
+    bytes: &[u8],
+    command: Command,
+    parameters: &[&[u8]],
+) -> Result<(Standing, Vec<Effect>), NoMemory>
+    ensures ok { IfOk result (λ r. record { session = stage_of r.0 facts.new; effects = r.1.items }
+        ≡ spec.after_registration (option_copied entry.entry)
+        (spec.with_nick_of (option_copied entry.entry) facts.old) shown bytes.now command
+        (map (λ p. p.now) parameters.now)) }
+    ensures err { OnErr result (facts.new ≡ facts.old) }
+{
+    let nick = changed_nick(alloc, entry, facts)?;
+    let former = exchange_nick(facts, nick);
+    match serve_named(alloc, entry, facts, shown, bytes, command, parameters) {
+        Ok(turn) => {
+            discard(former);
+            Ok(turn)
+        }
+        Err(fault) => {
+            discard(exchange_nick(facts, former));
+            Err(fault)
+        }
+    }
+}
+
+/// What a line comes to that can't be read, under the network's present nick. For want of memory nothing changes.
+pub(crate) fn refuse(
+    alloc: Global,
+    entry: Option<&Entry>,
+    facts: &mut Facts,
+    fault: LineFault,
+) -> Result<Vec<Effect>, NoMemory>
+    ensures ok { IfOk result (λ list. spec.stays facts.new list.items
+        ≡ session.refuse (spec.with_nick_of (option_copied entry.entry) facts.old) fault) }
+    ensures err { OnErr result (facts.new ≡ facts.old) }
+{
+    let nick = changed_nick(alloc, entry, facts)?;
+    let former = exchange_nick(facts, nick);
+    match refusal(
+        alloc,
+        facts.cluster.as_bytes(),
+        facts.nick.as_bytes(),
+        fault,
+    ) {
+        Ok(list) => {
+            discard(former);
+            Ok(list)
+        }
+        Err(fault) => {
+            discard(exchange_nick(facts, former));
+            Err(fault)
+        }
+    }
+}

@@ -1,0 +1,335 @@
+//! A session before its registration (RFC 2812, section 3.1).
+ghost use Rattle.std.specs.Prelude.{◌≡◌, ◌<◌, ◌++◌, ◌∷◌, [], length, map, IfOk, IfSome, Some};
+ghost use Rattle.std.specs.Option.{option_copied};
+ghost use Rattle.client_session.specs.Step as steps;
+ghost use Rattle.client_session.specs.Registration as spec;
+ghost use Rattle.client_replies.specs.Replies.{no_nick, not_registered};
+
+use crate::command::Command;
+use crate::effect::Effect;
+use crate::shared::{answer, closing, nick_refusal, one, ping, push, refusal};
+use crate::stage::{Stage, Waiting};
+use byte_search::find_byte;
+use chat_batch::Facts;
+use client_directory::{Directory, Entry};
+use client_replies::{
+    closing_link, join_line, marker_question, no_motd, not_registered, password_incorrect, support,
+    welcome,
+};
+use irc_caps::{CapSet, need_more_params};
+use irc_line::LineFault;
+use memory::{NoMemory, Text};
+use std::alloc::Global;
+
+/// The nick of a session before registration.
+const NO_NICK: &[u8] = b"*";
+
+/// The account and the network of `account/network`, cut at the first `/`.
+fn split_user(user: &[u8]) -> (&[u8], &[u8])
+    ensures account { result.0.now ≡ spec.account_of user.now }
+    ensures network { result.1.now ≡ spec.network_of user.now }
+{
+    match find_byte(user, b'/') {
+        Some(at) => (&user[..at], &user[at + 1..]),
+        None => (user, &user[user.len()..]),
+    }
+}
+
+/// The first of the four parameters of USER.
+pub(crate) fn user_name<'a>(parameters: &[&'a [u8]]) -> Option<&'a [u8]>
+    ensures { option_copied result ≡ spec.user_name (map (λ p. p.now) parameters.now) }
+{
+    match parameters {
+        [name, _, _, _, ..] => Some(name),
+        _ => None,
+    }
+}
+
+fn push_question(
+    alloc: Global,
+    caps: CapSet,
+    channel: &[u8],
+    list: &mut Vec<Effect>,
+) -> Result<(), NoMemory>
+    ensures { IfOk result (λ _. list.new.items
+        ≡ list.old.items ++ spec.marker_questions caps channel.now) }
+{
+    if caps.read_marker {
+        let question = marker_question(alloc, channel)?;
+        push(list, Effect::Ask(question))?;
+    }
+    Ok(())
+}
+
+fn push_channel(
+    alloc: Global,
+    nick: &[u8],
+    caps: CapSet,
+    channel: &[u8],
+    list: &mut Vec<Effect>,
+) -> Result<(), NoMemory>
+    ensures { IfOk result (λ _. list.new.items
+        ≡ list.old.items ++ spec.channel_lines nick.now caps channel.now) }
+{
+    let join = join_line(alloc, nick, channel)?;
+    push(list, Effect::Send(join))?;
+    push_question(alloc, caps, channel, list)
+}
+
+/// The numerics that a session is greeted with.
+fn welcoming(alloc: Global, facts: &Facts) -> Result<Vec<Effect>, NoMemory>
+    ensures { IfOk result (λ list. list.items ≡ spec.greeting facts.now []) }
+{
+    let cluster = facts.cluster.as_bytes();
+    let nick = facts.nick.as_bytes();
+    let text = welcome(alloc, cluster, nick, facts.network.as_bytes())?;
+    let mut list = answer(alloc, text)?;
+    let text = support(alloc, cluster, nick, facts.maximum)?;
+    push(&mut list, Effect::Send(text))?;
+    let text = no_motd(alloc, cluster, nick)?;
+    push(&mut list, Effect::Send(text))?;
+    Ok(list)
+}
+
+fn greeting(alloc: Global, facts: &Facts, channels: &[Text]) -> Result<Vec<Effect>, NoMemory>
+    ensures { IfOk result (λ list. list.items ≡ spec.greeting facts.now channels.now) }
+{
+    let mut list = welcoming(alloc, facts)?;
+    for channel in channels {
+        let nick = facts.nick.as_bytes();
+        push_channel(alloc, nick, facts.caps, channel.as_bytes(), &mut list)?;
+    }
+    Ok(list)
+}
+
+impl Waiting {
+    fn waits(self, alloc: Global, text: Text) -> Result<(Stage, Vec<Effect>), NoMemory>
+        ensures { IfOk result (λ r. record { session = r.0; effects = r.1.items }
+            ≡ spec.waits self (steps.answer text)) }
+    {
+        let list = answer(alloc, text)?;
+        Ok((Stage::Waiting(self), list))
+    }
+
+    fn needs_more(self, alloc: Global, command: &[u8]) -> Result<(Stage, Vec<Effect>), NoMemory>
+        ensures { IfOk result (λ r. record { session = r.0; effects = r.1.items }
+            ≡ spec.waits self (steps.answer
+            (need_more_params self.cluster no_nick command.now))) }
+    {
+        let text = need_more_params(alloc, self.cluster.as_bytes(), NO_NICK, command)?;
+        self.waits(alloc, text)
+    }
+
+    /// PASS (RFC 2812, section 3.1.1).
+    fn pass(mut self, alloc: Global, parameters: &[&[u8]]) -> Result<(Stage, Vec<Effect>), NoMemory>
+        ensures { IfOk result (λ r. record { session = r.0; effects = r.1.items }
+            ≡ spec.pass self (map (λ p. p.now) parameters.now)) }
+    {
+        if parameters.is_empty() {
+            self.needs_more(alloc, b"PASS")
+        } else {
+            self.password = Text::new(alloc, parameters[0])?;
+            Ok((Stage::Waiting(self), Vec::new(alloc)))
+        }
+    }
+
+    // The account, the network or the secret is wrong.
+    fn turn_away(&self, alloc: Global) -> Result<Vec<Effect>, NoMemory>
+        ensures { IfOk result (λ list. list.items ≡ (spec.turn_away self.now).effects) }
+    {
+        let text = password_incorrect(alloc, self.cluster.as_bytes())?;
+        let mut list = answer(alloc, text)?;
+        let text = closing_link(alloc)?;
+        push(&mut list, Effect::Send(text))?;
+        push(&mut list, Effect::Close)?;
+        Ok(list)
+    }
+
+    // The facts of a session that is let in.
+    fn facts(&self, alloc: Global, user: &[u8], entry: &Entry) -> Result<Facts, NoMemory>
+        ensures { IfOk result (λ facts. facts ≡ spec.facts_of self.now user.now entry.now) }
+    {
+        let (account, network) = split_user(user);
+        let account = Text::new(alloc, account)?;
+        let network = Text::new(alloc, network)?;
+        let nick = Text::new(alloc, entry.nick())?;
+        let cluster = self.cluster.try_clone(alloc)?;
+        Ok(Facts {
+            account,
+            network,
+            nick,
+            caps: self.negotiation.caps(),
+            reference: 1,
+            cluster,
+            maximum: self.maximum,
+        })
+    }
+
+    fn let_in(
+        &self,
+        alloc: Global,
+        user: &[u8],
+        entry: &Entry,
+    ) -> Result<(Stage, Vec<Effect>), NoMemory>
+        ensures { IfOk result (λ r. record { session = r.0; effects = r.1.items }
+            ≡ spec.let_in self.now user.now entry.now) }
+    {
+        let facts = self.facts(alloc, user, entry)?;
+        let list = greeting(alloc, &facts, entry.channels())?;
+        Ok((Stage::Registered(facts), list))
+    }
+
+    fn register(
+        &self,
+        alloc: Global,
+        directory: &Directory,
+        user: &[u8],
+    ) -> Result<(Stage, Vec<Effect>), NoMemory>
+        ensures { IfOk result (λ r. record { session = r.0; effects = r.1.items }
+            ≡ spec.register directory.now self.now user.now) }
+    {
+        let (account, network) = split_user(user);
+        match directory.entry_by_secret(account, network, self.password.as_bytes()) {
+            None => {
+                let list = self.turn_away(alloc)?;
+                Ok((Stage::Closed, list))
+            }
+            Some(entry) => self.let_in(alloc, user, entry),
+        }
+    }
+
+    // Lets the session in, or turns it away, once nothing is missing.
+    fn settle(self, alloc: Global, directory: &Directory) -> Result<(Stage, Vec<Effect>), NoMemory>
+        ensures { IfOk result (λ r. record { session = r.0; effects = r.1.items }
+            ≡ spec.settle directory.now self) }
+    {
+        match &self.user {
+            None => Ok((Stage::Waiting(self), Vec::new(alloc))),
+            Some(user) => {
+                if self.has_nick && !self.negotiation.holding() {
+                    self.register(alloc, directory, user.as_bytes())
+                } else {
+                    Ok((Stage::Waiting(self), Vec::new(alloc)))
+                }
+            }
+        }
+    }
+
+    /// CAP (IRCv3 capability negotiation).
+    fn cap(
+        mut self,
+        alloc: Global,
+        directory: &Directory,
+        parameters: &[&[u8]],
+    ) -> Result<(Stage, Vec<Effect>), NoMemory>
+        ensures { IfOk result (λ r. record { session = r.0; effects = r.1.items }
+            ≡ spec.cap directory.now self (map (λ p. p.now) parameters.now)) }
+    {
+        let mut negotiation = self.negotiation;
+        let cluster = self.cluster.as_bytes();
+        let line = negotiation.answer_cap(alloc, parameters, cluster, NO_NICK)?;
+        self.negotiation = negotiation;
+        match line {
+            None => self.settle(alloc, directory),
+            Some(text) => self.waits(alloc, text),
+        }
+    }
+
+    /// NICK (RFC 2812, section 3.1.2).
+    fn nick(
+        mut self,
+        alloc: Global,
+        directory: &Directory,
+        parameters: &[&[u8]],
+    ) -> Result<(Stage, Vec<Effect>), NoMemory>
+        ensures { IfOk result (λ r. record { session = r.0; effects = r.1.items }
+            ≡ spec.nick directory.now self (map (λ p. p.now) parameters.now)) }
+    {
+        match nick_refusal(alloc, self.cluster.as_bytes(), NO_NICK, parameters)? {
+            Some(text) => self.waits(alloc, text),
+            None => {
+                self.has_nick = true;
+                self.settle(alloc, directory)
+            }
+        }
+    }
+
+    /// USER (RFC 2812, section 3.1.3).
+    fn user(
+        mut self,
+        alloc: Global,
+        directory: &Directory,
+        parameters: &[&[u8]],
+    ) -> Result<(Stage, Vec<Effect>), NoMemory>
+        ensures { IfOk result (λ r. record { session = r.0; effects = r.1.items }
+            ≡ spec.user directory.now self (map (λ p. p.now) parameters.now)) }
+    {
+        match user_name(parameters) {
+            None => self.needs_more(alloc, b"USER"),
+            Some(name) => {
+                self.user = Some(Text::new(alloc, name)?);
+                self.settle(alloc, directory)
+            }
+        }
+    }
+
+    fn ping(self, alloc: Global, parameters: &[&[u8]]) -> Result<(Stage, Vec<Effect>), NoMemory>
+        ensures { IfOk result (λ r. record { session = r.0; effects = r.1.items }
+            ≡ spec.waits self
+            (steps.ping self.cluster no_nick (map (λ p. p.now) parameters.now))) }
+    {
+        let list = ping(alloc, self.cluster.as_bytes(), NO_NICK, parameters)?;
+        Ok((Stage::Waiting(self), list))
+    }
+
+    // Any other command.
+    fn not_yet(self, alloc: Global) -> Result<(Stage, Vec<Effect>), NoMemory>
+        ensures { IfOk result (λ r. record { session = r.0; effects = r.1.items }
+            ≡ spec.waits self (steps.answer (not_registered self.cluster))) }
+    {
+        let text = not_registered(alloc, self.cluster.as_bytes())?;
+        let list = one(alloc, Effect::Send(text))?;
+        Ok((Stage::Waiting(self), list))
+    }
+
+    /// What a command comes to.
+    pub(crate) fn serve(
+        self,
+        alloc: Global,
+        directory: &Directory,
+        command: Command,
+        parameters: &[&[u8]],
+    ) -> Result<(Stage, Vec<Effect>), NoMemory>
+        ensures { IfOk result (λ r. record { session = r.0; effects = r.1.items }
+            ≡ spec.before_registration directory.now self command
+            (map (λ p. p.now) parameters.now)) }
+    {
+        match command {
+            Command::Cap => self.cap(alloc, directory, parameters),
+            Command::Pass => self.pass(alloc, parameters),
+            Command::Nick => self.nick(alloc, directory, parameters),
+            Command::User => self.user(alloc, directory, parameters),
+            Command::Ping => self.ping(alloc, parameters),
+            Command::Pong => Ok((Stage::Waiting(self), Vec::new(alloc))),
+            Command::Quit => {
+                let list = closing(alloc)?;
+                Ok((Stage::Closed, list))
+            }
+            Command::Chathistory
+            | Command::Markread
+            | Command::Redact
+            | Command::Tagmsg
+            | Command::Other => self.not_yet(alloc),
+        }
+    }
+
+    /// What a line comes to that can't be read.
+    pub(crate) fn refuse(&self, alloc: Global, fault: LineFault) -> Result<Vec<Effect>, NoMemory>
+        ensures { IfOk result (λ list. list.items
+            ≡ steps.refusal self.now.cluster no_nick fault) }
+    {
+        refusal(alloc, self.cluster.as_bytes(), NO_NICK, fault)
+    }
+}
+
+ghost use Rattle.irc_caps.specs.Replies.{need_more_params};

@@ -1,0 +1,220 @@
+//! Client sessions.
+ghost use Rattle.std.specs.Prelude.{◌≡◌, Bool, Ok, IfOk, OnErr, MatchOption};
+ghost use Rattle.std.specs.Option.{option_copied};
+ghost use Rattle.client_session.specs.Session as spec;
+ghost use Rattle.client_session.specs.Lookup.{place_sought};
+
+use crate::command::command_of;
+use crate::effect::Effect;
+use crate::lookup::look;
+use crate::registered;
+use crate::stage::{Stage, Standing, Waiting};
+use chat_batch::{Answered, Facts, next_reference};
+use chat_state::Peek;
+use client_directory::Directory;
+use irc_caps::Negotiation;
+use irc_line::{Line, LineFault, TagLimit, read_line};
+use memory::{NoMemory, Text};
+use std::alloc::Global;
+use std::marker::Model;
+use thiserror::Error;
+
+/// Why a step is refused. The session is as it was.
+#[derive(Clone, Copy, Debug, PartialEq, Eq, Error)]
+pub enum StepFault {
+    /// What tells whether a message is shown could not be asked.
+    #[error("no entry")]
+    NoEntry,
+    /// There was no memory.
+    #[error("no memory")]
+    NoMemory,
+}
+
+/// The session of a client: it waits for its registration, is registered, or is closed.
+#[derive(Drop)]
+pub struct Session {
+    stage: Stage,
+}
+
+impl Model for Session {
+    ghost use Rattle.client_session.specs.declared.stage.Stage.{Stage as Kept};
+
+    ghost Value = { Kept };
+
+    ghost view = { λ s. s.stage };
+}
+
+impl Session {
+    ghost use Rattle.client_session.specs.declared.stage.Stage.TheVariants.{Registered};
+
+    /// A session that waits for its registration, at the cluster of that name, which answers with so many messages at
+    /// most.
+    pub fn new(alloc: Global, cluster: &[u8], maximum: u32) -> Result<Session, NoMemory>
+        ensures { IfOk result (λ session. session ≡ spec.new cluster.now maximum) }
+    {
+        let cluster = Text::new(alloc, cluster)?;
+        let password = Text::new(alloc, b"")?;
+        Ok(Session {
+            stage: Stage::Waiting(Waiting {
+                cluster,
+                maximum,
+                negotiation: Negotiation::new(),
+                password,
+                has_nick: false,
+                user: None,
+            }),
+        })
+    }
+
+    /// A session that is registered, with these facts.
+    pub fn registered(facts: Facts) -> Session
+        ensures { result ≡ Registered facts }
+    {
+        Session {
+            stage: Stage::Registered(facts),
+        }
+    }
+
+    /// What is known of the session: nothing before its registration, and nothing once it is closed. The nick is the one
+    /// of the last step.
+    pub fn facts(&self) -> Option<&Facts>
+        ensures { option_copied result ≡ spec.facts_in self.now }
+    {
+        match &self.stage {
+            Stage::Registered(facts) => Some(facts),
+            Stage::Waiting(_) => None,
+            Stage::Closed => None,
+        }
+    }
+
+    /// An answer to the session was that: one that opened a batch has used up its number (IRCv3 batch).
+    pub fn answered(&mut self, answer: Answered)
+        ensures { self.new ≡ spec.session_after self.old answer }
+    {
+        match &mut self.stage {
+            Stage::Registered(facts) => facts.reference = next_reference(facts.reference, answer),
+            Stage::Waiting(_) => {}
+            Stage::Closed => {}
+        }
+    }
+
+    // What a line comes to that reads so.
+    fn serve(
+        &mut self,
+        alloc: Global,
+        directory: &Directory,
+        shown: bool,
+        bytes: &[u8],
+        line: &Line<'_>,
+    ) -> Result<Vec<Effect>, NoMemory>
+        ensures ok { IfOk result (λ list. record { session = self.new; effects = list.items }
+            ≡ spec.line_step directory.now shown self.old bytes.now line.now) }
+        ensures err { OnErr result (self.new ≡ self.old) }
+    {
+        let command = command_of(line.command());
+        match &mut self.stage {
+            Stage::Waiting(waiting) => {
+                let next = waiting.try_clone(alloc)?;
+                let (stage, list) = next.serve(alloc, directory, command, line.parameters())?;
+                self.stage = stage;
+                Ok(list)
+            }
+            Stage::Registered(facts) => {
+                let entry = directory.entry(facts.account.as_bytes(), facts.network.as_bytes());
+                let parameters = line.parameters();
+                let (standing, list) = registered::serve(
+                    alloc, entry, facts, shown, bytes, command, parameters,
+                )?;
+                match standing {
+                    Standing::Stays => {}
+                    Standing::Closes => self.stage = Stage::Closed,
+                }
+                Ok(list)
+            }
+            Stage::Closed => Ok(Vec::new(alloc)),
+        }
+    }
+
+    // What a line comes to that can't be read.
+    fn refuse(
+        &mut self,
+        alloc: Global,
+        directory: &Directory,
+        fault: LineFault,
+    ) -> Result<Vec<Effect>, NoMemory>
+        ensures ok { IfOk result (λ list. record { session = self.new; effects = list.items }
+            ≡ spec.fault_step directory.now self.old fault) }
+        ensures err { OnErr result (self.new ≡ self.old) }
+    {
+        match &mut self.stage {
+            Stage::Waiting(waiting) => waiting.refuse(alloc, fault),
+            Stage::Registered(facts) => {
+                let entry = directory.entry(facts.account.as_bytes(), facts.network.as_bytes());
+                registered::refuse(alloc, entry, facts, fault)
+            }
+            Stage::Closed => Ok(Vec::new(alloc)),
+        }
+    }
+
+    // One step, where it is known whether the message is shown that a REDACT names.
+    #[tactic(auto, unfolding(crate::specs::Session::step))]
+    fn step_shown(
+        &mut self,
+        alloc: Global,
+        directory: &Directory,
+        shown: bool,
+        bytes: &[u8],
+    ) -> Result<Vec<Effect>, NoMemory>
+        ensures ok { IfOk result (λ list. record { session = self.new; effects = list.items }
+            ≡ spec.step directory.now shown self.old bytes.now) }
+        ensures err { OnErr result (self.new ≡ self.old) }
+    {
+        match read_line(bytes, TagLimit::Client) {
+            Err(fault) => self.refuse(alloc, directory, fault),
+            Ok(line) => self.serve(alloc, directory, shown, bytes, &line),
+        }
+    }
+
+    /// What a line comes to, which stands without its ending, by the directory of this moment. A REDACT looks once whether
+    /// its message is shown; no other line looks. A refused step leaves the session as it was.
+    ///
+    /// A step of a registered session that passes the line on copies it once. It copies nothing else, unless the directory
+    /// has another nick than at the last step.
+    pub fn step<P: Peek>(
+        &mut self,
+        alloc: Global,
+        bytes: &[u8],
+        directory: &Directory,
+        peek: &mut P,
+    ) -> Result<Vec<Effect>, StepFault>
+        ensures step { IfOk result (λ list. (shown : Bool)
+            × MatchOption (place_sought self.old bytes.now) (peek.new ≡ peek.old)
+            (λ m. P.peeks peek.old m.buffer m.id shown peek.new)
+            × (record { session = self.new; effects = list.items }
+            ≡ spec.step directory.now shown self.old bytes.now)) }
+        ensures err { OnErr result (self.new ≡ self.old) }
+    {
+        let shown = match self.facts() {
+            None => false,
+            Some(facts) => look(alloc, facts, bytes, peek)?,
+        };
+        match self.step_shown(alloc, directory, shown, bytes) {
+            Ok(list) => Ok(list),
+            Err(_) => Err(StepFault::NoMemory),
+        }
+    }
+
+    /// What a line comes to that was too long to be taken in (`irc_line::Next::TooLong`). A refused call leaves the
+    /// session as it was.
+    pub fn too_long(
+        &mut self,
+        alloc: Global,
+        directory: &Directory,
+    ) -> Result<Vec<Effect>, NoMemory>
+        ensures step { IfOk result (λ list. record { session = self.new; effects = list.items }
+            ≡ spec.too_long directory.now self.old) }
+        ensures err { OnErr result (self.new ≡ self.old) }
+    {
+        self.refuse(alloc, directory, LineFault::TooLong)
+    }
+}

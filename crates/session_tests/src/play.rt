@@ -1,0 +1,184 @@
+//! Sessions that are played line by line, and their effects as text.
+use chat_change::{Buffer, Change, Kind, Message, MsgId, Record};
+use chat_state::State;
+use client_session::{Account, Directory, Effect, Entry, Facts, Network, Session, StepFault};
+use irc_caps::CapSet;
+use irc_time::Moment;
+use memory::Text;
+use std::alloc::{AllocError, Global};
+use std::test::Fail;
+
+/// How the network `net` of the account `demo` stands: its nick, whether it is up, whether its server takes REDACT, and
+/// the one channel that it is in, if any.
+#[derive(Clone, Copy)]
+pub struct Standing {
+    pub nick: &'static [u8],
+    pub is_up: bool,
+    pub takes_redact: bool,
+    pub channel: Option<&'static [u8]>,
+}
+
+pub const DOWN: Standing = Standing {
+    nick: b"al",
+    is_up: false,
+    takes_redact: false,
+    channel: None,
+};
+
+pub const UP: Standing = Standing {
+    is_up: true,
+    ..DOWN
+};
+
+fn entry_of(alloc: Global, standing: Standing) -> Result<Entry, Fail> {
+    let nick = Text::new(alloc, standing.nick)?;
+    let mut entry = Entry::new(standing.is_up, nick, Vec::new(alloc), standing.takes_redact);
+    if let Some(channel) = standing.channel {
+        entry.join(Text::new(alloc, channel)?)?;
+    }
+    Ok(entry)
+}
+
+fn account_of(alloc: Global, name: &[u8], secret: &[u8], entry: Entry) -> Result<Account, Fail> {
+    let name = Text::new(alloc, name)?;
+    let mut account = Account::new(alloc, name, Text::new(alloc, secret)?);
+    let network = Network::new(Text::new(alloc, b"net")?, entry);
+    account.add(network)?;
+    Ok(account)
+}
+
+/// The accounts `demo`, whose secret is `s3cret`, and `open`, whose secret is empty; each has the network `net`.
+pub fn directory_of(alloc: Global, standing: Standing) -> Result<Directory, Fail> {
+    let mut directory = Directory::new(alloc);
+    let entry = entry_of(alloc, standing)?;
+    directory.add(account_of(alloc, b"demo", b"s3cret", entry)?)?;
+    let entry = entry_of(alloc, standing)?;
+    directory.add(account_of(alloc, b"open", b"", entry)?)?;
+    Ok(directory)
+}
+
+/// A session that waits for its registration.
+pub fn newcomer(alloc: Global) -> Result<Session, Fail> {
+    Ok(Session::new(alloc, b"~", 100)?)
+}
+
+/// A session of `al` on the network `net` of `demo`, with these capabilities.
+pub fn member(alloc: Global, caps: CapSet) -> Result<Session, Fail> {
+    let account = Text::new(alloc, b"demo")?;
+    let network = Text::new(alloc, b"net")?;
+    let nick = Text::new(alloc, b"al")?;
+    let cluster = Text::new(alloc, b"~")?;
+    Ok(Session::registered(Facts {
+        account,
+        network,
+        nick,
+        caps,
+        reference: 1,
+        cluster,
+        maximum: 100,
+    }))
+}
+
+fn record_of(alloc: Global) -> Result<Record, Fail> {
+    let buffer = Buffer::new(alloc, b"demo", b"net", b"#a")?;
+    let id = MsgId::new(alloc, b"m1")?;
+    let Some(at) = Moment::from_ms(1000) else {
+        return Err(Fail::from(AllocError));
+    };
+    let message = Message {
+        kind: Kind::Privmsg,
+        source: b"bob!b@h",
+        target: b"#a",
+        body: b"hi",
+    };
+    Ok(Record::new(alloc, buffer, id, at, message)?)
+}
+
+// A state that shows the message m1 in the channel #a of `demo`, and nothing else.
+fn state_of(alloc: Global) -> Result<State, Fail> {
+    let record = record_of(alloc)?;
+    let mut state = State::new(alloc);
+    let _ = state.absorb(Change::Post(record))?;
+    Ok(state)
+}
+
+// A line without its ending, which it must have.
+fn without_ending(line: &[u8]) -> &[u8] {
+    if line.ends_with(b"\r\n") {
+        &line[..line.len() - 2]
+    } else {
+        b"a line without an ending"
+    }
+}
+
+// A marker as its target and its milliseconds after 1970 began.
+fn tell_marker(out: &mut Vec<u8>, change: &Change) -> Result<(), AllocError> {
+    match change {
+        Change::Mark { buffer, at } => {
+            out.extend_from_slice(buffer.target())?;
+            out.extend_from_slice(if at.ms() == 5000 { b" 5000" } else { b" other" })
+        }
+        _ => out.extend_from_slice(b"no marker"),
+    }
+}
+
+/// Tells an effect on a line of its own: a line to the client as it is, the others with a word before them.
+pub fn tell(out: &mut Vec<u8>, effect: &Effect) -> Result<(), AllocError> {
+    match effect {
+        Effect::Send(text) => out.extend_from_slice(without_ending(text.as_bytes()))?,
+        Effect::Put(change) => {
+            out.extend_from_slice(b"put ")?;
+            tell_marker(out, change)?;
+        }
+        Effect::Ask(line) => {
+            out.extend_from_slice(b"ask ")?;
+            out.extend_from_slice(line.as_bytes())?;
+        }
+        Effect::Upstream(line) => {
+            out.extend_from_slice(b"up ")?;
+            out.extend_from_slice(without_ending(line.as_bytes()))?;
+        }
+        Effect::Close => out.extend_from_slice(b"close")?,
+    }
+    out.push(b'\n')?;
+    Ok(())
+}
+
+/// Tells each effect of a list.
+pub fn tell_all(out: &mut Vec<u8>, effects: &[Effect]) -> Result<(), AllocError> {
+    for effect in effects {
+        tell(out, effect)?;
+    }
+    Ok(())
+}
+
+// A step. One that is refused for want of memory is made again, since it leaves the session as it was.
+fn step(
+    alloc: Global,
+    session: &mut Session,
+    directory: &Directory,
+    state: &mut State,
+    line: &[u8],
+) -> Result<Vec<Effect>, StepFault> {
+    match session.step(alloc, line, directory, state) {
+        Ok(effects) => Ok(effects),
+        Err(StepFault::NoEntry) => Err(StepFault::NoEntry),
+        Err(StepFault::NoMemory) => session.step(alloc, line, directory, state),
+    }
+}
+
+/// What the lines of a script come to, one after the other. LF stands between each two.
+pub fn play(
+    alloc: Global,
+    session: &mut Session,
+    directory: &Directory,
+    script: &[u8],
+) -> Result<Vec<u8>, Fail> {
+    let mut state = state_of(alloc)?;
+    let mut out = Vec::new(alloc);
+    for line in script.split(|b| *b == b'\n') {
+        let effects = step(alloc, session, directory, &mut state, line)?;
+        tell_all(&mut out, &effects)?;
+    }
+    Ok(out)
+}
