@@ -138,8 +138,14 @@ fn facts(alloc: Global, caps: CapSet) -> Result<Facts, AllocError> {
     })
 }
 
-/// What is answered from nothing that was taken.
-fn asked(alloc: Global, facts: &Facts, text: &[u8], out: &mut Sink<'_>) -> Result<Answered, Fail> {
+/// What is answered from that state.
+fn asked(
+    alloc: Global,
+    state: &State,
+    facts: &Facts,
+    text: &[u8],
+    out: &mut Sink<'_>,
+) -> Result<Answered, Fail> {
     let line = read_line(text, TagLimit::Client)?;
     let answered = answer(alloc, state, facts, &line, out)?;
     Ok(answered)
