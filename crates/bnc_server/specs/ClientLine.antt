@@ -25,7 +25,8 @@ has_second _ = false
 abbrev pub is_question : Reading → Bool
 is_question line =
     str_eq_ignore_ascii_case line.command (codes "CHATHISTORY")
-    || (str_eq_ignore_ascii_case line.command (codes "MARKREAD") && not (has_second line.parameters))
+    || (str_eq_ignore_ascii_case line.command (codes "MARKREAD")
+    && not (has_second line.parameters))
 
 abbrev pub of_line : Reading → ClientLine
 of_line line = if is_question line then question line else other
