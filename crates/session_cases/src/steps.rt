@@ -1,16 +1,16 @@
 //! Sessions over several directories, answers, lines that were too long to be taken in, and what cannot be looked up.
 use crate::play::{Standing, UP, directory_of, member, newcomer, play, tell_all};
+use anyhow::Error;
 use chat_change::{Buffer, MsgId};
 use chat_state::{NoEntry, Peek};
 use client_session::{Answered, Directory, Session, StepFault};
 use irc_caps::CapSet;
 use std::alloc::Global;
-use std::test::Fail;
 
 const RENAMED: Standing = Standing { nick: b"bo", ..UP };
 
 #[test]
-fn the_nick_is_the_networks(rt: HostRuntime) -> Result<(), Fail> {
+fn the_nick_is_the_networks(rt: HostRuntime) -> Result<(), Error> {
     let alloc = rt.alloc();
     let mut session = member(alloc, CapSet::all())?;
     let up = directory_of(alloc, UP)?;
@@ -36,7 +36,7 @@ fn reference_of(session: &Session) -> u32 {
     }
 }
 
-fn session_at(alloc: Global, reference: u32) -> Result<Session, Fail> {
+fn session_at(alloc: Global, reference: u32) -> Result<Session, Error> {
     let mut session = member(alloc, CapSet::all())?;
     for _ in 1..reference {
         session.answered(Answered::Batch);
@@ -45,7 +45,7 @@ fn session_at(alloc: Global, reference: u32) -> Result<Session, Fail> {
 }
 
 #[test]
-fn a_batch_uses_up_its_number(rt: HostRuntime) -> Result<(), Fail> {
+fn a_batch_uses_up_its_number(rt: HostRuntime) -> Result<(), Error> {
     let mut session = session_at(rt.alloc(), 3)?;
     assert_eq!(rt; reference_of(&session), 3);
     session.answered(Answered::Plain);
@@ -56,7 +56,7 @@ fn a_batch_uses_up_its_number(rt: HostRuntime) -> Result<(), Fail> {
     Ok(())
 }
 
-fn too_long(alloc: Global, session: &mut Session, directory: &Directory) -> Result<Vec<u8>, Fail> {
+fn too_long(alloc: Global, session: &mut Session, directory: &Directory) -> Result<Vec<u8>, Error> {
     let effects = session.too_long(alloc, directory)?;
     let mut out = Vec::new(alloc);
     tell_all(&mut out, &effects)?;
@@ -64,7 +64,7 @@ fn too_long(alloc: Global, session: &mut Session, directory: &Directory) -> Resu
 }
 
 #[test]
-fn a_line_that_was_cut_is_too_long(rt: HostRuntime) -> Result<(), Fail> {
+fn a_line_that_was_cut_is_too_long(rt: HostRuntime) -> Result<(), Error> {
     let alloc = rt.alloc();
     let directory = directory_of(alloc, RENAMED)?;
     let mut session = newcomer(alloc)?;
@@ -98,7 +98,7 @@ ghost use Rattle.std.specs.Prelude.{◌≡◌, IfOk, OnErr};
 
 // For a run with one request for memory refused (`rt try --test --fail-alloc N`): the effects are the same wherever it is.
 #[test]
-fn a_refused_step_can_be_made_again(rt: HostRuntime) -> Result<(), Fail> {
+fn a_refused_step_can_be_made_again(rt: HostRuntime) -> Result<(), Error> {
     let alloc = rt.alloc();
     let directory = directory_of(alloc, RENAMED)?;
     let mut session = newcomer(alloc)?;
@@ -130,7 +130,7 @@ fn fault_of(
 }
 
 #[test]
-fn redactions_alone_look(rt: HostRuntime) -> Result<(), Fail> {
+fn redactions_alone_look(rt: HostRuntime) -> Result<(), Error> {
     let alloc = rt.alloc();
     let directory = directory_of(alloc, UP)?;
     let mut session = member(alloc, CapSet::all())?;

@@ -1,4 +1,5 @@
 //! Sessions that are played line by line, and their effects as text.
+use anyhow::Error;
 use chat_change::{Buffer, Change, Kind, Message, MsgId, Record};
 use chat_state::State;
 use client_session::{Account, Directory, Effect, Entry, Facts, Network, Session, StepFault};
@@ -6,7 +7,6 @@ use irc_caps::CapSet;
 use irc_time::Moment;
 use memory::Text;
 use std::alloc::{AllocError, Global};
-use std::test::Fail;
 
 /// How the network `net` of the account `demo` stands: its nick, whether it is up, whether its server takes REDACT, and
 /// the one channel that it is in, if any.
@@ -30,7 +30,7 @@ pub const UP: Standing = Standing {
     ..DOWN
 };
 
-fn entry_of(alloc: Global, standing: Standing) -> Result<Entry, Fail> {
+fn entry_of(alloc: Global, standing: Standing) -> Result<Entry, Error> {
     let nick = Text::new(alloc, standing.nick)?;
     let mut entry = Entry::new(standing.is_up, nick, Vec::new(alloc), standing.takes_redact);
     if let Some(channel) = standing.channel {
@@ -39,7 +39,7 @@ fn entry_of(alloc: Global, standing: Standing) -> Result<Entry, Fail> {
     Ok(entry)
 }
 
-fn account_of(alloc: Global, name: &[u8], secret: &[u8], entry: Entry) -> Result<Account, Fail> {
+fn account_of(alloc: Global, name: &[u8], secret: &[u8], entry: Entry) -> Result<Account, Error> {
     let name = Text::new(alloc, name)?;
     let mut account = Account::new(alloc, name, Text::new(alloc, secret)?);
     let network = Network::new(Text::new(alloc, b"net")?, entry);
@@ -48,7 +48,7 @@ fn account_of(alloc: Global, name: &[u8], secret: &[u8], entry: Entry) -> Result
 }
 
 /// The accounts `demo`, whose secret is `s3cret`, and `open`, whose secret is empty; each has the network `net`.
-pub fn directory_of(alloc: Global, standing: Standing) -> Result<Directory, Fail> {
+pub fn directory_of(alloc: Global, standing: Standing) -> Result<Directory, Error> {
     let mut directory = Directory::new(alloc);
     let entry = entry_of(alloc, standing)?;
     directory.add(account_of(alloc, b"demo", b"s3cret", entry)?)?;
@@ -58,12 +58,12 @@ pub fn directory_of(alloc: Global, standing: Standing) -> Result<Directory, Fail
 }
 
 /// A session that waits for its registration.
-pub fn newcomer(alloc: Global) -> Result<Session, Fail> {
+pub fn newcomer(alloc: Global) -> Result<Session, Error> {
     Ok(Session::new(alloc, b"~", 100)?)
 }
 
 /// A session of `al` on the network `net` of `demo`, with these capabilities.
-pub fn member(alloc: Global, caps: CapSet) -> Result<Session, Fail> {
+pub fn member(alloc: Global, caps: CapSet) -> Result<Session, Error> {
     let account = Text::new(alloc, b"demo")?;
     let network = Text::new(alloc, b"net")?;
     let nick = Text::new(alloc, b"al")?;
@@ -79,11 +79,11 @@ pub fn member(alloc: Global, caps: CapSet) -> Result<Session, Fail> {
     }))
 }
 
-fn record_of(alloc: Global) -> Result<Record, Fail> {
+fn record_of(alloc: Global) -> Result<Record, Error> {
     let buffer = Buffer::new(alloc, b"demo", b"net", b"#a")?;
     let id = MsgId::new(alloc, b"m1")?;
     let Some(at) = Moment::from_ms(1000) else {
-        return Err(Fail::from(AllocError));
+        return Err(Error::from(AllocError));
     };
     let message = Message {
         kind: Kind::Privmsg,
@@ -95,7 +95,7 @@ fn record_of(alloc: Global) -> Result<Record, Fail> {
 }
 
 // A state that shows the message m1 in the channel #a of `demo`, and nothing else.
-fn state_of(alloc: Global) -> Result<State, Fail> {
+fn state_of(alloc: Global) -> Result<State, Error> {
     let record = record_of(alloc)?;
     let mut state = State::new(alloc);
     let _ = state.absorb(Change::Post(record))?;
@@ -173,7 +173,7 @@ pub fn play(
     session: &mut Session,
     directory: &Directory,
     script: &[u8],
-) -> Result<Vec<u8>, Fail> {
+) -> Result<Vec<u8>, Error> {
     let mut state = state_of(alloc)?;
     let mut out = Vec::new(alloc);
     for line in script.split(|b| *b == b'\n') {
