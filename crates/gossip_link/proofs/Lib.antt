@@ -1,0 +1,6 @@
+mod NameLemmas
+mod ComesLemmas
+mod SoundLemmas
+mod EventLemmas
+mod NoLossLemmas
+mod HandshakeLemmas

@@ -1,0 +1,60 @@
+-- What a cluster promises, whatever happens.
+use Rattle.std.specs.Prelude.{ℕ, ◌≡◌, ◌≤◌, ◌⊎◌, Contains, Option, Some, List}
+use Rattle.std.specs.Option.{IfSome}
+use Rattle.std.specs.FinMap.{get}
+use Rattle.chat_change.specs.Buffer.{Buffer}
+use Rattle.chat_change.specs.Record.{Record}
+use Rattle.chat_change.specs.declared.change.Change.{Change}
+use Rattle.chat_change.specs.declared.change.Change.TheVariants.{Post, Redact, Mark, Floor}
+use Rattle.chat_change.specs.Key.{Key}
+use Rattle.chat_history.specs.History.{Includes}
+use Rattle.chat_history.specs.Numbering.{Delta, delta, front, number}
+use Rattle.gossip_link.specs.Cluster.{Made, World, Event, run, start, LivesDiffer}
+
+-- some node made the change
+abbrev pub IsMade : List Made → Change → Type 0
+IsMade made c = (m : Made) × Contains made m × Contains m.changes c
+
+abbrev pub WasRedacted : List Made → Buffer → List ℕ → Type 0
+WasRedacted made b m = (t : Option ℕ) × IsMade made (Redact b m t)
+
+-- the moment of a post of that id, or of a redaction of it
+abbrev pub IsMomentOf : List Made → Buffer → List ℕ → ℕ → Type 0
+IsMomentOf made b m at =
+    ((r : Record) × (r.buffer ≡ b) × (r.id ≡ m) × (r.at ≡ at) × IsMade made (Post r))
+    ⊎ IsMade made (Redact b m (Some at))
+
+-- a record, a marker or a floor was made by some node. Of a redaction, some node made one of that id, and its
+-- place, where it has one, is the moment of a post or a redaction of that id that some node made
+abbrev pub ComesFrom : List Made → Change → Type 0
+ComesFrom made (Post r) = IsMade made (Post r)
+ComesFrom made (Redact b m t) = WasRedacted made b m × IfSome t (IsMomentOf made b m)
+ComesFrom made (Mark b t) = IsMade made (Mark b t)
+ComesFrom made (Floor b t) = IsMade made (Floor b t)
+
+-- a node knows the life that a peer has now
+abbrev pub Knows : World → List ℕ → List ℕ → Type 0
+Knows w name peer = ((w.nodes name).peers peer).heard ≡ Some (w.nodes peer).incarnation
+
+-- the peer includes every piece that the node holds with a number up to its acknowledged number
+abbrev pub PeerIncludes : World → List ℕ → List ℕ → Type 0
+PeerIncludes w name peer =
+    (k : Key) (c : Change) → get (w.nodes name).history k ≡ Some c →
+    number 0 (w.nodes name).taken k ≤ ((w.nodes name).peers peer).acked →
+    Includes (w.nodes peer).taken c
+
+-- the node knows the peer's present life, which acknowledged all that the node holds
+abbrev pub IsAcknowledged : World → List ℕ → List ℕ → Type 0
+IsAcknowledged w name peer =
+    Knows w name peer × (((w.nodes name).peers peer).acked ≡ front 0 (w.nodes name).taken)
+
+-- the delta that a node would send a peer of all that it took
+abbrev pub next_delta : World → List ℕ → List ℕ → Delta
+next_delta w name peer = delta 0 (w.nodes name).taken ((w.nodes name).peers peer).acked
+
+-- some events lead there from nodes in their first lives, and each restart had an incarnation that its node never had
+pub record IsReached (w : World) : Type 0 where
+  pub incarnations : List ℕ → ℕ
+  pub events : List Event
+  pub differ : LivesDiffer events (start incarnations)
+  pub ends : run events (start incarnations) ≡ w

@@ -1,0 +1,73 @@
+-- What comes of the lines of a peer: words, hellos, acknowledgements, and packets, each whole.
+use Rattle.std.specs.Prelude.{ℕ, ◌≡◌, ◌⊎◌, Bool, ◌==◌, List, [], ◌∷◌, ◌++◌, length, Option, None, Some, Result, Ok, Err, if◌then◌else◌}
+use Rattle.chat_change.specs.declared.change.Change as change
+use Rattle.peer_lines.specs.Life.{Head, packet_of}
+use Rattle.peer_lines.specs.declared.fault.LinkFault.{LinkFault}
+use Rattle.peer_lines.specs.declared.fault.LinkFault.TheVariants.{BadForm, NoMemory}
+use Rattle.peer_lines.specs.declared.peer_line.PeerLine.{PeerLine}
+use Rattle.peer_lines.specs.declared.peer_line.PeerLine.TheVariants as line
+use Rattle.peer_lines.specs.declared.gather.Arrived.{Arrived}
+use Rattle.peer_lines.specs.declared.gather.Arrived.TheVariants.{Word, Hello, Packet, Ack}
+
+-- a packet that isn't whole yet: its head, and the changes that came
+pub record Gathering : Type 0 where
+  pub head : Head
+  pub changes : List change.Change
+
+-- of a gather: the packet that isn't whole yet, if there is one
+abbrev pub Gather : Type 0
+Gather = Option Gathering
+
+abbrev pub Answer : Type 0
+Answer = Result (Option Arrived) LinkFault
+
+-- what a line makes of a gather, and what arrives with it
+pub record Pushed : Type 0 where
+  pub gather : Gather
+  pub answer : Answer
+
+-- the line is refused, and the gather is empty
+abbrev pub refused : Pushed
+refused = record { gather = None; answer = Err BadForm }
+
+abbrev pub arrives : Arrived → Pushed
+arrives arrived = record { gather = None; answer = Ok (Some arrived) }
+
+abbrev pub waits : Gathering → Pushed
+waits g = record { gather = Some g; answer = Ok None }
+
+-- after one more change a packet is whole, and arrives, or it waits for others
+abbrev pub with_change : Head → List change.Change → Pushed
+with_change head changes =
+    if length changes == head.count
+    then arrives (Packet (packet_of head changes))
+    else waits (record { head = head; changes = changes })
+
+abbrev pub pushed : Gather → PeerLine → Pushed
+pushed None (line.Word word) = arrives (Word word)
+pushed None (line.Hello life) = arrives (Hello life)
+pushed None (line.Head head) = waits (record { head = head; changes = [] })
+pushed None (line.Change c) = refused
+pushed None (line.Ack ack) = arrives (Ack ack)
+pushed (Some g) (line.Word word) = refused
+pushed (Some g) (line.Hello life) = refused
+pushed (Some g) (line.Head head) = refused
+pushed (Some g) (line.Change c) = with_change g.head (g.changes ++ c ∷ [])
+pushed (Some g) (line.Ack ack) = refused
+
+-- ---- lines in turn
+
+abbrev pub after : Gather → List PeerLine → Gather
+after g [] = g
+after g (l ∷ ls) = after (pushed g l).gather ls
+
+abbrev pub answers : Gather → List PeerLine → List Answer
+answers g [] = []
+answers g (l ∷ ls) = (pushed g l).answer ∷ answers (pushed g l).gather ls
+
+-- ---- what a call answers
+
+-- there was no memory for a line that isn't refused, or the answer is the one that is due
+abbrev pub IsAnswerFor : Answer → Answer → Type 0
+IsAnswerFor (Ok arrived) result = (result ≡ Ok arrived) ⊎ (result ≡ Err NoMemory)
+IsAnswerFor (Err fault) result = result ≡ Err fault

@@ -1,0 +1,54 @@
+-- Lives of nodes, and what they send each other.
+use Rattle.std.specs.Prelude.{ℕ, ◌≡◌, ◌≤◌, ◌<◌, ◌^◌, Bool, true, ◌&&◌, ◌==◌, List, length}
+use Rattle.chat_change.specs.declared.change.Change.{Change}
+use Rattle.peer_lines.specs.Names.{is_node_name, same_name}
+
+-- a node from one start to the next
+pub record Life : Type 0 where
+  pub node : List ℕ  -- its name
+  pub incarnation : ℕ
+
+-- the head of a packet, of which so many changes follow
+pub record Head : Type 0 where
+  pub sender : Life
+  pub receiver : Life
+  pub from : ℕ
+  pub to : ℕ
+  pub count : ℕ
+
+-- pieces that the sender holds: those with numbers above `from`, up to `to`
+pub record Packet : Type 0 where
+  pub sender : Life
+  pub receiver : Life
+  pub from : ℕ
+  pub to : ℕ
+  pub changes : List Change
+
+-- the sender says that it took the pieces with numbers up to `upto`
+pub record Ack : Type 0 where
+  pub sender : Life
+  pub receiver : Life
+  pub upto : ℕ
+
+abbrev pub same_life : Life → Life → Bool
+same_life a b = same_name a.node b.node && a.incarnation == b.incarnation
+
+-- the head of a packet
+abbrev pub head_of : Packet → Head
+head_of p = record {
+  sender = p.sender;
+  receiver = p.receiver;
+  from = p.from;
+  to = p.to;
+  count = length p.changes;
+}
+
+-- the packet of a head and its changes
+abbrev pub packet_of : Head → List Change → Packet
+packet_of h changes = record {
+  sender = h.sender;
+  receiver = h.receiver;
+  from = h.from;
+  to = h.to;
+  changes = changes;
+}

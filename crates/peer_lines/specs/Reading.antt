@@ -1,0 +1,108 @@
+-- How a line is read: word by word, with one space behind each.
+use Rattle.std.specs.Prelude.{ℕ, ◌+◌, ◌^◌, Bool, ◌&&◌, ◌==◌, List, [], ◌∷◌, take, drop, codes, nat_lt, nat_le, Option, None, Some, position, if◌then◌else◌}
+use Rattle.std.specs.Fmt.{decimal}
+use Rattle.std.specs.Option.{option_map}
+use Rattle.std.specs.Str.Parse.{digits_value}
+use Rattle.peer_lines.specs.Names.{is_node_name, is_shared_word, same_name}
+use Rattle.peer_lines.specs.Life.{Life, Head, Ack}
+use Rattle.peer_lines.specs.declared.packet.TheConstants.{PACKET_LIMIT}
+
+-- ---- words
+
+abbrev pub is_space : ℕ → Bool
+is_space b = b == 32
+
+-- up to a space at that place, or to the end
+abbrev pub word_to : Option ℕ → List ℕ → List ℕ
+word_to None bytes = bytes
+word_to (Some at) bytes = take at bytes
+
+abbrev pub rest_from : Option ℕ → List ℕ → List ℕ
+rest_from None bytes = []
+rest_from (Some at) bytes = drop (at + 1) bytes
+
+-- up to the first space, or to the end
+unfoldable pub word : List ℕ → List ℕ
+word bytes = word_to (position is_space bytes) bytes
+
+-- behind the first space; nothing where there is none
+unfoldable pub behind : List ℕ → List ℕ
+behind bytes = rest_from (position is_space bytes) bytes
+
+-- ---- values
+
+-- the number of which a text is the decimal digits
+unfoldable pub number_of : List ℕ → Option ℕ
+number_of text =
+    if same_name (decimal (digits_value 10 text)) text && nat_lt (digits_value 10 text) (2 ^ 64)
+    then Some (digits_value 10 text)
+    else None
+
+-- a life by its name and its incarnation
+abbrev pub life_of : List ℕ → Option ℕ → Option Life
+life_of node None = None
+life_of node (Some incarnation) =
+    if is_node_name node then Some (record { node = node; incarnation = incarnation }) else None
+
+-- the life that the first two words spell
+abbrev pub life_at : List ℕ → Option Life
+life_at bytes = life_of (word bytes) (number_of (word (behind bytes)))
+
+abbrev pub behind_life : List ℕ → List ℕ
+behind_life bytes = behind (behind bytes)
+
+-- the numbers of a head
+pub record Span : Type 0 where
+  pub from : ℕ
+  pub to : ℕ
+  pub count : ℕ
+
+abbrev pub span_of : Option ℕ → Option ℕ → Option ℕ → Option Span
+span_of (Some from) (Some to) (Some count) =
+    if nat_lt from to && nat_lt 0 count && nat_le count PACKET_LIMIT
+    then Some (record { from = from; to = to; count = count })
+    else None
+span_of _ _ _ = None
+
+-- the numbers that three words spell
+abbrev pub span_at : List ℕ → Option Span
+span_at bytes =
+    span_of (number_of (word bytes)) (number_of (word (behind bytes)))
+    (number_of (behind (behind bytes)))
+
+-- ---- what stands behind the first word of a line
+
+abbrev pub word_at : List ℕ → Option (List ℕ)
+word_at bytes = if is_shared_word bytes then Some bytes else None
+
+abbrev pub hello_at : List ℕ → Option Life
+hello_at bytes =
+    if same_name (word bytes) (codes "1")
+    then life_of (word (behind bytes)) (number_of (behind (behind bytes)))
+    else None
+
+abbrev pub head_with : Option Life → Option Life → Option Span → Option Head
+head_with (Some sender) (Some receiver) (Some span) =
+    Some (record {
+      sender = sender;
+      receiver = receiver;
+      from = span.from;
+      to = span.to;
+      count = span.count;
+    })
+head_with _ _ _ = None
+
+abbrev pub head_at : List ℕ → Option Head
+head_at bytes =
+    head_with (life_at bytes) (life_at (behind_life bytes))
+    (span_at (behind_life (behind_life bytes)))
+
+abbrev pub ack_with : Option Life → Option Life → Option ℕ → Option Ack
+ack_with (Some sender) (Some receiver) (Some upto) =
+    Some (record { sender = sender; receiver = receiver; upto = upto })
+ack_with _ _ _ = None
+
+abbrev pub ack_at : List ℕ → Option Ack
+ack_at bytes =
+    ack_with (life_at bytes) (life_at (behind_life bytes))
+    (number_of (behind_life (behind_life bytes)))

@@ -1,0 +1,146 @@
+//! A gather joins the head of a packet with its changes.
+ghost use Rattle.std.specs.Prelude.{◌≡◌, ◌++◌, ◌∷◌, [], None, IfOk, OnOk, OnErr};
+ghost use Rattle.peer_lines.specs.Gather.{pushed, with_change, IsAnswerFor};
+
+use crate::fault::LinkFault;
+use crate::life::Life;
+use crate::packet::{Ack, Head, Packet};
+use crate::peer_line::PeerLine;
+use crate::shared_word::SharedWord;
+use chat_change::Change;
+use std::alloc::Global;
+use std::marker::Model;
+
+/// What arrived from a peer.
+#[derive(Drop)]
+pub enum Arrived {
+    /// The word that the nodes share.
+    Word(SharedWord),
+    /// A hello of a life.
+    Hello(Life),
+    /// A packet, with all of its changes.
+    Packet(Packet),
+    /// An acknowledgement.
+    Ack(Ack),
+}
+
+/// A packet that isn't whole yet.
+#[derive(Drop)]
+struct Gathering {
+    head: Head,
+    changes: Vec<Change>,
+}
+
+impl Model for Gathering {
+    ghost use Rattle.peer_lines.specs.Gather as spec;
+
+    ghost Value = { spec.Gathering };
+
+    ghost view = { λ g. record { head = g.head; changes = g.changes.items } };
+}
+
+/// Joins the lines of packets that came over one connection: contracts see it as the packet that isn't whole yet, if
+/// there is one.
+#[derive(Drop)]
+pub struct Gather {
+    gathering: Option<Gathering>,
+}
+
+impl Model for Gather {
+    ghost use Rattle.peer_lines.specs.Gather as spec;
+
+    ghost Value = { spec.Gather };
+
+    ghost view = { λ g. g.gathering };
+}
+
+// A line that is refused goes.
+fn discard(_line: PeerLine) {}
+
+// What a line begins where no packet is under way.
+fn begun(alloc: Global, line: PeerLine) -> (Option<Gathering>, Result<Option<Arrived>, LinkFault>)
+    ensures gather { result.0 ≡ (pushed None line).gather }
+    ensures answer { result.1 ≡ (pushed None line).answer }
+{
+    match line {
+        PeerLine::Word(word) => (None, Ok(Some(Arrived::Word(word)))),
+        PeerLine::Hello(life) => (None, Ok(Some(Arrived::Hello(life)))),
+        PeerLine::Ack(ack) => (None, Ok(Some(Arrived::Ack(ack)))),
+        PeerLine::Head(head) => {
+            let changes = Vec::new(alloc);
+            (Some(Gathering { head, changes }), Ok(None))
+        }
+        PeerLine::Change(change) => {
+            discard(PeerLine::Change(change));
+            (None, Err(LinkFault::BadForm))
+        }
+    }
+}
+
+// What becomes of a packet once its last change came, which is the newest of these.
+fn grown(head: Head, changes: Vec<Change>) -> (Option<Gathering>, Option<Arrived>)
+    ensures gather { result.0 ≡ (with_change head changes.items).gather }
+    ensures answer { Ok result.1 ≡ (with_change head changes.items).answer }
+{
+    if changes.len() as u64 == head.count {
+        (None, Some(Arrived::Packet(head.with_changes(changes))))
+    } else {
+        (Some(Gathering { head, changes }), None)
+    }
+}
+
+// What a line adds to a packet that is under way.
+fn continued(
+    gathering: Gathering,
+    line: PeerLine,
+) -> (Option<Gathering>, Result<Option<Arrived>, LinkFault>)
+    ensures answer { IsAnswerFor (pushed (Some gathering) line).answer result.1 }
+    ensures gather { OnOk result.1 (result.0 ≡ (pushed (Some gathering) line).gather) }
+    ensures empty { OnErr result.1 (result.0 ≡ None) }
+{
+    match line {
+        PeerLine::Change(change) => {
+            let Gathering { head, mut changes } = gathering;
+            match changes.push(change) {
+                Ok(()) => {
+                    let (gathering, arrived) = grown(head, changes);
+                    (gathering, Ok(arrived))
+                }
+                Err(_) => (None, Err(LinkFault::NoMemory)),
+            }
+        }
+        other => {
+            discard(other);
+            (None, Err(LinkFault::BadForm))
+        }
+    }
+}
+
+impl Gather {
+    ghost use Rattle.peer_lines.specs.Gather as spec;
+
+    /// A gather of no lines.
+    pub fn new() -> Gather
+        ensures { result ≡ None }
+    {
+        Gather { gathering: None }
+    }
+
+    /// Takes the next line. A word, a hello and an acknowledgement arrive by themselves, and a packet arrives exactly with
+    /// the last of its changes; before that nothing does.
+    ///
+    /// Refused with [`LinkFault::BadForm`] where a change comes without a head, and where any other line comes while
+    /// changes are missing. After a refusal, and after want of memory, the gather is empty.
+    pub fn push(&mut self, alloc: Global, line: PeerLine) -> Result<Option<Arrived>, LinkFault>
+        ensures answer { IsAnswerFor (pushed self.old line).answer result }
+        ensures gather { OnOk result (self.new ≡ (pushed self.old line).gather) }
+        ensures empty { OnErr result (self.new ≡ None) }
+    {
+        let (gathering, answer) = match self.gathering.take() {
+            None => begun(alloc, line),
+            Some(gathering) => continued(gathering, line),
+        };
+        self.gathering = gathering;
+        answer
+    }
+}
