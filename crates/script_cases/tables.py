@@ -202,6 +202,8 @@ def pages():
         ("LATEST", []), ("LATEST", [("timestamp", 1000)]), ("BEFORE", [("timestamp", 9000)]),
         ("AFTER", [("timestamp", 0)]), ("AROUND", [("msgid", "m060")]),
         ("BETWEEN", [("timestamp", 0), ("timestamp", 9000)]), ("BETWEEN", [("timestamp", 9000), ("timestamp", 0)]),
+    ] + 5 * [
+        ("LATEST", []),
     ]:
         session.ask(sub, "#a", selectors, 101)
     yield session.case("no more than a hundred records")
@@ -209,7 +211,7 @@ def pages():
 
 def full_channel():
     history = History()
-    for i in range(120):
+    for i in range(150):
         history.post("#a", "m%03d" % i, 1000 + i, "x")
     return history
 
