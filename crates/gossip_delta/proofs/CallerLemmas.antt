@@ -9,4 +9,4 @@ pub use Rattle.gossip_delta.proofs.WordsLemmas.{first_words, behind_words, HaveN
 pub use Rattle.gossip_delta.proofs.WordsLemmas.{words_cut, last_cut, filled_words, words_rejoined}
 pub use Rattle.gossip_delta.proofs.NumberLemmas.{decimal_filled, decimal_no_space, decimal_last, decimal_digits, number_read, number_spelled}
 pub use Rattle.gossip_delta.proofs.ReadBackLemmas.{read_back}
-pub use Rattle.gossip_delta.proofs.SpellingLemmas.{one_spelling}
+pub use Rattle.gossip_delta.proofs.SpellingLemmas.{one_spelling, own_fault}

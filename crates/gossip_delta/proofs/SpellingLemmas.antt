@@ -1,6 +1,6 @@
 -- A line that spells a change is the one line that is written for it, and the change's parts are lawful.
 use Rattle.std.proofs.Common.{◌≡◌, ℕ, ◌≤◌, Bool, true, false, ◌&&◌, cond, Option, Some, None, Result, Ok, Err, List, [], ◌∷◌, ◌++◌, codes, drop, refl, sym, ◌∙◌, ap, subst, arith, append_assoc}
-use Rattle.std.specs.Prelude.{decimal}
+use Rattle.std.specs.Prelude.{decimal, ◌≢◌, IfErr}
 use Rattle.std.specs.Char.{to_ascii_lowercase}
 use Rattle.std.specs.Option.{IfSome, option_map}
 use Rattle.std.proofs.lemmas.Bool.{false≢true, eqb-true}
@@ -21,7 +21,7 @@ use Rattle.gossip_delta.specs.ChangeLine.{BufferFields, buffer_fields, PostField
 use Rattle.chat_change.specs.Lawful.{IsLawfulChange}
 use Rattle.gossip_delta.specs.ChangeText.{buffer_words, moment_text, line_of}
 use Rattle.gossip_delta.specs.declared.fault.ChangeLineFault.{ChangeLineFault}
-use Rattle.gossip_delta.specs.declared.fault.ChangeLineFault.TheVariants.{BadForm}
+use Rattle.gossip_delta.specs.declared.fault.ChangeLineFault.TheVariants.{BadForm, NoMemory}
 use Rattle.gossip_delta.specs.declared.fields.ChangeKind.{ChangeKind}
 use Rattle.gossip_delta.specs.declared.fields.ChangeKind.TheVariants as of_kind
 use Rattle.gossip_delta.proofs.TestLemmas.{left, right, text_is}
@@ -266,3 +266,30 @@ one_spelling line c h =
     let p = line_says line c h in
     let q = kind_says (change_kind (word (behind line))) (behind (behind line)) c p.1 in
     spelled line p.0 q.0 (kind_is (word (behind line)) q.0 q.1) c q.2
+
+-- ---- what a line has that spells none
+
+abbrev IsOwnFault : Line → Type 0
+IsOwnFault line = IfErr line (λ fault. fault ≢ NoMemory)
+
+own_chosen : (t : Bool) (x y : Line) → IsOwnFault x → IsOwnFault y → IsOwnFault (cond t x y)
+own_chosen true x y a b = a
+own_chosen false x y a b = b
+
+own_field : (o : Option Change) → IsOwnFault (or_bad_field o)
+own_field None = λ e. cc e
+own_field (Some change) = tt
+
+own_form : IsOwnFault (Err BadForm)
+own_form = λ e. cc e
+
+own_kind : (o : Option ChangeKind) (rest : List ℕ) → IsOwnFault (kind_change o rest)
+own_kind None rest = own_form
+own_kind (Some kind) rest =
+    let b = buffer_fields rest in
+    own_chosen (has_names b && has_form kind b.rest) _ (Err BadForm) (own_field (cond (is_buffer b) (change_in kind (buffer_named b) b.rest) None)) own_form
+
+-- the fault of a line isn't that there was no memory
+pub own_fault : (line : List ℕ) → IfErr (read_change line) (λ fault. fault ≢ NoMemory)
+unfolding read_change
+own_fault line = own_chosen (is_text (word line) (codes "C")) _ (Err BadForm) (own_kind (change_kind (word (behind line))) (behind (behind line))) own_form
