@@ -1,5 +1,4 @@
 mod RequestLemmas
-mod LineLemmas
 mod NodeLemmas
 mod OrderLemmas
 mod ProgressLemmas

@@ -30,7 +30,7 @@ module _ (n m : Node) (s : Alike n m) where
 
   text_alike : (a : Request) → (outcome n a).text ≡ (outcome m a).text
   text_alike (of_change (Ok change)) = refl
-  text_alike (of_change (Err refusal)) = refl
+  text_alike (of_change (Err fault)) = refl
   text_alike (of_client nothing) = refl
   text_alike (of_client over_long) = ap (λ (f : Facts). too_long_text f.cluster f.nick) s.facts
   text_alike (of_client unknown) = ap (λ (f : Facts). unknown_text f.cluster f.nick (codes "*")) s.facts
@@ -42,7 +42,7 @@ module _ (n m : Node) (s : Alike n m) where
 
   node_alike : (a : Request) → Alike (outcome n a).node (outcome m a).node
   node_alike (of_change (Ok change)) = record { facts = s.facts; history = took_alike change }
-  node_alike (of_change (Err refusal)) = s
+  node_alike (of_change (Err fault)) = s
   node_alike (of_client nothing) = s
   node_alike (of_client over_long) = s
   node_alike (of_client unknown) = s
@@ -83,7 +83,7 @@ after_changes node (item ∷ items) all =
           → node_after (outcome node a).node items ≡ with_more node (cons_option (change_in a) (changes_in items))
       go (of_change (Ok change)) is rest =
           rest (record node { taken = node.taken ++ change ∷ [] }) ∙ ap (λ l. record node { taken = l }) (append_assoc node.taken (change ∷ []) (changes_in items))
-      go (of_change (Err refusal)) is rest = rest node
+      go (of_change (Err fault)) is rest = rest node
       go (of_client line) is rest = absurd is
 
 same_behind : (before one two : List Change) → SameSet one two → SameSet (before ++ one) (before ++ two)

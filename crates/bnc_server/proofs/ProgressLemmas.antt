@@ -170,6 +170,14 @@ module _ (r0 r w0 w : Option (List ℕ)) (account network nick : List ℕ) (self
         ap (λ l. script l account network nick) all ∙ h.written.rest [] ∙ ap (λ l. h.written.text ++ l) (to_come-end h.written.node held h.drained) ∙ append-nil h.written.text in
         subst (λ l. Appends w0 w l) (sym text) h.written.written
 
+  -- nothing more was to be read
+  pub all_read : (r' : Option (List ℕ)) (n : ℕ) (buffer : List ℕ) → n ≡ 0 → Consumes r r' (take n buffer) → IsAtEnd r' → IfSome r0 (λ input. Appends w0 w (script input account network nick))
+  all_read r' n buffer none p e = at_end (go r r' (subst (λ m. Consumes r r' (take m buffer)) none p) e) where
+    go : (r r' : Option (List ℕ)) → Consumes r r' [] → IsAtEnd r' → IsAtEnd r
+    go None r' p q = tt
+    go (Some xs) None p q = absurd p
+    go (Some xs) (Some ys) p q = p ∙ q
+
   pub on_fault : IfSome r0 (λ input. AppendsPrefix w0 w (script input account network nick))
   on_fault = go r0 r h.consumed where
     go : (r0 r : Option (List ℕ)) → Consumes r0 r h.read → IfSome r0 (λ input. AppendsPrefix w0 w (script input account network nick))

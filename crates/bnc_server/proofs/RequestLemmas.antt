@@ -1,20 +1,18 @@
--- What a line asks for, by its first words.
-use Rattle.std.proofs.Common.{◌≡◌, ℕ, true, false, List, sym, ap, ◌∙◌}
+-- What a line asks for, by its first bytes, and why it spells no change.
+use Rattle.std.proofs.Common.{◌≡◌, ℕ, true, false, List, Result, Ok, Err, refl, sym, ◌∙◌, subst}
+use Rattle.std.specs.Prelude.{◌≢◌, IfErr}
 use Rattle.std.proofs.lemmas.Bool.{cond-true, cond-false}
-use Rattle.bnc_server.specs.Words.{begins_with, word, behind}
-use Rattle.bnc_server.specs.ChangeLine.{read_change}
+use Rattle.chat_change.specs.Words.{begins_with}
+use Rattle.chat_change.specs.declared.change.Change.{Change}
+use Rattle.gossip_delta.specs.ChangeLine.{read_change, fault_or_no_memory}
+use Rattle.gossip_delta.specs.declared.fault.ChangeLineFault.{ChangeLineFault}
+use Rattle.gossip_delta.specs.declared.fault.ChangeLineFault.TheVariants.{BadForm, BadField, NoMemory}
 use Rattle.bnc_server.specs.ClientLine.{other, client_line}
-use Rattle.bnc_server.specs.Request.{request_in, request_in_change_line, is_change_line, is_later_kind, of_change, of_client}
-
-module _ (text kind : List ℕ) (e : kind ≡ word (behind text)) where
-  pub asked_later : is_later_kind kind ≡ true → request_in_change_line text ≡ of_client other
-  asked_later t = cond-true _ _ _ (ap is_later_kind (sym e) ∙ t)
-
-  pub asked_now : is_later_kind kind ≡ false → request_in_change_line text ≡ of_change (read_change text)
-  asked_now t = cond-false _ _ _ (ap is_later_kind (sym e) ∙ t)
+use Rattle.bnc_server.specs.Request.{request_in, is_change_line, of_change, of_client}
+use Rattle.bnc_server.specs.Faults.{IsFaultOf}
 
 module _ (text : List ℕ) where
-  pub asked_change : is_change_line text ≡ true → request_in text ≡ request_in_change_line text
+  pub asked_change : is_change_line text ≡ true → request_in text ≡ of_change (read_change text)
   unfolding request_in
   asked_change t = cond-true _ _ _ t
 
@@ -25,3 +23,13 @@ module _ (text : List ℕ) where
   pub asked_client : is_change_line text ≡ false → begins_with 37 text ≡ false → request_in text ≡ of_client (client_line text)
   unfolding request_in
   asked_client t u = cond-false _ _ _ t ∙ cond-false _ _ _ u
+
+own_fault_of : (fault : ChangeLineFault) → fault ≢ NoMemory → IsFaultOf (Err fault) fault
+own_fault_of BadForm own = refl
+own_fault_of BadField own = refl
+own_fault_of NoMemory own = absurd (own refl)
+
+-- a fault that is the line's own, or else want of memory
+pub fault_of_line : (read : Result Change ChangeLineFault) (fault : ChangeLineFault) → IfErr read (λ fault. fault ≢ NoMemory) → fault ≡ fault_or_no_memory read → IsFaultOf read fault
+fault_of_line (Ok change) fault own is = subst (IsFaultOf (Ok change)) (sym is) (change, refl)
+fault_of_line (Err line) fault own is = subst (IsFaultOf (Err line)) (sym is) (own_fault_of line own)

@@ -18,7 +18,7 @@ AreChangeLines items = AllByRecursion (λ item. IsOfChange (request_of item)) it
 -- the change that a line spells, if it spells one
 abbrev pub change_in : Request → Option Change
 change_in (of_change (Ok change)) = Some change
-change_in (of_change (Err refusal)) = None
+change_in (of_change (Err fault)) = None
 change_in (of_client line) = None
 
 abbrev pub changes_in : List Item → List Change

@@ -1,15 +1,9 @@
 -- what a reader must believe: lines, what they ask for, and what a script prints
-pub mod Words
-pub mod Number
-pub mod ChangeLine
 pub mod ClientLine
 pub mod Request
 pub mod Script
 pub mod ChangeLines
 -- what only the proofs use: what the code's values stand for, and how far a script has come
-pub mod BufferFields
-pub mod PostFields
-pub mod ChangeLineFault
 pub mod HeldNode
 pub mod Faults
 pub mod Progress

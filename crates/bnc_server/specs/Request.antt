@@ -1,31 +1,25 @@
 -- What an item of a script asks for.
-use Rattle.std.specs.Prelude.{ℕ, Bool, ◌||◌, List, codes, take, Result, if◌then◌else◌}
+use Rattle.std.specs.Prelude.{ℕ, Bool, List, codes, take, Result, if◌then◌else◌}
 use Rattle.irc_line.specs.Stream.{Item, line, too_long}
+use Rattle.chat_change.specs.Words.{begins_with}
 use Rattle.chat_change.specs.declared.change.Change.{Change}
-use Rattle.bnc_server.specs.Words.{is_text, begins_with, word, behind}
-use Rattle.bnc_server.specs.ChangeLine.{Refusal, read_change}
+use Rattle.gossip_delta.specs.Words.{is_text}
+use Rattle.gossip_delta.specs.ChangeLine.{read_change}
+use Rattle.gossip_delta.specs.declared.fault.ChangeLineFault.{ChangeLineFault}
 use Rattle.bnc_server.specs.ClientLine.{ClientLine, other, over_long, client_line}
 
 pub data Request : Type 0 where
-  of_change : Result Change Refusal → Request
+  of_change : Result Change ChangeLineFault → Request
   of_client : ClientLine → Request
 
 -- a line of a change begins with `C` and a space
 abbrev pub is_change_line : List ℕ → Bool
 is_change_line bytes = is_text (take 2 bytes) (codes "C ")
 
--- redactions and floors aren't served yet
-abbrev pub is_later_kind : List ℕ → Bool
-is_later_kind kind = is_text kind (codes "REDACT") || is_text kind (codes "FLOOR")
-
-abbrev pub request_in_change_line : List ℕ → Request
-request_in_change_line bytes = if is_later_kind
-    (word (behind bytes)) then of_client other else of_change (read_change bytes)
-
 -- lines that begin with `%` aren't served yet
 unfoldable pub request_in : List ℕ → Request
 request_in bytes =
-    if is_change_line bytes then request_in_change_line bytes
+    if is_change_line bytes then of_change (read_change bytes)
     else if begins_with 37 bytes then of_client other
     else of_client (client_line bytes)
 

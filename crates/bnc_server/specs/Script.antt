@@ -8,7 +8,8 @@ use Rattle.chat_batch.specs.Reference.{after_answer}
 use Rattle.chat_batch.specs.Answers.{Answer, answer_of}
 use Rattle.chat_batch.specs.declared.facts.Facts.{Facts}
 use Rattle.chat_batch.specs.declared.facts.Answered.{Answered}
-use Rattle.bnc_server.specs.ChangeLine.{Refusal, bad_form, bad_field}
+use Rattle.gossip_delta.specs.declared.fault.ChangeLineFault.{ChangeLineFault}
+use Rattle.gossip_delta.specs.declared.fault.ChangeLineFault.TheVariants.{BadForm}
 use Rattle.bnc_server.specs.ClientLine.{nothing, over_long, unknown, other, question}
 use Rattle.bnc_server.specs.Request.{Request, of_change, of_client, request_of}
 
@@ -46,9 +47,10 @@ start account network nick = record { facts = facts_of account network nick; tak
 abbrev pub not_yet_text : List ℕ
 not_yet_text = codes "% NotYet" ++ ending
 
-abbrev pub refusal_text : Refusal → List ℕ
-refusal_text bad_form = codes "% BadForm" ++ ending
-refusal_text bad_field = codes "% BadField" ++ ending
+-- of a line that spells no change, by its form or else by a field
+abbrev pub refusal_text : ChangeLineFault → List ℕ
+refusal_text BadForm = codes "% BadForm" ++ ending
+refusal_text _ = codes "% BadField" ++ ending
 
 -- ---- answers
 
@@ -76,7 +78,7 @@ answered_by node answer =
 
 abbrev pub outcome : Node → Request → Outcome
 outcome node (of_change (Ok change)) = reply_of (after_taking node change) []
-outcome node (of_change (Err refusal)) = reply_of node (refusal_text refusal)
+outcome node (of_change (Err fault)) = reply_of node (refusal_text fault)
 outcome node (of_client nothing) = reply_of node []
 outcome node (of_client over_long) =
     reply_of node (too_long_text node.facts.cluster node.facts.nick)

@@ -1,21 +1,20 @@
 //! A node with its session: what it holds, and how it answers.
 ghost use Rattle.std.specs.Prelude.{◌≡◌, Ok, IfOk, IfErr};
-ghost use Rattle.bnc_server.specs.Words.{word, behind};
-ghost use Rattle.bnc_server.specs.ChangeLine as line;
+ghost use Rattle.chat_change.specs.Words.{begins_with};
+ghost use Rattle.gossip_delta.specs.ChangeLine.{read_change};
 ghost use Rattle.bnc_server.specs.ClientLine as client;
-ghost use Rattle.bnc_server.specs.Request.{request_in, request_in_change_line, is_change_line, is_later_kind, of_change, of_client};
+ghost use Rattle.bnc_server.specs.Request.{request_in, is_change_line, of_change, of_client};
 ghost use Rattle.bnc_server.specs.Script as spec;
 ghost use Rattle.bnc_server.specs.HeldNode.{held_node, Prints, Becomes};
-ghost use Rattle.bnc_server.specs.Faults.{of_state, MayRefuse, MayEnd};
+ghost use Rattle.bnc_server.specs.Faults.{IsFaultOf, of_state, MayRefuse, MayEnd};
 
-use crate::change_line::{ChangeLineFault, read_change};
 use crate::client_line::{ClientLine, client_line};
 use crate::fault::ReplayFault;
 use crate::reply::{put_bad_field, put_bad_form, put_not_yet, put_too_long, put_unknown};
-use crate::words::{begins_with, is_text, split_word};
 use chat_batch::{AnswerFault, Facts, answer, next_reference};
-use chat_change::Change;
+use chat_change::{Buffer, Change};
 use chat_state::{State, StateFault};
+use gossip_delta::{ChangeLineFault, is_text, read_change_in};
 use irc_caps::CapSet;
 use irc_line::Line;
 use memory::Text;
@@ -28,6 +27,8 @@ use std::marker::Model;
 pub(crate) struct Node {
     facts: Facts,
     state: State,
+    // the buffer of the latest change that was read
+    latest: Option<Buffer>,
 }
 
 impl Model for Node {
@@ -65,18 +66,10 @@ fn is_change_line(text: &[u8]) -> bool
     is_text(&text[..n], b"C ")
 }
 
-fn is_later_kind(kind: &[u8]) -> bool
-    ensures { result ≡ is_later_kind kind.now }
+fn begins_with(byte: u8, text: &[u8]) -> bool
+    ensures { result ≡ begins_with byte text.now }
 {
-    is_text(kind, b"REDACT") || is_text(kind, b"FLOOR")
-}
-
-fn second_word(text: &[u8]) -> &[u8]
-    ensures { result.now ≡ word (behind text.now) }
-{
-    let (_, rest) = split_word(text);
-    let (second, _) = split_word(rest);
-    second
+    !text.is_empty() && text[0] == byte
 }
 
 fn state_fault(fault: StateFault) -> ReplayFault
@@ -101,7 +94,32 @@ impl Node {
         Ok(Node {
             facts: facts_of(alloc, account, network, nick)?,
             state: State::new(alloc),
+            latest: None,
         })
+    }
+
+    // Keeps a clone of the change's buffer, unless the buffer has too many owners.
+    fn keep_buffer(&mut self, change: &Change)
+        ensures { self.new ≡ self.old }
+    {
+        if let Ok(buffer) = change.key().buffer().try_clone() {
+            self.latest = Some(buffer);
+        }
+    }
+
+    // The change that a line spells. Its buffer is kept, since the next line may well be of the same one.
+    fn read(&mut self, alloc: Global, text: &[u8]) -> Result<Change, ChangeLineFault>
+        ensures node { self.new ≡ self.old }
+        ensures made { IfOk result (λ change. read_change text.now ≡ Ok change) }
+        ensures refused { IfErr result (λ fault. IsFaultOf (read_change text.now) fault) }
+    {
+        match read_change_in(alloc, self.latest.as_ref(), text) {
+            Err(fault) => Err(fault),
+            Ok(change) => {
+                self.keep_buffer(&change);
+                Ok(change)
+            }
+        }
     }
 
     fn take(&mut self, change: Change) -> Result<(), ReplayFault>
@@ -121,11 +139,11 @@ impl Node {
         writer: &mut W,
     ) -> Result<(), ReplayFault>
         ensures text { Prints W.contents writer.old writer.new result self.old
-            (of_change (line.read_change text.now)) }
-        ensures node { Becomes result self.old (of_change (line.read_change text.now)) self.new }
-        ensures fault { IfErr result (MayEnd self.old (of_change (line.read_change text.now))) }
+            (of_change (read_change text.now)) }
+        ensures node { Becomes result self.old (of_change (read_change text.now)) self.new }
+        ensures fault { IfErr result (MayEnd self.old (of_change (read_change text.now))) }
     {
-        match read_change(alloc, text) {
+        match self.read(alloc, text) {
             Ok(change) => self.take(change),
             Err(ChangeLineFault::BadForm) => put_bad_form(writer),
             Err(ChangeLineFault::BadField) => put_bad_field(writer),
@@ -184,24 +202,6 @@ impl Node {
         }
     }
 
-    fn serve_change_line<W: Write>(
-        &mut self,
-        alloc: Global,
-        text: &[u8],
-        writer: &mut W,
-    ) -> Result<(), ReplayFault>
-        ensures text { Prints W.contents writer.old writer.new result self.old
-            (request_in_change_line text.now) }
-        ensures node { Becomes result self.old (request_in_change_line text.now) self.new }
-        ensures fault { IfErr result (MayEnd self.old (request_in_change_line text.now)) }
-    {
-        if is_later_kind(second_word(text)) {
-            put_not_yet(writer)
-        } else {
-            self.serve_change(alloc, text, writer)
-        }
-    }
-
     /// Answers a line, which stands without its ending.
     #[tactic(auto, unfolding(crate::specs::Request::request_in))]
     pub(crate) fn serve_line<W: Write>(
@@ -216,7 +216,7 @@ impl Node {
         ensures fault { IfErr result (MayEnd self.old (request_in text.now)) }
     {
         if is_change_line(text) {
-            self.serve_change_line(alloc, text, writer)
+            self.serve_change(alloc, text, writer)
         } else if begins_with(b'%', text) {
             put_not_yet(writer)
         } else {

@@ -2,7 +2,7 @@
 ghost use Rattle.std.specs.Prelude.{◌≡◌, codes, IfErr};
 ghost use Rattle.output.specs.Writes.{Writes};
 ghost use Rattle.irc_reply.specs.Reply.{too_long_text, unknown_text};
-ghost use Rattle.bnc_server.specs.ChangeLine as line;
+ghost use Rattle.gossip_delta.specs.declared.fault.ChangeLineFault.TheVariants as line;
 ghost use Rattle.bnc_server.specs.Script as spec;
 
 use crate::fault::ReplayFault;
@@ -31,7 +31,7 @@ pub(crate) fn put_not_yet<W: Write>(writer: &mut W) -> Result<(), ReplayFault>
 /// Answers a change line of another form.
 pub(crate) fn put_bad_form<W: Write>(writer: &mut W) -> Result<(), ReplayFault>
     ensures text { Writes W.contents writer.old writer.new result
-        (spec.refusal_text line.bad_form) }
+        (spec.refusal_text line.BadForm) }
     ensures fault { IfErr result (λ fault. fault ≡ ReplayFault.Write) }
 {
     put_text(writer, b"% BadForm\r\n")
@@ -40,7 +40,7 @@ pub(crate) fn put_bad_form<W: Write>(writer: &mut W) -> Result<(), ReplayFault>
 /// Answers a change line with a field that is refused.
 pub(crate) fn put_bad_field<W: Write>(writer: &mut W) -> Result<(), ReplayFault>
     ensures text { Writes W.contents writer.old writer.new result
-        (spec.refusal_text line.bad_field) }
+        (spec.refusal_text line.BadField) }
     ensures fault { IfErr result (λ fault. fault ≡ ReplayFault.Write) }
 {
     put_text(writer, b"% BadField\r\n")

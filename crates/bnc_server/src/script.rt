@@ -141,8 +141,8 @@ pub(crate) fn replay_within<In: Read, Out: Write>(
 /// and one CR before it is dropped; bytes behind the last LF are ignored where they are fewer than 8703. Each line is
 /// answered by lines that end with CR LF:
 ///
-/// - `C POST account network target id ms P|N target source :body` and `C MARK account network target ms` are taken, and
-///   answered `% BadForm` or `% BadField` where they spell no post and no marker;
+/// - a line that begins with `C` and a space is taken where it spells a change (`gossip_delta::read_change`), and answered
+///   `% BadForm` or `% BadField` where it spells none;
 /// - CHATHISTORY (IRCv3 draft/chathistory), and MARKREAD (IRCv3 draft/read-marker) with one parameter or none, are answered
 ///   as `chat_batch::answer` answers them, to a session that holds all capabilities;
 /// - an empty line is answered by nothing, a line or tags of too many bytes by numeric 417, a line with no command by

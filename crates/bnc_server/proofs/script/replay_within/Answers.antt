@@ -1,4 +1,5 @@
-use Rattle.bnc_server.proofs.ProgressLemmas.{begun, read_more, read_failed, fault_in_piece, faulted}
+use Rattle.std.proofs.Common.{◌≡◌, rules}
+use Rattle.bnc_server.proofs.ProgressLemmas.{all_read, begun, read_more, read_failed, fault_in_piece, faulted}
 use Rattle.bnc_server.proofs.script.replay_within.Goals as goal
 use Rattle.bnc_server.proofs.script.replay_within.Goals.{in-Ok-read+in_ok-serve_piece-in-Ok-read, in-Err+else-ne}
 
@@ -20,3 +21,9 @@ pub returns-in_err-serve_piece-in-Ok-read : goal.returns-in_err-serve_piece-in-O
 returns-in_err-serve_piece-in-Ok-read g c =
     faulted _ _ _ _ _ _ _ c.from_residual.result c.from_residual.ensures.1
     (fault_in_piece _ _ _ _ _ _ _ c.reads.node c.reads.feeder c.reads.invariant _ _ _ c.in-Ok-read.ensures.bytes.0 c.in_err-serve_piece-in-Ok-read.ensures.serves)
+
+pub returns-in-Ok-eq0 : goal.returns-in-Ok-eq0
+returns-in-Ok-eq0 g c =
+    let none : c.in-Ok-eq0.field-0 ≡ 0 = search rules in
+    all_read _ _ _ _ _ _ _ c.reads.node c.reads.feeder c.reads.invariant _ c.in-Ok-eq0.field-0 _ none c.in-Ok-eq0.ensures.bytes.0
+    (c.in-Ok-eq0.ensures.bytes.1 none (search rules))

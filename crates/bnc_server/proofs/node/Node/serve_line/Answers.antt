@@ -6,8 +6,8 @@ use Rattle.bnc_server.proofs.node.Node.serve_line.Goals as goal
 
 pub returns-then-is_change_line-clause-node : goal.returns-then-is_change_line-clause-node
 returns-then-is_change_line-clause-node g c =
-    subst (λ a. Becomes c.serve_change_line.result c.args.self.now a c.serve_change_line.new.self)
-    (sym (asked_change c.args.text.now (sym c.is_change_line.ensures ∙ c.if-is_change_line.true))) c.serve_change_line.ensures.node
+    subst (λ a. Becomes c.serve_change.result c.args.self.now a c.serve_change.new.self)
+    (sym (asked_change c.args.text.now (sym c.is_change_line.ensures ∙ c.if-is_change_line.true))) c.serve_change.ensures.node
 
 pub returns-then-begins_with-clause-node : goal.returns-then-begins_with-clause-node
 returns-then-begins_with-clause-node g c =
