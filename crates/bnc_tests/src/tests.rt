@@ -17,7 +17,7 @@ const ONE_PAGE: &[u8] =
 
 #[test]
 fn pages_are_printed(rt: HostRuntime) {
-    let rows: [(&[u8], &[u8]); 6] = [
+    let rows: [(&[u8], &[u8]); 8] = [
         (ONE_MESSAGE, ONE_PAGE),
         (
             b"CHATHISTORY LATEST #none * 5\r\n",
@@ -34,6 +34,15 @@ fn pages_are_printed(rt: HostRuntime) {
         (
             b"C POST demo net #a m3 3000 P #a bob!b@h :c\nC POST demo net #a m1 1000 P #a bob!b@h :a\nC POST demo net #b m9 9000 P #b bob!b@h :x\nC POST demo net #a m2 2000 P #a bob!b@h :b\nC POST demo other #a m8 8000 P #a bob!b@h :y\nCHATHISTORY LATEST #a * 2\n",
             b":bnc.example BATCH +r1 chathistory #a\r\n@batch=r1;msgid=m2;time=1970-01-01T00:00:02.000Z :bob!b@h PRIVMSG #a :b\r\n@batch=r1;msgid=m3;time=1970-01-01T00:00:03.000Z :bob!b@h PRIVMSG #a :c\r\n:bnc.example BATCH -r1\r\n",
+        ),
+        // A floor, and a redaction, before what they take away and behind it.
+        (
+            b"C FLOOR demo net #a 1500\nC POST demo net #a m1 1000 P #a bob!b@h :a\nC POST demo net #a m2 2000 P #a bob!b@h :b\nC FLOOR demo net #a 2000\nCHATHISTORY LATEST #a * 5\n",
+            b":bnc.example BATCH +r1 chathistory #a\r\n@batch=r1;msgid=m2;time=1970-01-01T00:00:02.000Z :bob!b@h PRIVMSG #a :b\r\n:bnc.example BATCH -r1\r\n",
+        ),
+        (
+            b"C REDACT demo net #a m1 *\nC POST demo net #a m1 1000 P #a bob!b@h :a\nC POST demo net #a m2 2000 P #a bob!b@h :b\nC REDACT demo net #a m2 2000\nCHATHISTORY LATEST #a * 5\nCHATHISTORY AFTER #a msgid=m1 5\n",
+            b":bnc.example BATCH +r1 chathistory #a\r\n:bnc.example BATCH -r1\r\n:bnc.example BATCH +r2 chathistory #a\r\n:bnc.example BATCH -r2\r\n",
         ),
         (
             b"C MARK demo net #a 5000\nC MARK demo net #a 3000\nMARKREAD #a\nmarkread #b\nMARKREAD #A\n",
@@ -52,7 +61,7 @@ fn pages_are_printed(rt: HostRuntime) {
 
 #[test]
 fn other_lines_are_answered(rt: HostRuntime) {
-    let rows: [(&[u8], &[u8]); 10] = [
+    let rows: [(&[u8], &[u8]); 11] = [
         // The form of a change, and then its fields.
         (
             b"C POST demo net #A m1 1000 P #a bob!b@h :hi\n",
@@ -70,10 +79,14 @@ fn other_lines_are_answered(rt: HostRuntime) {
             b"C POST demo net #a m1 1000 Q #a bob!b@h :hi\nC POST Demo net #a m1 1000 P #a bob!b@h :hi\nC POST demo net #a m1 1000 P #a :bob :hi\nC POST demo net #a m1 1x P #a bob :hi\nC POST demo net #a m1 1 P * bob :hi\n",
             b"% BadField\r\n% BadField\r\n% BadField\r\n% BadField\r\n% BadField\r\n",
         ),
+        (
+            b"C REDACT demo net #a m1\nC REDACT demo net #a m1 x\nC REDACT demo net #a :m1 *\nC FLOOR demo net #a\nC FLOOR demo net #a *\n",
+            b"% BadForm\r\n% BadField\r\n% BadField\r\n% BadForm\r\n% BadField\r\n",
+        ),
         // What isn't served yet.
         (
-            b"C REDACT demo net #a m1 *\nC FLOOR demo net #a 1\n%2\n%0\n% x\nPRIVMSG #a :hi\nMARKREAD #a *\n",
-            b"% NotYet\r\n% NotYet\r\n% NotYet\r\n% NotYet\r\n% NotYet\r\n% NotYet\r\n% NotYet\r\n",
+            b"%2\n%0\n% x\nPRIVMSG #a :hi\nMARKREAD #a *\n",
+            b"% NotYet\r\n% NotYet\r\n% NotYet\r\n% NotYet\r\n% NotYet\r\n",
         ),
         // Questions that are refused.
         (
