@@ -9,7 +9,8 @@ use Rattle.std.specs.Prelude.{ℕ, ◌≡◌, ◌<◌, ◌≤◌, ◌^◌, true,
 use Rattle.std.specs.Fmt.{decimal}
 use Rattle.std.specs.List.{All, flat_map, join_with_byte}
 use Rattle.chat_change.specs.declared.change.Change as change
-use Rattle.gossip_delta.specs.ChangeText.{line_of as change_text, line_end, IsLawfulChange}
+use Rattle.gossip_delta.specs.ChangeText.{line_of as change_text, line_end}
+use Rattle.chat_change.specs.Lawful.{IsLawfulChange}
 use Rattle.peer_lines.specs.Names.{is_node_name, is_shared_word}
 use Rattle.peer_lines.specs.Life as parts
 use Rattle.peer_lines.specs.Life.{Life, Packet, head_of}
