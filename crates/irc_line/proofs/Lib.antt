@@ -8,4 +8,5 @@ mod CallsLemmas
 mod TextLemmas
 mod LinesLemmas
 mod WordLemmas
+mod WholeLemmas
 pub mod CallerLemmas

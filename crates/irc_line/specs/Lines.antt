@@ -14,7 +14,8 @@ pub record AreLines (limit : TagLimit) (text : List ℕ) : Type 0 where
 
 -- any stream that the text begins is cut into the lines of these parts, and then into what follows
 abbrev pub AreCutOut : List ℕ → List Parts → Type 0
-AreCutOut text lines = (rest : List ℕ) → items (text ++ rest) ≡ map (λ p. line (text_of p)) lines ++ items rest
+AreCutOut text lines =
+    (rest : List ℕ) → items (text ++ rest) ≡ map (λ p. line (text_of p)) lines ++ items rest
 
 -- each of the lines reads back as its parts
 abbrev pub ReadBack : TagLimit → List Parts → Type 0
