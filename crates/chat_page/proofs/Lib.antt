@@ -1,6 +1,7 @@
 mod ItemLemmas
 mod LastLemmas
 mod PostedLemmas
+mod GivenLemmas
 mod WalkLemmas
 mod ParameterLemmas
 mod CutLemmas
