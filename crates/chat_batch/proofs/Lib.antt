@@ -1,4 +1,7 @@
-pub mod CallerLemmas
 mod AnswerLemmas
 mod TagLemmas
 mod Texts
+mod WordLemmas
+mod LinesLemmas
+mod AnswerLinesLemmas
+pub mod CallerLemmas

@@ -1,8 +1,10 @@
--- what a reader must believe: the tags, lines and batches that are written, and what is answered
+-- what a reader must believe: the tags, lines and batches that are written, what is answered, and what may be handed in
+-- for them
 pub mod Tags
 pub mod Message
 pub mod Batch
 pub mod Reference
 pub mod Answers
+pub mod Standing
 -- what only the proofs use of the code: what a call that answers leaves
 pub mod Gives
