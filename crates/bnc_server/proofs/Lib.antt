@@ -2,3 +2,6 @@ mod RequestLemmas
 mod NodeLemmas
 mod OrderLemmas
 mod ProgressLemmas
+mod PrintedLemmas
+mod SoundLemmas
+mod PrintLemmas
