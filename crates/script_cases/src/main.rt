@@ -11,8 +11,7 @@
 use anyhow::Error;
 use bnc_server::replay;
 use std::alloc::{AllocError, Global};
-use std::env;
-use std::fs;
+use std::{env, fs};
 
 /// A script with what it is to print.
 #[derive(Clone, Copy)]
