@@ -19,38 +19,44 @@ fn is_read(alloc: Global, line: &[u8]) -> bool {
     read_peer(alloc, line).is_ok()
 }
 
-#[test]
-fn words_and_hellos_are_read(rt: HostRuntime) {
-    let alloc = rt.alloc();
-    assert!(rt; is_read(alloc, b"W green"));
-    assert!(rt; is_read(alloc, b"H 1 n1 0"));
-    assert!(rt; is_read(alloc, b"H 1 n1 18446744073709551615"));
-    assert!(rt; is_refused(alloc, b"W "));
-    assert!(rt; is_refused(alloc, b"W green "));
-    assert!(rt; is_refused(alloc, b"w green"));
-    assert!(rt; is_refused(alloc, b"H 2 n1 0"));
-    assert!(rt; is_refused(alloc, b"H 1 N1 0"));
-    assert!(rt; is_refused(alloc, b"H 1  n1 0"));
-    assert!(rt; is_refused(alloc, b"H 1 n1 00"));
-    assert!(rt; is_refused(alloc, b"H 1 n1 +1"));
-    assert!(rt; is_refused(alloc, b"H 1 n1 18446744073709551616"));
-    assert!(rt; is_refused(alloc, b"H 1 n1"));
-}
+const LINES: [&[u8]; 6] = [
+    b"W green",
+    b"H 1 n1 0",
+    b"H 1 n1 18446744073709551615",
+    b"D n1 1 n2 1 0 2 2",
+    b"D n1 1 n2 1 0 2 256",
+    b"A n2 1 n1 1 1",
+];
+
+const OTHERS: [&[u8]; 18] = [
+    b"",
+    b"W ",
+    b"W green ",
+    b"w green",
+    b"H 2 n1 0",
+    b"H 1 N1 0",
+    b"H 1  n1 0",
+    b"H 1 n1 00",
+    b"H 1 n1 +1",
+    b"H 1 n1 18446744073709551616",
+    b"H 1 n1",
+    b"D n1 1 n2 1 0 2 0",
+    b"D n1 1 n2 1 0 2 257",
+    b"D n1 1 n2 1 2 2 1",
+    b"D n1 1 n2 1 0 2",
+    b"D n1 1 n2 1 0 2 2 ",
+    b"A n2 1 n1 1",
+    b"A n2 1 n1 1 1 1",
+];
 
 #[test]
-fn heads_and_acks_are_read(rt: HostRuntime) {
-    let alloc = rt.alloc();
-    assert!(rt; is_read(alloc, b"D n1 1 n2 1 0 2 2"));
-    assert!(rt; is_read(alloc, b"D n1 1 n2 1 0 2 256"));
-    assert!(rt; is_read(alloc, b"A n2 1 n1 1 1"));
-    assert!(rt; is_refused(alloc, b"D n1 1 n2 1 0 2 0"));
-    assert!(rt; is_refused(alloc, b"D n1 1 n2 1 0 2 257"));
-    assert!(rt; is_refused(alloc, b"D n1 1 n2 1 2 2 1"));
-    assert!(rt; is_refused(alloc, b"D n1 1 n2 1 0 2"));
-    assert!(rt; is_refused(alloc, b"D n1 1 n2 1 0 2 2 "));
-    assert!(rt; is_refused(alloc, b"A n2 1 n1 1"));
-    assert!(rt; is_refused(alloc, b"A n2 1 n1 1 1 1"));
-    assert!(rt; is_refused(alloc, b""));
+fn lines_have_one_spelling(rt: HostRuntime) {
+    for line in LINES {
+        assert!(rt; is_read(rt.alloc(), line), "{line:?}");
+    }
+    for line in OTHERS {
+        assert!(rt; is_refused(rt.alloc(), line), "{line:?}");
+    }
 }
 
 #[test]
@@ -81,22 +87,30 @@ fn arrival(alloc: Global, gather: &mut Gather, line: &[u8]) -> u8 {
     }
 }
 
+const HEAD: &[u8] = b"D n1 1 n2 1 0 2 2";
+
+const CHANGE: &[u8] = b"C MARK demo net #a 1";
+
+// Lines in turn, each with what arrives.
+const ARRIVALS: [(&[u8], u8); 10] = [
+    (CHANGE, b'!'),
+    (HEAD, b'-'),
+    (CHANGE, b'-'),
+    (b"A n2 1 n1 1 1", b'!'),
+    (HEAD, b'-'),
+    (CHANGE, b'-'),
+    (CHANGE, b'P'),
+    (b"W green", b'W'),
+    (b"H 1 n1 1", b'H'),
+    (b"A n2 1 n1 1 1", b'A'),
+];
+
 #[test]
 fn packets_are_gathered(rt: HostRuntime) {
-    let alloc = rt.alloc();
     let mut gather = Gather::new();
-    let head = b"D n1 1 n2 1 0 2 2";
-    let change = b"C MARK demo net #a 1";
-    assert_eq!(rt; arrival(alloc, &mut gather, change), b'!');
-    assert_eq!(rt; arrival(alloc, &mut gather, head), b'-');
-    assert_eq!(rt; arrival(alloc, &mut gather, change), b'-');
-    assert_eq!(rt; arrival(alloc, &mut gather, b"A n2 1 n1 1 1"), b'!');
-    assert_eq!(rt; arrival(alloc, &mut gather, head), b'-');
-    assert_eq!(rt; arrival(alloc, &mut gather, change), b'-');
-    assert_eq!(rt; arrival(alloc, &mut gather, change), b'P');
-    assert_eq!(rt; arrival(alloc, &mut gather, b"W green"), b'W');
-    assert_eq!(rt; arrival(alloc, &mut gather, b"H 1 n1 1"), b'H');
-    assert_eq!(rt; arrival(alloc, &mut gather, b"A n2 1 n1 1 1"), b'A');
+    for (line, arrives) in ARRIVALS {
+        assert_eq!(rt; arrival(rt.alloc(), &mut gather, line), arrives, "{line:?}");
+    }
 }
 
 #[test]
