@@ -71,18 +71,22 @@ fn lives_are_compared(rt: HostRuntime) -> Result<(), Fail> {
     Ok(())
 }
 
-#[test]
-fn nothing_is_made_before_a_hello(rt: HostRuntime) -> Result<(), Fail> {
-    let mut state = marked(rt.alloc())?;
-    let mut link = link(rt.alloc(), b"n1", b"n2")?;
-    assert!(rt; link.make(rt.alloc(), &mut state)?.is_none());
-    Ok(())
+// A packet of one marker for n2, if one is made.
+fn packet_of(alloc: Global, link: &mut Link) -> Result<Option<Packet>, Fail> {
+    let mut source = marked(alloc)?;
+    Ok(link.make(alloc, &mut source)?)
 }
 
-// A packet of one marker for n2.
-fn packet_of(alloc: Global, link: &mut Link) -> Result<Packet, Fail> {
-    let mut source = marked(alloc)?;
-    Ok(link.make(alloc, &mut source)?.ok_or("no packet")?)
+fn makes_nothing(alloc: Global, link: &mut Link) -> Result<bool, Fail> {
+    let packet = packet_of(alloc, link)?;
+    Ok(packet.is_none())
+}
+
+#[test]
+fn nothing_is_made_before_a_hello(rt: HostRuntime) -> Result<(), Fail> {
+    let mut link = link(rt.alloc(), b"n1", b"n2")?;
+    assert!(rt; makes_nothing(rt.alloc(), &mut link)?);
+    Ok(())
 }
 
 // The acknowledgement of n2, and the front of the state that took the packet.
@@ -93,12 +97,17 @@ fn taken(alloc: Global, packet: &Packet) -> Result<(Ack, u64), Fail> {
     Ok((ack, taker.front()))
 }
 
+// The acknowledgement of a packet that a link makes, and the front of the state that took it.
+fn exchanged(alloc: Global, link: &mut Link) -> Result<(Ack, u64), Fail> {
+    let packet = packet_of(alloc, link)?.ok_or("no packet")?;
+    taken(alloc, &packet)
+}
+
 #[test]
 fn a_packet_is_taken_and_acknowledged(rt: HostRuntime) -> Result<(), Fail> {
     let mut link = link(rt.alloc(), b"n1", b"n2")?;
     assert_eq!(rt; heard(rt.alloc(), &mut link, 1)?, Ok(true));
-    let packet = packet_of(rt.alloc(), &mut link)?;
-    let (ack, front) = taken(rt.alloc(), &packet)?;
+    let (ack, front) = exchanged(rt.alloc(), &mut link)?;
     assert_eq!(rt; front, 1);
     assert_eq!(rt; link.take_ack(&ack), Ok(()));
     assert_eq!(rt; link.acked(), 1);
