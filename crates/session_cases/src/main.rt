@@ -11,8 +11,6 @@
 #![tactic(auto)]
 
 mod play;
-#[cfg(test)]
-mod steps;
 
 use anyhow::Error;
 use client_session::Session;
