@@ -4,6 +4,8 @@ use Rattle.std.specs.Prelude.{IsErrAnd}
 use Rattle.std.specs.Io.KnownBytes.{Appends}
 use Rattle.std.proofs.KnownBytes.{Appends-trans, Appends-nil}
 use Rattle.output.specs.Writes.{AppendsPrefix, WritesKnown}
+-- a text for each item of a list
+pub use Rattle.output.proofs.TextsLemmas.{texts_at, texts_through, own_texts_at, own_texts_through}
 
 -- a prefix of the first text is one of both
 pub prefix_of_first : (a b : Option (List ℕ)) (xs ys : List ℕ) → AppendsPrefix a b xs → AppendsPrefix a b (xs ++ ys)
