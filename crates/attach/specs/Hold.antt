@@ -25,7 +25,8 @@ abbrev pub PlaceSeat : Type 0
 PlaceSeat = Seat (Unit {0}) (Option ℕ)
 
 -- the seat is at this table of so many words, and it holds this place and no slot
-pub record IsSeated (table : TableId) (count : ℕ) (seat : PlaceSeat) (place : Option ℕ) : Type 0 where
+pub record IsSeated (table : TableId) (count : ℕ) (seat : PlaceSeat)
+    (place : Option ℕ) : Type 0 where
   pub at : seat.table_id ≡ table
   pub wide : table.words ≡ count
   pub me : seat.me ≡ seat_with place

@@ -5,7 +5,8 @@ use Rattle.attach.specs.Steps.{PlaceState, Reached, Holds, word_at, free_word, t
 -- two stands, which are two seats that hold a place each, have different places
 abbrev pub TwoStandsHaveDifferentPlaces : Type 0
 TwoStandsHaveDifferentPlaces = (count : ℕ) (s : PlaceState) (one other place elsewhere : ℕ)
-    → Reached count s → one ≢ other → Holds s.views one place → Holds s.views other elsewhere → place ≢ elsewhere
+    → Reached count s → one ≢ other → Holds s.views one place → Holds s.views other elsewhere
+    → place ≢ elsewhere
 
 -- the word of a place that a seat holds is the taken one
 abbrev pub AHeldPlaceIsTaken : Type 0

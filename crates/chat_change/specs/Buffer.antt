@@ -10,7 +10,11 @@ pub record Buffer : Type 0 where
 
 -- the buffer of these names: its target is folded
 abbrev pub buffer_of : List ℕ → List ℕ → List ℕ → Buffer
-buffer_of account network target = record { account = account; network = network; target = lower_case_of target }
+buffer_of account network target = record {
+  account = account;
+  network = network;
+  target = lower_case_of target;
+}
 
 -- the three names, in the order in which buffers are compared
 abbrev pub buffer_texts : Buffer → List (List ℕ)

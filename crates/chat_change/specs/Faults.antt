@@ -12,7 +12,8 @@ unless_lawful lawful fault more = if lawful then more else Some fault
 
 abbrev pub buffer_fault : List ℕ → List ℕ → List ℕ → Option ChangeFault
 buffer_fault account network target =
-    unless_lawful (is_name account && is_name network) BadName (unless_lawful (is_target target) BadTarget None)
+    unless_lawful (is_name account && is_name network) BadName
+    (unless_lawful (is_target target) BadTarget None)
 
 abbrev pub id_fault : List ℕ → Option ChangeFault
 id_fault text = unless_lawful (is_id text) BadId None

@@ -30,7 +30,8 @@ ends_target b = ends_word b || (b == 44)
 
 -- `a` to `z`, `0` to `9`, `-` and `_`
 abbrev pub is_name_byte : ℕ → Bool
-is_name_byte b = (nat_le 97 b && nat_le b 122) || (nat_le 48 b && nat_le b 57) || (b == 45) || (b == 95)
+is_name_byte b =
+    (nat_le 97 b && nat_le b 122) || (nat_le 48 b && nat_le b 57) || (b == 45) || (b == 95)
 
 -- the name of an account or of a network
 abbrev pub is_name : List ℕ → Bool
@@ -43,11 +44,13 @@ is_star text = (length text == 1) && begins_with 42 text
 -- a channel or a nick
 abbrev pub is_target : List ℕ → Bool
 is_target text =
-    has_length_to TARGET_LIMIT text && not (list_any ends_target text) && not (begins_with_colon text) && not (is_star text)
+    has_length_to TARGET_LIMIT text && not (list_any ends_target text)
+    && not (begins_with_colon text) && not (is_star text)
 
 -- a message id
 abbrev pub is_id : List ℕ → Bool
-is_id text = has_length_to ID_LIMIT text && not (list_any ends_word text) && not (begins_with_colon text)
+is_id text =
+    has_length_to ID_LIMIT text && not (list_any ends_word text) && not (begins_with_colon text)
 
 -- who sent a message: the rule of an id
 abbrev pub is_source : List ℕ → Bool

@@ -21,18 +21,27 @@ CanBeSource source = (0 < length source) × HasNoSpace source × HasNoBadByte so
 
 -- one of the parameters that are written without a colon
 abbrev pub CanBeMiddle : List ℕ → Type 0
-CanBeMiddle middle = (0 < length middle) × (begins_with colon middle ≡ false) × HasNoSpace middle × HasNoBadByte middle
+CanBeMiddle middle =
+    (0 < length middle) × (begins_with colon middle ≡ false) × HasNoSpace middle
+    × HasNoBadByte middle
 
 abbrev pub parameters_of : Parts → List (List ℕ)
 parameters_of parts = parts.middles ++ option_to_list parts.trailing
 
 -- what a line of these parts says
 abbrev pub meaning_of : Parts → Reading
-meaning_of parts = record { tags = parts.tags; source = parts.source; command = parts.command; parameters = parameters_of parts }
+meaning_of parts = record {
+  tags = parts.tags;
+  source = parts.source;
+  command = parts.command;
+  parameters = parameters_of parts;
+}
 
 -- what stands behind the tags
 abbrev pub text_behind_tags : Parts → List ℕ
-text_behind_tags parts = source_text parts.source ++ (parts.command ++ (middles_text parts.middles ++ trailing_text parts.trailing))
+text_behind_tags parts =
+    source_text parts.source
+    ++ (parts.command ++ (middles_text parts.middles ++ trailing_text parts.trailing))
 
 -- Each part may stand in its place, and the line is within the limits: at most 15 parameters, and 510 bytes behind
 -- the tags.
@@ -47,7 +56,8 @@ pub record CanStand (limit : TagLimit) (parts : Parts) : Type 0 where
 
 -- the line of these parts is cut out of any stream that it begins
 abbrev pub IsCutOut : Parts → Type 0
-IsCutOut parts = (rest : List ℕ) → items (line_text parts ++ rest) ≡ line (text_of parts) ∷ items rest
+IsCutOut parts =
+    (rest : List ℕ) → items (line_text parts ++ rest) ≡ line (text_of parts) ∷ items rest
 
 -- the line of these parts has their meaning
 abbrev pub HasMeaning : TagLimit → Parts → Type 0

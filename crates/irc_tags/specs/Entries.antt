@@ -19,5 +19,6 @@ with_tags tags [] = tags
 with_tags tags (tag ∷ more) = with_tags (with_tag tags tag) more
 
 -- the map takes the tag that these bytes spell
-abbrev pub PutsTag : List (Vec ℕ Global × Vec ℕ Global) → List (Vec ℕ Global × Vec ℕ Global) → List ℕ → Type 0
+abbrev pub PutsTag : List (Vec ℕ Global × Vec ℕ Global) → List (Vec ℕ Global × Vec ℕ Global)
+    → List ℕ → Type 0
 PutsTag old new bytes = value_of new ≡ with_tag (value_of old) (tag_of bytes)

@@ -43,11 +43,13 @@ distinct_keys (key ∷ keys) = key ∷ filter (λ other. not (same_bytes key oth
 -- the last value of a key in the tags, or that value where they lack it
 abbrev pub last_value : List ℕ → List ℕ → List Tag → List ℕ
 last_value key value [] = value
-last_value key value (tag ∷ tags) = last_value key (if same_bytes key tag.0 then tag.1 else value) tags
+last_value key value (tag ∷ tags) =
+    last_value key (if same_bytes key tag.0 then tag.1 else value) tags
 
 -- of equal keys the last value counts, and the key keeps its first place
 unfoldable pub tags_by_key : List Tag → List Tag
-tags_by_key tags = map (λ key. (key, last_value key [] tags)) (distinct_keys (map (λ tag. tag.0) tags))
+tags_by_key tags =
+    map (λ key. (key, last_value key [] tags)) (distinct_keys (map (λ tag. tag.0) tags))
 
 -- what tag data says
 unfoldable pub tag_list : List ℕ → List Tag

@@ -35,21 +35,30 @@ letter_n = 110
 
 -- what a byte behind a backslash stands for: a few letters for others, and each other byte for itself
 abbrev pub escaped_byte : ℕ → ℕ
-escaped_byte b = if b == colon then semicolon else if b == letter_s then space else if b == letter_r then carriage_return
-    else if b == letter_n then line_feed else b
+escaped_byte b =
+    if b == colon then semicolon
+    else if b == letter_s then space
+    else if b == letter_r then carriage_return
+    else if b == letter_n then line_feed
+    else b
 
 -- The value that the bytes spell: a backslash and the byte behind it stand for one byte, a backslash at the end for
 -- none, and any other byte for itself.
 unfoldable pub value_in : List ℕ → List ℕ
 value_in [] = []
 value_in (b ∷ []) = if b == backslash then [] else b ∷ []
-value_in (b ∷ next ∷ bytes) = if b == backslash then escaped_byte next ∷ value_in bytes else b ∷ value_in (next ∷ bytes)
+value_in (b ∷ next ∷ bytes) =
+    if b == backslash then escaped_byte next ∷ value_in bytes else b ∷ value_in (next ∷ bytes)
 
 -- how a byte of a value is written
 abbrev pub byte_text : ℕ → List ℕ
-byte_text b = if b == semicolon then backslash ∷ colon ∷ [] else if b == space then backslash ∷ letter_s ∷ []
-    else if b == backslash then backslash ∷ backslash ∷ [] else if b == carriage_return then backslash ∷ letter_r ∷ []
-    else if b == line_feed then backslash ∷ letter_n ∷ [] else b ∷ []
+byte_text b =
+    if b == semicolon then backslash ∷ colon ∷ []
+    else if b == space then backslash ∷ letter_s ∷ []
+    else if b == backslash then backslash ∷ backslash ∷ []
+    else if b == carriage_return then backslash ∷ letter_r ∷ []
+    else if b == line_feed then backslash ∷ letter_n ∷ []
+    else b ∷ []
 
 -- how a value is written
 abbrev pub value_text : List ℕ → List ℕ

@@ -25,14 +25,18 @@ abbrev pub is_from : ℕ → ℕ → ℕ → Bool
 is_from low high n = nat_le low n && nat_le n high
 
 abbrev pub is_date : Fields → Bool
-is_date f = is_from 1970 9999 f.year && (is_from 1 12 f.month && is_from 1 (days_in_month (pos f.year) f.month) f.day)
+is_date f =
+    is_from 1970 9999 f.year
+    && (is_from 1 12 f.month && is_from 1 (days_in_month (pos f.year) f.month) f.day)
 
 abbrev pub is_time_of_day : Fields → Bool
-is_time_of_day f = nat_le f.hour 23 && (nat_le f.minute 59 && (nat_le f.second 60 && nat_le f.millisecond 999))
+is_time_of_day f =
+    nat_le f.hour 23 && (nat_le f.minute 59 && (nat_le f.second 60 && nat_le f.millisecond 999))
 
 -- of a date that isn't before 1970
 abbrev pub moment_of : Fields → ℕ
-moment_of f = unsigned_abs (days_from_civil (pos f.year) f.month f.day) * 86400000 + since_midnight f
+moment_of f =
+    unsigned_abs (days_from_civil (pos f.year) f.month f.day) * 86400000 + since_midnight f
 
 -- whether the bytes are the text of fields that there are
 abbrev pub is_text : List ℕ → Fields → Bool

@@ -18,12 +18,16 @@ pub record Day : Type 0 where
 -- the date, if its day number is n
 abbrev pub if_day : ℕ → ℕ → ℕ → ℕ → Option Day
 if_day n year month day =
-    if eq_by_cmp int_cmp (days_from_civil (pos year) month day) (pos n) then Some (record { year = year; month = month; day = day }) else None
+    if eq_by_cmp int_cmp (days_from_civil (pos year) month day) (pos n)
+    then Some (record { year = year; month = month; day = day })
+    else None
 
 -- the date from 1970 to 9999 whose day number is n
 unfoldable pub date_of : ℕ → Option Day
 date_of n =
-    first_some (λ y. first_some (λ m. first_some (λ d. if_day n (1970 + y) (m + 1) (d + 1)) (days_in_month (pos (1970 + y)) (m + 1))) 12) 8030
+    first_some (λ y. first_some (λ m. first_some (λ d.
+    if_day n (1970 + y) (m + 1) (d + 1))
+    (days_in_month (pos (1970 + y)) (m + 1))) 12) 8030
 
 -- the fields of a moment on that date
 abbrev pub fields_on : ℕ → Day → Fields
@@ -41,4 +45,5 @@ fields_on t date =
 
 -- the text of a moment
 unfoldable pub time_text : ℕ → List ℕ
-time_text t = unwrap_or (option_map (λ (date : Day). text (fields_on t date)) (date_of (t / 86400000))) []
+time_text t =
+    unwrap_or (option_map (λ (date : Day). text (fields_on t date)) (date_of (t / 86400000))) []
