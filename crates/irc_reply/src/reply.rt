@@ -17,7 +17,7 @@ pub enum Context<'a> {
     Two(&'a [u8], &'a [u8]),
 }
 
-ghost use Rattle.irc_reply.specs.Reply.{reply, unknown_text, too_long_text, fail_text, context_words, mark_text};
+ghost use Rattle.irc_reply.specs.Reply.{reply, unknown_text, too_long_text, fail_text, value_of, mark_text};
 
 /// Writes a line of the cluster.
 pub fn write_reply<'a, W: Write>(
@@ -86,7 +86,7 @@ pub fn write_fail<W: Write>(
     writer: &mut W,
 ) -> io::Result<()>
     ensures { Writes W.contents writer.old writer.new result
-        (fail_text cluster.now command.now code.now (context_words context.entry) text.now) }
+        (fail_text cluster.now command.now code.now (value_of context.entry) text.now) }
 {
     match context {
         Context::Nothing => write_reply(cluster, b"FAIL", &[command, code], Some(text), writer),
