@@ -7,7 +7,9 @@ use Rattle.irc_caps.specs.declared.capability.Capability.TheVariants.{Batch, Cha
 
 -- all of them, in the byte order of their names
 abbrev pub capabilities : List Capability
-capabilities = Batch ∷ Chathistory ∷ MessageRedaction ∷ ReadMarker ∷ EchoMessage ∷ MessageTags ∷ ServerTime ∷ []
+capabilities =
+    Batch ∷ Chathistory ∷ MessageRedaction ∷ ReadMarker
+    ∷ EchoMessage ∷ MessageTags ∷ ServerTime ∷ []
 
 abbrev pub name_of : Capability → List ℕ
 name_of Batch = codes "batch"

@@ -2,7 +2,6 @@
 pub mod Capability
 pub mod CapSet
 pub mod Words
-pub mod Replies
 pub mod Negotiation
 pub mod Runs
 -- what only the proofs use of the code

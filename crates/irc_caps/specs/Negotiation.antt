@@ -7,8 +7,8 @@ use Rattle.irc_caps.specs.declared.registration.Registration.{Registration}
 use Rattle.irc_caps.specs.declared.registration.Registration.TheVariants.{Free, Held, Done}
 use Rattle.irc_caps.specs.CapSet.{no_capabilities, all_capabilities, names}
 use Rattle.irc_caps.specs.Words.{joined, words_of, list_limit, is_acknowledged, with_words}
-use Rattle.irc_reply.specs.Reply.{reply}
-use Rattle.irc_caps.specs.Replies.{need_more_params, echoed}
+use Rattle.irc_reply.specs.Reply.{reply, need_more_params}
+use Rattle.irc_reply.specs.Echo.{echoed}
 
 -- the capabilities that a session holds, and how far its registration is
 pub record Negotiation : Type 0 where
@@ -44,7 +44,8 @@ pub record Answer : Type 0 where
   pub line : Option (List ℕ)
 
 abbrev pub cap_line : List ℕ → List ℕ → List ℕ → List ℕ → List ℕ
-cap_line cluster nick subcommand list = reply cluster (codes "CAP") (nick ∷ subcommand ∷ []) (Some list)
+cap_line cluster nick subcommand list =
+    reply cluster (codes "CAP") (nick ∷ subcommand ∷ []) (Some list)
 
 -- `CAP LS`
 abbrev pub ls : List ℕ → List ℕ → Negotiation → Answer
@@ -75,7 +76,8 @@ nak cluster nick n list = record {
 }
 
 abbrev pub req_words : List ℕ → List ℕ → Negotiation → List (List ℕ) → Answer
-req_words cluster nick n words = if is_acknowledged words then ack cluster nick n words else nak cluster nick n (joined words)
+req_words cluster nick n words =
+    if is_acknowledged words then ack cluster nick n words else nak cluster nick n (joined words)
 
 -- the list of a REQ is its next parameter, or empty
 abbrev pub list_in : List (List ℕ) → List ℕ
@@ -94,7 +96,8 @@ ended n = record { negotiation = record n { registration = released n.registrati
 abbrev pub invalid : List ℕ → List ℕ → Negotiation → List ℕ → Answer
 invalid cluster nick n subcommand = record {
   negotiation = n;
-  line = Some (reply cluster (codes "410") (nick ∷ echoed subcommand ∷ []) (Some (codes "Invalid CAP command")));
+  line = Some (reply cluster (codes "410") (nick ∷ echoed subcommand ∷ [])
+      (Some (codes "Invalid CAP command")));
 }
 
 -- subcommands are compared without regard to case
@@ -111,8 +114,12 @@ subcommand_answer cluster nick n subcommand parameters =
 
 -- the answer to the parameters of a CAP
 abbrev pub cap_answer : List ℕ → List ℕ → Negotiation → List (List ℕ) → Answer
-cap_answer cluster nick n [] = record { negotiation = n; line = Some (need_more_params cluster nick (codes "CAP")) }
-cap_answer cluster nick n (subcommand ∷ parameters) = subcommand_answer cluster nick n subcommand parameters
+cap_answer cluster nick n [] = record {
+  negotiation = n;
+  line = Some (need_more_params cluster nick (codes "CAP"));
+}
+cap_answer cluster nick n (subcommand ∷ parameters) =
+    subcommand_answer cluster nick n subcommand parameters
 
 -- any other command is no matter of the negotiation's
 abbrev pub answer : List ℕ → List ℕ → Negotiation → Reading → Answer

@@ -25,14 +25,16 @@ run n (i ∷ inputs) = run (after n i) inputs
 -- the words of the list that the parameters of a CAP ask for
 abbrev pub asked : List (List ℕ) → List (List ℕ)
 asked [] = []
-asked (subcommand ∷ parameters) = if is_same_word subcommand (codes "REQ") then words_of (list_in parameters) else []
+asked (subcommand ∷ parameters) =
+    if is_same_word subcommand (codes "REQ") then words_of (list_in parameters) else []
 
 abbrev pub if_acknowledged : List (List ℕ) → List (List ℕ)
 if_acknowledged words = if is_acknowledged words then words else []
 
 -- the words of a line, if it is a REQ that is acknowledged
 abbrev pub acknowledged_in : Reading → List (List ℕ)
-acknowledged_in line = if is_same_word line.command (codes "CAP") then if_acknowledged (asked line.parameters) else []
+acknowledged_in line =
+    if is_same_word line.command (codes "CAP") then if_acknowledged (asked line.parameters) else []
 
 -- the words of all REQ that are acknowledged, in their order
 abbrev pub acknowledged : List Input → List (List ℕ)
@@ -50,4 +52,5 @@ NoneNames c words = AllByRecursion (λ word. ¬ Names c word) words
 
 -- a word names the capability, and the last that does has no `-`
 abbrev pub IsAskedLast : Capability → List (List ℕ) → Type 0
-IsAskedLast c words = (before later : List (List ℕ)) × (words ≡ before ++ name_of c ∷ later) × NoneNames c later
+IsAskedLast c words =
+    (before later : List (List ℕ)) × (words ≡ before ++ name_of c ∷ later) × NoneNames c later

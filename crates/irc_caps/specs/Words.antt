@@ -31,7 +31,8 @@ list_limit = 200
 
 -- each word is the name of a capability or `-` and such a name, and the list isn't too long to be told again
 abbrev pub is_acknowledged : List (List ℕ) → Bool
-is_acknowledged words = nat_le (length (joined words)) list_limit && list_all (λ word. is_some (wish_of word)) words
+is_acknowledged words =
+    nat_le (length (joined words)) list_limit && list_all (λ word. is_some (wish_of word)) words
 
 abbrev pub with_wish : CapSet → Option Wish → CapSet
 with_wish caps None = caps

@@ -10,14 +10,12 @@ mod capability;
 pub mod laws;
 mod negotiation;
 mod registration;
-mod replies;
 mod words;
 
 pub use capability::Capability;
 pub use memory::{NoMemory, Text};
 pub use negotiation::{CapReply, Negotiation};
 pub use registration::Registration;
-pub use replies::{echoed, need_more_params, reply};
 
 #[cfg(test)]
 mod tests;

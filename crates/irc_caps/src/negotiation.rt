@@ -4,10 +4,10 @@ ghost use Rattle.irc_caps.specs.Negotiation as spec;
 ghost use Rattle.irc_caps.specs.Words.{list_limit, is_acknowledged};
 
 use crate::registration::Registration;
-use crate::replies::{echoed, need_more_params, reply};
 use crate::words::{are_wishes, joined, list_of, with_words, words_of};
 use crate::{CapSet, NoMemory, Text};
 use irc_line::Line;
+use irc_reply::{echoed, need_more_params, reply_text};
 use std::alloc::Global;
 use std::marker::Model;
 
@@ -50,7 +50,7 @@ fn cap_line(
     ensures { IfOk result (λ text. text
         ≡ spec.cap_line cluster.now nick.now subcommand.now list.now) }
 {
-    reply(alloc, cluster, b"CAP", &[nick, subcommand], Some(list))
+    reply_text(alloc, cluster, b"CAP", &[nick, subcommand], Some(list))
 }
 
 /// The part of a list that is told again.
@@ -192,7 +192,7 @@ impl Negotiation {
         ensures { IfOk result (λ text. record { negotiation = self.now; line = Some text }
             ≡ spec.invalid cluster.now nick.now self.now subcommand.now) }
     {
-        reply(
+        reply_text(
             alloc,
             cluster,
             b"410",
