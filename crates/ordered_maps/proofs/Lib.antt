@@ -1,0 +1,2 @@
+mod MapViewLemmas
+pub mod CallerLemmas
