@@ -1,0 +1,22 @@
+use Rattle.std.proofs.Common.{◌∙◌, ap}
+use Rattle.std.specs.FinMap as map
+use Rattle.chat_change.proofs.CallerLemmas.{text_total, text_exact}
+use Rattle.ordered_maps.proofs.CallerLemmas.{inserted}
+use Rattle.buffer_messages.specs.declared.standing.Standing.TheVariants as standing
+use Rattle.buffer_messages.specs.Messages.{Messages, kept_moment}
+use Rattle.buffer_messages.proofs.StepLemmas.{found, kept_held, gone_agree}
+use Rattle.buffer_messages.proofs.messages.Messages.let_go.Goals as goal
+
+pub overwrite-requires : goal.overwrite-requires
+overwrite-requires c = record { held = kept_held c.self.inside.by_id c.args.self.now c.args.id c.self.view_is c.args.stood c.requires.kept }
+
+pub invariant_of-self : goal.invariant_of-self
+invariant_of-self c =
+    let ids = c.self.inside.by_id in
+    let kept = ap kept_moment (found ids c.args.self.now c.args.id c.self.view_is) ∙ c.requires.kept in
+    gone_agree c.self.inside.by_spot ids c.overwrite.new.map c.self.invariant c.args.id c.args.at c.args.number c.overwrite.ensures c.take_out.new.map c.args.stood kept c.take_out.ensures
+
+pub returns : goal.returns
+returns c =
+    inserted text_total text_exact c.self.inside.by_id c.overwrite.new.map c.args.id (standing.Gone c.args.at c.args.number) c.overwrite.ensures
+    ∙ ap (λ (s : Messages). map.insert s c.args.id (standing.Gone c.args.at c.args.number)) c.self.view_is

@@ -1,0 +1,8 @@
+-- ---- what a reader has to believe: what is held of the messages of a buffer, and which record
+-- lies nearest to a cut
+
+pub mod Messages
+pub mod Nearest
+-- ---- what only the proofs use of the code: how the two maps agree
+
+pub mod Agreement

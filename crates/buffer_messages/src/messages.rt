@@ -1,0 +1,249 @@
+//! The messages of one buffer, in two maps that agree.
+
+ghost use Rattle.std.specs.Prelude.{◌≡◌, ◌<◌, None, IsTrue, false, IfOk, IfSome};
+ghost use Rattle.std.specs.FinMap as map;
+ghost use Rattle.std.specs.BTreeMap as tree;
+ghost use Rattle.std.specs.Map.Iter.{deref};
+ghost use Rattle.chat_change.specs.Order.{text_cmp};
+ghost use Rattle.std.specs.Option.{option_map};
+ghost use Rattle.chat_history.specs.Cut.{of_record};
+ghost use Rattle.buffer_messages.specs.Messages as spec;
+ghost use Rattle.buffer_messages.specs.declared.standing.Standing.TheVariants as standing;
+
+use crate::standing::Standing;
+use chat_change::{Moment, MsgId, Record};
+use chat_history::Spot;
+use ordered_maps::{discard, overwrite, put, put_or_return, take_out};
+use std::alloc::{AllocError, Global};
+use std::collections::BTreeMap;
+use std::marker::Model;
+
+/// What is held of the messages of one buffer. It is seen as the map from each id to what is held of its message.
+#[derive(Drop)]
+pub struct Messages {
+    pub(crate) by_id: BTreeMap<MsgId, Standing>,
+    // the kept records, by where they stand
+    pub(crate) by_spot: BTreeMap<Spot, Record>,
+}
+
+impl Model for Messages {
+    ghost use Rattle.ordered_maps.specs.MapView.{held_by};
+    ghost use Rattle.buffer_messages.specs.Messages as spec;
+    ghost use Rattle.buffer_messages.specs.Agreement.{Agree};
+
+    ghost Value = { spec.Messages };
+
+    ghost coded = { spec.coded_messages };
+
+    ghost view = { λ p. held_by p.by_id };
+
+    ghost invariant = { λ p. Agree p.by_spot p.by_id };
+}
+
+// What a record is filed by, and the record. All share its memory.
+#[derive(Drop)]
+struct Copies {
+    spot: Spot,
+    id: MsgId,
+    post: Record,
+}
+
+fn copies_of(post: &Record) -> Result<Copies, AllocError>
+    ensures { IfOk result (λ copies. copies ≡ record {
+      spot = of_record post.now;
+      id = post.now.id;
+      post = post.now;
+    }) }
+{
+    let spot = Spot {
+        at: post.at(),
+        id: Some(post.id().try_clone()?),
+    };
+    let id = post.id().try_clone()?;
+    let post = post.try_clone()?;
+    Ok(Copies { spot, id, post })
+}
+
+impl Messages {
+    /// No messages.
+    pub fn new(alloc: Global) -> Messages
+        ensures { result ≡ map.empty }
+    {
+        Messages {
+            by_id: BTreeMap::new(alloc),
+            by_spot: BTreeMap::new(alloc),
+        }
+    }
+
+    /// What is held of a message, if anything.
+    pub fn standing(&self, id: &MsgId) -> Option<&Standing>
+        ensures { option_map deref result ≡ map.get self.now id.now }
+    {
+        self.by_id.get(id)
+    }
+
+    // The moment of the record that is kept of a message.
+    fn kept_moment(&self, id: &MsgId) -> Option<Moment>
+        ensures { result ≡ spec.kept_moment (map.get self.now id.now) }
+    {
+        match self.by_id.get(id)? {
+            Standing::Kept(post, _) => Some(post.at()),
+            Standing::Gone(_, _) => None,
+        }
+    }
+
+    /// Keeps a record under a number, in place of what was held of its message. Where there is no memory nothing has
+    /// changed.
+    pub fn post(&mut self, post: Record, number: u64) -> bool
+        ensures placed { IsTrue result →
+            self.new ≡ map.insert self.old post.id (standing.Kept post number) }
+        ensures refused { result ≡ false → self.new ≡ self.old }
+    {
+        match self.kept_moment(post.id()) {
+            Some(before) => self.replace(before, post, number),
+            None => self.insert(post, number),
+        }
+    }
+
+    // Keeps a record of a message of which none is kept.
+    fn insert(&mut self, post: Record, number: u64) -> bool
+        requires not_kept { spec.kept_moment (map.get self.old post.id) ≡ None }
+        ensures placed { IsTrue result →
+            self.new ≡ map.insert self.old post.id (standing.Kept post number) }
+        ensures refused { result ≡ false → self.new ≡ self.old }
+    {
+        let at = post.at();
+        let _bound = at.ms();
+        let Ok(
+            Copies {
+                spot,
+                id,
+                post: copy,
+            },
+        ) = copies_of(&post)
+        else {
+            discard(post);
+            return false;
+        };
+        if !put(&mut self.by_spot, spot, copy) {
+            discard(id);
+            discard(post);
+            return false;
+        }
+        if let Err(id) = put_or_return(&mut self.by_id, id, Standing::Kept(post, number)) {
+            let spot = Spot { at, id: Some(id) };
+            take_out(&mut self.by_spot, &spot);
+            discard(spot);
+            return false;
+        }
+        true
+    }
+
+    // Keeps another record of a message, whose present one stands at `before`.
+    fn replace(&mut self, before: Moment, post: Record, number: u64) -> bool
+        requires kept { spec.kept_moment (map.get self.old post.id) ≡ Some before }
+        ensures placed { IsTrue result →
+            self.new ≡ map.insert self.old post.id (standing.Kept post number) }
+        ensures refused { result ≡ false → self.new ≡ self.old }
+    {
+        let at = post.at();
+        let _bound = at.ms();
+        let Ok(
+            Copies {
+                spot,
+                id,
+                post: copy,
+            },
+        ) = copies_of(&post)
+        else {
+            discard(post);
+            return false;
+        };
+        if !put(&mut self.by_spot, spot, copy) {
+            discard(id);
+            discard(post);
+            return false;
+        }
+        overwrite(&mut self.by_id, &id, Standing::Kept(post, number));
+        if before.ms() != at.ms() {
+            let old = Spot {
+                at: before,
+                id: Some(id),
+            };
+            take_out(&mut self.by_spot, &old);
+            discard(old);
+        } else {
+            discard(id);
+        }
+        true
+    }
+
+    /// Notes that a message was redacted, and lets its record go. Where there is no memory nothing has changed.
+    pub fn redact(&mut self, id: MsgId, at: Option<Moment>, number: u64) -> bool
+        ensures placed { IsTrue result →
+            self.new ≡ map.insert self.old id (standing.Gone at number) }
+        ensures refused { result ≡ false → self.new ≡ self.old }
+    {
+        match self.kept_moment(&id) {
+            Some(stood) => {
+                self.let_go(stood, id, at, number);
+                true
+            }
+            None => self.note(id, at, number),
+        }
+    }
+
+    // Notes that a message was redacted of which no record is kept.
+    fn note(&mut self, id: MsgId, at: Option<Moment>, number: u64) -> bool
+        requires not_kept { spec.kept_moment (map.get self.old id) ≡ None }
+        ensures placed { IsTrue result →
+            self.new ≡ map.insert self.old id (standing.Gone at number) }
+        ensures refused { result ≡ false → self.new ≡ self.old }
+    {
+        put(&mut self.by_id, id, Standing::Gone(at, number))
+    }
+
+    // Notes that a message was redacted whose record stands at `stood`, and lets that record go.
+    fn let_go(&mut self, stood: Moment, id: MsgId, at: Option<Moment>, number: u64)
+        requires kept { spec.kept_moment (map.get self.old id) ≡ Some stood }
+        ensures { self.new ≡ map.insert self.old id (standing.Gone at number) }
+    {
+        overwrite(&mut self.by_id, &id, Standing::Gone(at, number));
+        let spot = Spot {
+            at: stood,
+            id: Some(id),
+        };
+        take_out(&mut self.by_spot, &spot);
+        discard(spot);
+    }
+
+    /// Takes the oldest record out where it stands before a floor, and answers the number of its piece. None where no
+    /// record stands before the floor. It takes no memory.
+    pub fn remove_first_below(&mut self, floor: Moment) -> Option<u64>
+        ensures one { IfSome result (λ n. spec.TakesOne self.old floor n self.new) }
+        ensures done { result ≡ None → spec.IsFrom floor self.new }
+        ensures kept { result ≡ None → self.new ≡ self.old }
+    {
+        let at = match self.by_spot.first_key_value() {
+            Some((spot, _)) => spot.at,
+            None => return None,
+        };
+        if at.ms() >= floor.ms() {
+            return None;
+        }
+        let (spot, post) = self.by_spot.pop_first()?;
+        discard(spot);
+        let number = number_in(&self.by_id, post.id());
+        take_out(&mut self.by_id, post.id());
+        discard(post);
+        number
+    }
+}
+
+// The number of the piece of a message.
+fn number_in(by_id: &BTreeMap<MsgId, Standing>, id: &MsgId) -> Option<u64>
+    ensures { result ≡ option_map spec.number_of (tree.get text_cmp by_id.now id.now) }
+{
+    let standing = by_id.get(id)?;
+    Some(standing.number())
+}

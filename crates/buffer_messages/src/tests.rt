@@ -1,0 +1,86 @@
+use super::*;
+use chat_change::{Buffer, ChangeFault, Kind, Message, Moment, MsgId, Record};
+use chat_history::Cut;
+use std::alloc::Global;
+use std::test::Fail;
+
+fn record(alloc: Global, id: &[u8], ms: u64) -> Result<Record, ChangeFault> {
+    let buffer = Buffer::new(alloc, b"demo", b"net", b"#a")?;
+    let id = MsgId::new(alloc, id)?;
+    let at = Moment::from_ms(ms).ok_or(ChangeFault::NoMemory)?;
+    let message = Message {
+        kind: Kind::Privmsg,
+        source: b"bob",
+        target: b"#a",
+        body: b"hi",
+    };
+    Record::new(alloc, buffer, id, at, message)
+}
+
+// What is done: a record is kept, a message is redacted, or the oldest record before a moment goes.
+#[derive(Clone, Copy)]
+enum Step {
+    Keep(&'static [u8], u64),
+    Redact(&'static [u8]),
+    TakeBelow(u64),
+}
+
+fn is_done(alloc: Global, messages: &mut Messages, step: Step, number: u64) -> Result<bool, Fail> {
+    match step {
+        Step::Keep(id, ms) => {
+            let post = record(alloc, id, ms)?;
+            Ok(messages.post(post, number))
+        }
+        Step::Redact(id) => {
+            let id = MsgId::new(alloc, id)?;
+            Ok(messages.redact(id, None, number))
+        }
+        Step::TakeBelow(ms) => {
+            let floor = Moment::from_ms(ms).ok_or("no moment")?;
+            Ok(messages.remove_first_below(floor).is_some())
+        }
+    }
+}
+
+// Whether the record has that id, or whether there is none where the id is empty.
+fn has_id(post: Option<&Record>, id: &[u8]) -> bool {
+    match post {
+        Some(post) => post.id().as_bytes() == id,
+        None => id.is_empty(),
+    }
+}
+
+// Each step, whether it is done, and the ids of the first and of the last record after it.
+static STEPS: [(Step, bool, &[u8], &[u8]); 10] = [
+    (Step::TakeBelow(9000), false, b"", b""),
+    (Step::Keep(b"m2", 2000), true, b"m2", b"m2"),
+    (Step::Keep(b"m1", 2000), true, b"m1", b"m2"),
+    (Step::Keep(b"m3", 1000), true, b"m3", b"m2"),
+    (Step::Keep(b"m3", 3000), true, b"m1", b"m3"),
+    (Step::Redact(b"m1"), true, b"m2", b"m3"),
+    (Step::Redact(b"m9"), true, b"m2", b"m3"),
+    (Step::TakeBelow(2000), false, b"m2", b"m3"),
+    (Step::TakeBelow(2001), true, b"m3", b"m3"),
+    (Step::Redact(b"m3"), true, b"", b""),
+];
+
+#[test]
+fn records_come_and_go(rt: HostRuntime) -> Result<(), Fail> {
+    let mut messages = Messages::new(rt.alloc());
+    for (number, (step, done, first, last)) in STEPS.iter().enumerate() {
+        assert_eq!(rt;
+            is_done(rt.alloc(), &mut messages, *step, number as u64)?,
+            *done,
+            "step {number}"
+        );
+        assert!(rt;
+            has_id(messages.first_after(&Cut::Bottom), first),
+            "step {number}"
+        );
+        assert!(rt;
+            has_id(messages.last_before(&Cut::Top), last),
+            "step {number}"
+        );
+    }
+    Ok(())
+}
