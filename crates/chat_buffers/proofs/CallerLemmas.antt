@@ -1,0 +1,4 @@
+-- What the crates above may name of these proofs.
+pub use Rattle.chat_buffers.proofs.StoreLemmas.{get-history, get-numbers_in, placed-plain, history_keyed}
+-- what is known of keys after a step
+pub use Rattle.chat_buffers.proofs.SettleLemmas.{not_same, entered_keyed, removed_keyed}

@@ -1,0 +1,5 @@
+mod StoreLemmas
+mod HeldLemmas
+mod SettleLemmas
+mod LookupLemmas
+pub mod CallerLemmas
