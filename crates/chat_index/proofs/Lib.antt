@@ -1,0 +1,3 @@
+mod IndexLemmas
+mod SweepLemmas
+mod WalkLemmas

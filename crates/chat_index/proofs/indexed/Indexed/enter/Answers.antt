@@ -1,0 +1,49 @@
+use Rattle.std.proofs.Common.{◌≡◌, ◌∙◌, refl, sym, ap, subst, Some, None, cond}
+use Rattle.std.specs.Ordering.{eq_by_cmp, nat_cmp}
+use Rattle.std.specs.BTreeMap as tree
+use Rattle.chat_change.specs.Key.{key_of}
+use Rattle.chat_buffers.specs.Store.{number_at, IsFresh, IsKeyedStore}
+use Rattle.chat_buffers.proofs.CallerLemmas.{entered_keyed}
+use Rattle.chat_index.specs.Index.{place_of, IsIndexed}
+use Rattle.chat_index.proofs.IndexLemmas.{indexed_alike, unlisted_number, index_restored, indexed_after}
+use Rattle.chat_index.proofs.indexed.Indexed.enter.Goals as goal
+
+pub invariant_of-self-then-not-enter : goal.invariant_of-self-then-not-enter
+invariant_of-self-then-not-enter c =
+    let s = c.self.inside.buffers in
+    let index = c.self.inside.index in
+    let fresh = subst (λ s. IsFresh s c.args.number) (sym c.self.view_is) c.requires.fresh in
+    subst (λ x. IsKeyedStore x × IsIndexed x c.take_out.new.map) (sym (c.if-not-enter.ensures.refused refl)) (
+      c.self.invariant.0,
+      indexed_alike s index c.take_out.new.map c.self.invariant.1
+          (index_restored index c.put.new.map c.take_out.new.map c.args.number c.in-Ok.place (unlisted_number s c.args.number fresh index c.self.invariant.1) (c.if-not-put.ensures.put refl) c.take_out.ensures),
+    )
+
+pub invariant_of-self-in-Some : goal.invariant_of-self-in-Some
+invariant_of-self-in-Some c =
+    let s = c.self.inside.buffers in
+    let n = c.args.number in
+    let index = c.self.inside.index in
+    let fresh = subst (λ s. IsFresh s n) (sym c.self.view_is) c.requires.fresh in
+    let entered = c.if-not-enter.ensures.entered refl in
+    let place = c.in-Ok.ensures ∙ ap place_of c.key.ensures in
+    let had : number_at s (key_of c.args.change) ≡ Some c.in-Some.before = ap (number_at s) (sym c.key-2.ensures) ∙ sym c.in-Some.ensures in (
+      entered_keyed s n c.args.change c.enter.new.self entered c.self.invariant.0,
+      indexed_after s c.enter.new.self n c.args.change entered fresh index c.self.invariant.1 c.take_out-in-Some.new.map (Some c.in-Some.before) had
+          (λ q. c.take_out-in-Some.ensures q
+          ∙ ap (cond (eq_by_cmp nat_cmp c.in-Some.before q) None) (c.if-not-put.ensures.put refl q ∙ ap (λ p. cond (eq_by_cmp nat_cmp n q) (Some p) (tree.get nat_cmp index q)) place)),
+    )
+
+pub invariant_of-self-in_default-before : goal.invariant_of-self-in_default-before
+invariant_of-self-in_default-before c =
+    let s = c.self.inside.buffers in
+    let n = c.args.number in
+    let index = c.self.inside.index in
+    let fresh = subst (λ s. IsFresh s n) (sym c.self.view_is) c.requires.fresh in
+    let entered = c.if-not-enter.ensures.entered refl in
+    let place = c.in-Ok.ensures ∙ ap place_of c.key.ensures in
+    let had : number_at s (key_of c.args.change) ≡ None = ap (number_at s) (sym c.key-2.ensures) ∙ sym c.in_default-before.ensures in (
+      entered_keyed s n c.args.change c.enter.new.self entered c.self.invariant.0,
+      indexed_after s c.enter.new.self n c.args.change entered fresh index c.self.invariant.1 c.put.new.map None had
+          (λ q. c.if-not-put.ensures.put refl q ∙ ap (λ p. cond (eq_by_cmp nat_cmp n q) (Some p) (tree.get nat_cmp index q)) place),
+    )

@@ -1,0 +1,10 @@
+-- ---- what a reader has to believe
+
+-- the pieces by rising number
+pub mod Walk
+-- ---- what only the proofs use of the code
+
+-- where each piece stands, by its number
+pub mod Index
+-- how the records below a floor go, one by one
+pub mod Sweeping

@@ -1,0 +1,27 @@
+-- The pieces of a store by rising number.
+use Rattle.std.specs.Prelude.{ℕ, ◌≡◌, ◌≢◌, ◌⊎◌, Some}
+use Rattle.std.specs.FinMap as finite
+use Rattle.chat_change.specs.Buffer.{Buffer}
+use Rattle.chat_change.specs.Key.{Key, FloorOf, MarkerOf}
+use Rattle.chat_change.specs.declared.change.Change.{Change}
+use Rattle.chat_buffers.specs.Store.{Store, Numbered, number_at, change_at}
+use Rattle.chat_index.specs.declared.piece.Piece.{Piece}
+use Rattle.chat_index.specs.declared.place.Place.{Place}
+use Rattle.chat_index.specs.Index.{place_of}
+
+abbrev pub numbered_of : Piece → Numbered
+numbered_of p = record { number = p.number; change = p.change }
+
+-- the piece of a number stands at that place
+abbrev pub StandsAt : Store → ℕ → Place → Type 0
+StandsAt s n p = (k : Key) × (place_of k ≡ p) × (number_at s k ≡ Some n)
+
+-- a piece of the store with that number
+abbrev pub IsPieceOf : Store → ℕ → Numbered → Type 0
+IsPieceOf s n p = (p.number ≡ n) × (k : Key) × (finite.get s k ≡ Some p)
+
+-- the change is the floor of a buffer, where that has the number, or else its marker
+abbrev pub HasStamp : Store → ℕ → Buffer → Change → Type 0
+HasStamp s n b c =
+    ((number_at s (FloorOf b) ≡ Some n) × (change_at s (FloorOf b) ≡ Some c))
+    ⊎ ((number_at s (FloorOf b) ≢ Some n) × (change_at s (MarkerOf b) ≡ Some c))

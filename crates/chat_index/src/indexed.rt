@@ -1,0 +1,138 @@
+//! The numbered pieces of many buffers, with an index by number.
+
+ghost use Rattle.std.specs.Prelude.{◌≡◌, IsTrue, false};
+ghost use Rattle.std.specs.FinMap as map;
+ghost use Rattle.chat_change.specs.declared.change.Change.TheVariants as value;
+ghost use Rattle.chat_buffers.specs.Store as spec;
+ghost use Rattle.chat_buffers.specs.Entering.{FitsStore, IsEntered, TakesOne, IsSweptOf};
+ghost use Rattle.chat_index.specs.Sweeping.{TakesSome, IsSwept};
+
+use crate::place::{Place, place_of};
+use chat_buffers::Buffers;
+use chat_change::{Buffer, Change, Moment};
+use ordered_maps::{discard, put, take_out};
+use std::alloc::Global;
+use std::collections::BTreeMap;
+use std::marker::Model;
+
+/// The numbered pieces of many buffers, one for each key at most. Each is found by its number. They are seen as one store.
+#[derive(Drop)]
+pub struct Indexed {
+    pub(crate) buffers: Buffers,
+    // where the piece of each number stands
+    pub(crate) index: BTreeMap<u64, Place>,
+}
+
+impl Model for Indexed {
+    ghost use Rattle.chat_buffers.specs.Store as spec;
+    ghost use Rattle.chat_index.specs.Index.{IsIndexed};
+
+    ghost Value = { spec.Store };
+
+    ghost coded = { spec.coded_store };
+
+    ghost view = { λ s. s.buffers };
+
+    ghost invariant = { λ s. spec.IsKeyedStore s.buffers × IsIndexed s.buffers s.index };
+}
+
+impl Indexed {
+    /// No pieces.
+    pub fn new(alloc: Global) -> Indexed
+        ensures { result ≡ map.empty }
+    {
+        Indexed {
+            buffers: Buffers::new(alloc),
+            index: BTreeMap::new(alloc),
+        }
+    }
+
+    /// Puts a piece under its key. A floor takes away the records that lie below it, and makes redactions forget the moments
+    /// there. Where there is no memory nothing has changed.
+    pub fn place(&mut self, number: u64, change: Change) -> bool
+        requires fits { FitsStore self.old change }
+        requires fresh { spec.IsFresh self.old number }
+        ensures placed { IsTrue result → spec.Places self.old number change self.new }
+        ensures refused { result ≡ false → self.new ≡ self.old }
+    {
+        match change {
+            Change::Floor { buffer, at } => self.place_floor(number, buffer, at),
+            Change::Post(post) => self.enter(number, Change::Post(post)),
+            Change::Redact { buffer, id, at } => self.enter(
+                number,
+                Change::Redact { buffer, id, at },
+            ),
+            Change::Mark { buffer, at } => self.enter(number, Change::Mark { buffer, at }),
+        }
+    }
+
+    fn place_floor(&mut self, number: u64, buffer: Buffer, at: Moment) -> bool
+        requires fits { FitsStore self.old (value.Floor buffer at) }
+        requires fresh { spec.IsFresh self.old number }
+        ensures placed { IsTrue result →
+            spec.Places self.old number (value.Floor buffer at) self.new }
+        ensures refused { result ≡ false → self.new ≡ self.old }
+    {
+        // it shows that each piece stands under its own key
+        let _ = &self.buffers;
+        let Ok(floored) = buffer.try_clone() else {
+            discard(buffer);
+            return false;
+        };
+        if !self.enter(number, Change::Floor { buffer, at }) {
+            discard(floored);
+            return false;
+        }
+        self.sweep(&floored, at);
+        discard(floored);
+        true
+    }
+
+    // Puts a piece under its key. A floor leaves the records that lie below it.
+    fn enter(&mut self, number: u64, change: Change) -> bool
+        requires fits { FitsStore self.old change }
+        requires fresh { spec.IsFresh self.old number }
+        ensures entered { IsTrue result → IsEntered self.old number change self.new }
+        ensures refused { result ≡ false → self.new ≡ self.old }
+    {
+        let Ok(place) = place_of(&change.key()) else {
+            discard(change);
+            return false;
+        };
+        let before = self.buffers.number(&change.key());
+        if !put(&mut self.index, number, place) {
+            discard(change);
+            return false;
+        }
+        if !self.buffers.enter(number, change) {
+            take_out(&mut self.index, &number);
+            return false;
+        }
+        if let Some(before) = before {
+            take_out(&mut self.index, &before);
+        }
+        true
+    }
+
+    // Takes the records of a buffer away that lie below a floor. It takes no memory.
+    fn sweep(&mut self, buffer: &Buffer, floor: Moment)
+        ensures { IsSwept buffer.now floor self.old self.new }
+    {
+        while self.take_first_below(buffer, floor) {}
+    }
+
+    // Takes the oldest record of a buffer away, where it lies below a floor.
+    fn take_first_below(&mut self, buffer: &Buffer, floor: Moment) -> bool
+        ensures one { IsTrue result → TakesSome self.old buffer.now floor self.new }
+        ensures done { result ≡ false → IsSweptOf buffer.now floor self.new }
+        ensures kept { result ≡ false → self.new ≡ self.old }
+    {
+        match self.buffers.remove_first_below(buffer, floor) {
+            Some(gone) => {
+                take_out(&mut self.index, &gone);
+                true
+            }
+            None => false,
+        }
+    }
+}

@@ -1,0 +1,10 @@
+//! The numbered pieces of many buffers, each found by its number.
+#![tactic(auto)]
+
+mod indexed;
+mod piece;
+mod place;
+mod walk;
+
+pub use indexed::Indexed;
+pub use piece::Piece;
