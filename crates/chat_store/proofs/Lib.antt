@@ -1,4 +1,3 @@
-mod StoreLemmas
 mod DistinctLemmas
 mod VectorLemmas
 mod VectorStoreLemmas

@@ -21,7 +21,7 @@ use Rattle.chat_store.specs.Pieces.{numbered_of, store_of, piece_keys, pieces_le
 use Rattle.chat_store.specs.Store.{Numbered, history_in, change_at, piece_left, Places, by_number, pieces_above}
 use Rattle.chat_store.specs.declared.store.Piece.{Piece}
 use Rattle.chat_store.proofs.VectorLemmas.{at_key, get-table, found, written, missing, appended, low, lasts, find-swept, floor_found}
-use Rattle.chat_store.proofs.StoreLemmas.{placed-plain, get-history, history_keyed}
+use Rattle.chat_buffers.proofs.CallerLemmas.{placed-plain, get-history, history_keyed}
 use Rattle.chat_history.proofs.CallerLemmas.{among-filter, among_passing, among-filter_map, among_made, mapped, image, member, first_alike}
 use Rattle.chat_history.proofs.CallerLemmas.{valued, value_among, got, get_entry}
 use Rattle.chat_history.proofs.CallerLemmas.{change_held, held_change}

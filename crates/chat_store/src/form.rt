@@ -9,7 +9,8 @@ ghost use Rattle.chat_store.specs.Form as spec;
 ghost use Rattle.chat_store.specs.Store.{floor_in};
 
 use crate::retention::at_or_above;
-use crate::store::{Fate, Store};
+use crate::store::Store;
+use chat_buffers::Fate;
 use chat_change::{Buffer, Change, Moment, MsgId, Record, goes_before};
 use std::alloc::AllocError;
 

@@ -9,6 +9,7 @@ mod retention;
 mod store;
 
 pub use buffers::Sought;
+pub use chat_buffers::Fate;
 pub use form::{Form, form_of, piece_in};
 pub use nearest::Edge;
-pub use store::{Fate, Piece, Store};
+pub use store::{Piece, Store};

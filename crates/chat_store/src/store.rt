@@ -20,6 +20,7 @@ use crate::buffers::{Sought, next_in};
 use crate::nearest::{Edge, nearest_in};
 use crate::numbers::next_above;
 use crate::retention::{lower, outlasts};
+use chat_buffers::Fate;
 use chat_change::{Buffer, Change, Key, Moment, MsgId, Record};
 use std::alloc::{AllocError, Global};
 use std::marker::Model;
@@ -45,15 +46,6 @@ impl Piece {
     {
         &self.change
     }
-}
-
-/// What is held of a message.
-#[derive(Clone, Copy)]
-pub enum Fate<'a> {
-    /// Its kept record.
-    Kept(&'a Record),
-    /// It was redacted, and stood at that moment. None where its moment isn't known.
-    Gone(Option<Moment>),
 }
 
 /// Numbered pieces, one for each key at most.
