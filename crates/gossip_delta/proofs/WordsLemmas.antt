@@ -129,7 +129,7 @@ filled_words (suc n) line h = filled_before line (filled_words n (behind line) h
 space_is : (b : ℕ) → (b == 32) ≡ true → b ≡ 32
 space_is b h = grind (arith, nat_tests)
 
-rejoined : (line : List ℕ) → is_filled (behind line) ≡ true → (word line ++ codes " ") ++ behind line ≡ line
+pub rejoined : (line : List ℕ) → is_filled (behind line) ≡ true → (word line ++ codes " ") ++ behind line ≡ line
 unfolding word behind
 rejoined [] h = absurd (false≢true h)
 rejoined (b ∷ line) h =
