@@ -26,7 +26,8 @@ IsAnswer wanted (Err UnknownMessage) = wanted ≡ None
 IsAnswer wanted (Err NoMemory) = ⊤
 
 -- the same of the records of a page
-abbrev pub AreRecords : {Z : Type 0} → Option (List Record) → Result (Vec (Bor Record) Z) PageFault → Type 0
+abbrev pub AreRecords : {Z : Type 0} → Option (List Record) → Result (Vec (Bor Record) Z) PageFault
+    → Type 0
 AreRecords wanted (Ok records) = wanted ≡ Some (map (λ r. r.now) records.items)
 AreRecords wanted (Err UnknownMessage) = wanted ≡ None
 AreRecords wanted (Err NoMemory) = ⊤
@@ -40,9 +41,12 @@ side_cut Around n records p = spec.around_cut n records p
 
 -- the records on a side of a selector, if that has a point
 abbrev pub side_of : History → Buffer → Selector → Side → ℕ → Option (List Record)
-side_of history b s side n = option_map (λ p. side_cut side n (records_in history b) p) (spec.point_of history b s)
+side_of history b s side n =
+    option_map (λ p. side_cut side n (records_in history b) p) (spec.point_of history b s)
 
 -- the records between two selectors, if both have a point
 abbrev pub between_of : History → Buffer → Selector → Selector → ℕ → Option (List Record)
 between_of history b s u n =
-    option_and_then (λ p. option_map (λ q. spec.between_cut n (records_in history b) p q) (spec.point_of history b u)) (spec.point_of history b s)
+    option_and_then (λ p.
+    option_map (λ q. spec.between_cut n (records_in history b) p q) (spec.point_of history b u))
+    (spec.point_of history b s)

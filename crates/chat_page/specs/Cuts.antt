@@ -6,4 +6,5 @@ use Rattle.chat_history.specs.declared.cut.Cut.{Cut}
 
 -- those above the one and below the other, in their order
 abbrev pub between_cuts : Cut → Cut → List Record → List Record
-between_cuts low high records = filter (λ r. is_after_cut low r && not (is_after_cut high r)) records
+between_cuts low high records =
+    filter (λ r. is_after_cut low r && not (is_after_cut high r)) records

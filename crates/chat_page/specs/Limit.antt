@@ -23,4 +23,5 @@ greatest_limit = 2 ^ 64 - 1
 
 -- digits of a value above 0; leading zeros are allowed, and a value above the greatest counts as the greatest
 abbrev pub limit_of : List ℕ → Option ℕ
-limit_of text = if is_digits text && nat_lt 0 (value text) then Some (min greatest_limit (value text)) else None
+limit_of text =
+    if is_digits text && nat_lt 0 (value text) then Some (min greatest_limit (value text)) else None

@@ -46,19 +46,26 @@ last n xs = drop (length xs - n) xs
 
 -- at most half from before, and the others from the selector on
 abbrev pub around_cut : ℕ → List Record → Point → List Record
-around_cut n records s = last (n / 2) (filter (is_before s) records) ++ take (n - n / 2) (filter (λ r. not (is_before s r)) records)
+around_cut n records s =
+    last (n / 2) (filter (is_before s) records)
+    ++ take (n - n / 2) (filter (λ r. not (is_before s r)) records)
 
 -- the first of those that come after the one and before the other, and where there are none the last of those that lie
 -- the other way round
 abbrev pub between_cut : ℕ → List Record → Point → Point → List Record
 between_cut n records s u =
     let rising = filter (λ r. is_after s r && is_before u r) records in
-    if length rising == 0 then last n (filter (λ r. is_after u r && is_before s r) records) else take n rising
+    if length rising == 0 then last n (filter (λ r. is_after u r && is_before s r) records)
+    else take n rising
 
 -- ---- buffers
 
 abbrev pub buffer_of : Scope → List ℕ → Buffer
-buffer_of scope target = record { account = scope.account; network = scope.network; target = target }
+buffer_of scope target = record {
+  account = scope.account;
+  network = scope.network;
+  target = target;
+}
 
 -- buffers with their latest moments, as they are listed
 abbrev pub listed : List (Buffer × ℕ) → List (ℕ × List ℕ)
@@ -67,7 +74,8 @@ listed buffers = map (λ (p : Buffer × ℕ). (p.1, p.0.target)) buffers
 -- (moment, folded target) of each buffer that has a visible record, the moment being that of the latest one, in that order
 abbrev pub buffers_in : History → Scope → List (ℕ × List ℕ)
 buffers_in history scope =
-    keys (from_entries {R = spot_cmp} (map (λ (e : ℕ × List ℕ). (e, e)) (listed (latest_in history scope.account scope.network))))
+    keys (from_entries {R = spot_cmp}
+    (map (λ (e : ℕ × List ℕ). (e, e)) (listed (latest_in history scope.account scope.network))))
 
 -- whether a buffer's moment lies strictly between two others
 abbrev pub lies_between : ℕ → ℕ → ℕ × List ℕ → Bool
@@ -92,21 +100,31 @@ page_in history scope (Latest target None limit) =
     Some (of_records (last (min limit scope.maximum) (records_in history (buffer_of scope target))))
 page_in history scope (Latest target (Some s) limit) =
     let records = records_in history (buffer_of scope target) in
-    option_map (λ (p : Point). of_records (last (min limit scope.maximum) (filter (is_after p) records))) (point_of history (buffer_of scope target) s)
+    option_map (λ (p : Point).
+    of_records (last (min limit scope.maximum) (filter (is_after p) records)))
+    (point_of history (buffer_of scope target) s)
 page_in history scope (Before target s limit) =
     let records = records_in history (buffer_of scope target) in
-    option_map (λ (p : Point). of_records (last (min limit scope.maximum) (filter (is_before p) records))) (point_of history (buffer_of scope target) s)
+    option_map (λ (p : Point).
+    of_records (last (min limit scope.maximum) (filter (is_before p) records)))
+    (point_of history (buffer_of scope target) s)
 page_in history scope (After target s limit) =
     let records = records_in history (buffer_of scope target) in
-    option_map (λ (p : Point). of_records (take (min limit scope.maximum) (filter (is_after p) records))) (point_of history (buffer_of scope target) s)
+    option_map (λ (p : Point).
+    of_records (take (min limit scope.maximum) (filter (is_after p) records)))
+    (point_of history (buffer_of scope target) s)
 page_in history scope (Around target s limit) =
     let records = records_in history (buffer_of scope target) in
-    option_map (λ (p : Point). of_records (around_cut (min limit scope.maximum) records p)) (point_of history (buffer_of scope target) s)
+    option_map (λ (p : Point).
+    of_records (around_cut (min limit scope.maximum) records p))
+    (point_of history (buffer_of scope target) s)
 page_in history scope (Between target s u limit) =
     let b = buffer_of scope target in
-    option_and_then (λ (p : Point).
-    option_map (λ (q : Point). of_records (between_cut (min limit scope.maximum) (records_in history b) p q)) (point_of history b u)) (point_of history b s)
-page_in history scope (Targets t u limit) = Some (of_buffers (targets_cut (min limit scope.maximum) t u (buffers_in history scope)))
+    option_and_then (λ (p : Point). option_map (λ (q : Point).
+    of_records (between_cut (min limit scope.maximum) (records_in history b) p q))
+    (point_of history b u)) (point_of history b s)
+page_in history scope (Targets t u limit) =
+    Some (of_buffers (targets_cut (min limit scope.maximum) t u (buffers_in history scope)))
 
 -- the page of a query, of a set of changes: it depends on their normal form alone
 abbrev pub page : List Change → Scope → Query → Option Page

@@ -43,7 +43,9 @@ id_of word = if is_id (drop 6 word) then Some (drop 6 word) else None
 
 -- the selector that a word with a key spells
 abbrev pub selector_of : List ℕ → Option Selector
-selector_of word = if has_timestamp_key word then option_map Timestamp (timestamp_of word) else option_map Message (id_of word)
+selector_of word =
+    if has_timestamp_key word then option_map Timestamp (timestamp_of word)
+    else option_map Message (id_of word)
 
 -- a selector, or `*` for none
 abbrev pub selector_or_none_of : List ℕ → Option (Option Selector)
@@ -51,7 +53,8 @@ selector_or_none_of word = if is_star word then Some None else option_map Some (
 
 -- ---- checks, of which the first that fails is told
 
-abbrev pub checked : {A B : Type 0} → Option A → QueryFault → (A → Result B QueryFault) → Result B QueryFault
+abbrev pub checked : {A B : Type 0} → Option A → QueryFault → (A → Result B QueryFault)
+    → Result B QueryFault
 checked None fault more = Err fault
 checked (Some x) fault more = more x
 
@@ -78,7 +81,8 @@ selected_of (target ∷ selector ∷ limit ∷ more) =
     checked (target_of target) InvalidTarget (λ t.
     unless (has_key selector) InvalidMsgRef (
     checked (selector_of selector) InvalidParams (λ s.
-    checked (limit_of limit) InvalidParams (λ n. Ok (record { target = t; selector = s; limit = n })))))
+    checked (limit_of limit) InvalidParams
+    (λ n. Ok (record { target = t; selector = s; limit = n })))))
 selected_of _ = Err NeedMoreParams
 
 abbrev pub before_of : List (List ℕ) → Result Query QueryFault
