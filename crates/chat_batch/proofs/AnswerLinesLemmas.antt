@@ -15,7 +15,7 @@ use Rattle.irc_line.specs.Text.{middles_text}
 use Rattle.irc_line.specs.CanStand.{HasNoBadByte}
 use Rattle.irc_line.specs.Lines.{AreLines}
 use Rattle.irc_line.proofs.CallerLemmas.{no_lines, middle_from, no_space_from, read_parameters_whole}
-use Rattle.irc_caps.specs.Replies.{can_be_echoed, echoed}
+use Rattle.irc_reply.specs.Echo.{can_be_echoed, echoed}
 use Rattle.irc_reply.specs.Standing.{CanBeRefusal, IsWordTo, word_limit}
 use Rattle.irc_reply.proofs.CallerLemmas.{unknown_line, fail_line, mark_line}
 use Rattle.chat_change.specs.Words.{is_target}

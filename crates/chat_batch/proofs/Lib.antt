@@ -1,6 +1,5 @@
 mod AnswerLemmas
 mod TagLemmas
-mod Texts
 mod WordLemmas
 mod LinesLemmas
 mod AnswerLinesLemmas

@@ -4,7 +4,7 @@ use Rattle.std.specs.Prelude.{ℕ, Bool, true, ◌&&◌, is_some, List, [], ◌�
 use Rattle.std.specs.Char.{to_ascii_uppercase}
 use Rattle.std.specs.Str.{str_eq_ignore_ascii_case}
 use Rattle.irc_line.specs.Line.{Reading}
-use Rattle.irc_caps.specs.Replies.{echoed}
+use Rattle.irc_reply.specs.Echo.{echoed}
 use Rattle.irc_reply.specs.Reply.{fail_text, mark_text, unknown_text}
 use Rattle.chat_change.specs.Words.{is_name, is_target}
 use Rattle.chat_change.specs.Buffer.{buffer_of}

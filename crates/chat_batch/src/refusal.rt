@@ -1,15 +1,14 @@
 //! Refusals of CHATHISTORY and MARKREAD (IRCv3 standard-replies, `FAIL`).
 ghost use Rattle.std.specs.Prelude.{◌≡◌, Some, None, IfOk, map};
 ghost use Rattle.std.specs.Option.{option_copied};
-ghost use Rattle.irc_reply.specs.Reply.{context_words};
+ghost use Rattle.irc_reply.specs.Reply.{value_of};
 ghost use Rattle.chat_batch.specs.Answers as spec;
 ghost use Rattle.chat_batch.specs.Gives.{Gives, IsUnwritten};
 
 use crate::answers::AnswerFault;
 use crate::facts::{Answered, Facts};
 use chat_page::QueryFault;
-use irc_caps::echoed;
-use irc_reply::{Context, write_fail};
+use irc_reply::{Context, echoed, write_fail};
 use memory::Text;
 use std::alloc::{AllocError, Global};
 use std::io::Write;
@@ -24,7 +23,7 @@ pub(crate) fn refuse<W: Write>(
     writer: &mut W,
 ) -> Result<Answered, AnswerFault>
     ensures text { Gives W.contents writer.old writer.new result
-        (spec.fail facts.now command.now code.now (context_words context.entry) reason.now) }
+        (spec.fail facts.now command.now code.now (value_of context.entry) reason.now) }
     ensures memory { IsUnwritten result writer.old writer.new }
 {
     match write_fail(
