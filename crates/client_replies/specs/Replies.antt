@@ -5,7 +5,7 @@ use Rattle.std.specs.Fmt.{decimal}
 use Rattle.irc_line.specs.Text.{line_text, line_ending}
 use Rattle.irc_line.specs.Read.{text_in}
 use Rattle.irc_reply.specs.Reply.{reply, fail_text}
-use Rattle.irc_caps.specs.Replies.{echoed}
+use Rattle.irc_reply.specs.Echo.{echoed}
 
 -- the nick of a session before registration
 abbrev pub no_nick : List ℕ

@@ -5,7 +5,7 @@ ghost use Rattle.irc_reply.specs.Reply.{unknown_text, too_long_text};
 ghost use Rattle.client_replies.specs.Replies as spec;
 
 use crate::text::joined;
-use irc_caps::{echoed, reply};
+use irc_reply::{echoed, reply_text};
 use memory::{NoMemory, Text};
 use std::alloc::{AllocError, Global};
 
@@ -14,7 +14,7 @@ pub fn welcome(alloc: Global, cluster: &[u8], nick: &[u8], network: &[u8]) -> Re
     ensures { IfOk result (λ text. text ≡ spec.welcome cluster.now nick.now network.now) }
 {
     let greeting = joined(alloc, b"Welcome to ", network)?;
-    reply(alloc, cluster, b"001", &[nick], Some(greeting.as_bytes()))
+    reply_text(alloc, cluster, b"001", &[nick], Some(greeting.as_bytes()))
 }
 
 fn maximum_text(alloc: Global, maximum: u32) -> Result<String, AllocError>
@@ -29,7 +29,7 @@ pub fn support(alloc: Global, cluster: &[u8], nick: &[u8], maximum: u32) -> Resu
     ensures { IfOk result (λ text. text ≡ spec.support cluster.now nick.now maximum) }
 {
     let history = maximum_text(alloc, maximum)?;
-    reply(
+    reply_text(
         alloc,
         cluster,
         b"005",
@@ -47,7 +47,7 @@ pub fn support(alloc: Global, cluster: &[u8], nick: &[u8], maximum: u32) -> Resu
 pub fn no_motd(alloc: Global, cluster: &[u8], nick: &[u8]) -> Result<Text, NoMemory>
     ensures { IfOk result (λ text. text ≡ spec.no_motd cluster.now nick.now) }
 {
-    reply(
+    reply_text(
         alloc,
         cluster,
         b"422",
@@ -60,7 +60,7 @@ pub fn no_motd(alloc: Global, cluster: &[u8], nick: &[u8]) -> Result<Text, NoMem
 pub fn too_long(alloc: Global, cluster: &[u8], nick: &[u8]) -> Result<Text, NoMemory>
     ensures { IfOk result (λ text. text ≡ too_long_text cluster.now nick.now) }
 {
-    reply(
+    reply_text(
         alloc,
         cluster,
         b"417",
@@ -73,7 +73,7 @@ pub fn too_long(alloc: Global, cluster: &[u8], nick: &[u8]) -> Result<Text, NoMe
 pub fn unknown(alloc: Global, cluster: &[u8], nick: &[u8], word: &[u8]) -> Result<Text, NoMemory>
     ensures { IfOk result (λ text. text ≡ unknown_text cluster.now nick.now word.now) }
 {
-    reply(
+    reply_text(
         alloc,
         cluster,
         b"421",
@@ -86,7 +86,7 @@ pub fn unknown(alloc: Global, cluster: &[u8], nick: &[u8], word: &[u8]) -> Resul
 pub fn no_nick_given(alloc: Global, cluster: &[u8], nick: &[u8]) -> Result<Text, NoMemory>
     ensures { IfOk result (λ text. text ≡ spec.no_nick_given cluster.now nick.now) }
 {
-    reply(alloc, cluster, b"431", &[nick], Some(b"No nickname given"))
+    reply_text(alloc, cluster, b"431", &[nick], Some(b"No nickname given"))
 }
 
 /// `:cluster 432 nick given :Erroneous nickname` (ERR_ERRONEUSNICKNAME), with `*` for a nick that can't be told again.
@@ -98,7 +98,7 @@ pub fn erroneous_nick(
 ) -> Result<Text, NoMemory>
     ensures { IfOk result (λ text. text ≡ spec.erroneous_nick cluster.now nick.now given.now) }
 {
-    reply(
+    reply_text(
         alloc,
         cluster,
         b"432",
@@ -111,7 +111,7 @@ pub fn erroneous_nick(
 pub fn not_registered(alloc: Global, cluster: &[u8]) -> Result<Text, NoMemory>
     ensures { IfOk result (λ text. text ≡ spec.not_registered cluster.now) }
 {
-    reply(
+    reply_text(
         alloc,
         cluster,
         b"451",
@@ -124,7 +124,7 @@ pub fn not_registered(alloc: Global, cluster: &[u8]) -> Result<Text, NoMemory>
 pub fn may_not_reregister(alloc: Global, cluster: &[u8], nick: &[u8]) -> Result<Text, NoMemory>
     ensures { IfOk result (λ text. text ≡ spec.may_not_reregister cluster.now nick.now) }
 {
-    reply(
+    reply_text(
         alloc,
         cluster,
         b"462",
@@ -137,7 +137,7 @@ pub fn may_not_reregister(alloc: Global, cluster: &[u8], nick: &[u8]) -> Result<
 pub fn password_incorrect(alloc: Global, cluster: &[u8]) -> Result<Text, NoMemory>
     ensures { IfOk result (λ text. text ≡ spec.password_incorrect cluster.now) }
 {
-    reply(
+    reply_text(
         alloc,
         cluster,
         b"464",
@@ -156,7 +156,7 @@ fn prefix(word: &[u8]) -> &[u8]
 pub fn pong(alloc: Global, cluster: &[u8], word: &[u8]) -> Result<Text, NoMemory>
     ensures { IfOk result (λ text. text ≡ spec.pong cluster.now word.now) }
 {
-    reply(alloc, cluster, b"PONG", &[cluster], Some(prefix(word)))
+    reply_text(alloc, cluster, b"PONG", &[cluster], Some(prefix(word)))
 }
 
 /// `:cluster NOTICE nick :Not connected to network`.
@@ -169,5 +169,5 @@ pub fn not_connected(
     ensures { IfOk result (λ text. text ≡ spec.not_connected cluster.now nick.now network.now) }
 {
     let notice = joined(alloc, b"Not connected to ", network)?;
-    reply(alloc, cluster, b"NOTICE", &[nick], Some(notice.as_bytes()))
+    reply_text(alloc, cluster, b"NOTICE", &[nick], Some(notice.as_bytes()))
 }

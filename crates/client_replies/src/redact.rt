@@ -1,6 +1,6 @@
 //! Refusals of REDACT (IRCv3 draft/message-redaction and standard-replies).
 ghost use Rattle.std.specs.Prelude.{◌≡◌, codes, IfOk};
-ghost use Rattle.irc_reply.specs.Reply.{fail_text, context_words};
+ghost use Rattle.irc_reply.specs.Reply.{fail_text, value_of};
 ghost use Rattle.client_replies.specs.Replies as spec;
 
 use irc_reply::{Context, write_fail};
@@ -15,7 +15,7 @@ fn redact_fail(
     text: &[u8],
 ) -> Result<Text, NoMemory>
     ensures { IfOk result (λ line. line ≡ fail_text cluster.now (codes "REDACT") code.now
-        (context_words context.entry) text.now) }
+        (value_of context.entry) text.now) }
 {
     let mut bytes = Vec::new(alloc);
     match write_fail(cluster, b"REDACT", code, context, text, &mut bytes) {
