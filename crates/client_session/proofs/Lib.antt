@@ -2,3 +2,6 @@ mod HeldLemmas
 mod RegistrationLemmas
 mod RegisteredLemmas
 mod EventLemmas
+mod SightLemmas
+mod LinesLemmas
+pub mod CallerLemmas

@@ -4,7 +4,7 @@ use Rattle.std.specs.Str.{bytes_eq}
 use Rattle.irc_time.specs.Reading.{time_of}
 use Rattle.irc_reply.specs.Reply.{unknown_text}
 use Rattle.irc_caps.specs.Negotiation.{registered, cap_answer}
-use Rattle.irc_caps.specs.Replies.{need_more_params}
+use Rattle.irc_reply.specs.Reply.{need_more_params}
 use Rattle.chat_change.specs.Words.{is_name, is_target, is_id}
 use Rattle.chat_change.specs.Buffer.{buffer_of}
 use Rattle.chat_change.specs.declared.change.Change.TheVariants.{Mark}

@@ -2,7 +2,7 @@
 use Rattle.std.specs.Prelude.{ℕ, ◌+◌, ◌==◌, true, not, ◌&&◌, List, [], ◌∷◌, ◌++◌, codes, take, drop, Option, None, Some, position, if◌then◌else◌}
 use Rattle.irc_caps.specs.declared.CapSet.{CapSet}
 use Rattle.irc_caps.specs.Negotiation.{Negotiation, is_held, cap_answer}
-use Rattle.irc_caps.specs.Replies.{need_more_params}
+use Rattle.irc_reply.specs.Reply.{need_more_params}
 use Rattle.chat_batch.specs.declared.facts.Facts.{Facts}
 use Rattle.client_directory.specs.Entry.{Entry}
 use Rattle.client_directory.specs.Directory.{Directory, entry_by_secret}

@@ -3,7 +3,7 @@ use Rattle.std.specs.Prelude.{ℕ, ◌+◌, ◌==◌, not, List, [], ◌∷◌, 
 use Rattle.irc_line.specs.declared.line.LineFault.{LineFault}
 use Rattle.irc_line.specs.declared.line.LineFault.TheVariants.{Empty, TagsTooLong, TooLong, BadByte, NoCommand}
 use Rattle.irc_reply.specs.Reply.{too_long_text, unknown_text}
-use Rattle.irc_caps.specs.Replies.{need_more_params}
+use Rattle.irc_reply.specs.Reply.{need_more_params}
 use Rattle.chat_change.specs.Words.{is_target}
 use Rattle.client_replies.specs.Replies.{no_nick_given, erroneous_nick, pong, closing_link}
 use Rattle.client_session.specs.declared.effect.Effect.{Effect}

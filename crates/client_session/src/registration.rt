@@ -16,8 +16,9 @@ use client_replies::{
     closing_link, join_line, marker_question, no_motd, not_registered, password_incorrect, support,
     welcome,
 };
-use irc_caps::{CapSet, need_more_params};
+use irc_caps::CapSet;
 use irc_line::LineFault;
+use irc_reply::need_more_params;
 use memory::{NoMemory, Text};
 use std::alloc::Global;
 
@@ -332,4 +333,4 @@ impl Waiting {
     }
 }
 
-ghost use Rattle.irc_caps.specs.Replies.{need_more_params};
+ghost use Rattle.irc_reply.specs.Reply.{need_more_params};

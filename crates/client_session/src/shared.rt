@@ -6,8 +6,8 @@ ghost use Rattle.client_session.specs.declared.effect.Effect.TheVariants as effe
 use crate::effect::Effect;
 use chat_change::is_target;
 use client_replies::{closing_link, erroneous_nick, no_nick_given, pong, too_long, unknown};
-use irc_caps::need_more_params;
 use irc_line::LineFault;
+use irc_reply::need_more_params;
 use memory::{NoMemory, Text};
 use std::alloc::{AllocError, Global};
 
