@@ -1,21 +1,26 @@
 //! Plays sessions line by line, and compares what each line comes to with what it is to come to. The words name files of
 //! cases:
 //!
-//!     == new|member|bare up|down|redact|redact-down|channel: name of the case
+//!     == new|member|bare up|down|redact|redact-down|channel|renamed|nowhere: name of the case
 //!     lines of the client
 //!     --
 //!     lines that the client gets, and `put`, `ask`, `up` and `close` with what they carry
 //!
 //! A session is new, or registered with all capabilities (`member`) or none (`bare`). Its network is up or down; its server
-//! may take REDACT, and it may be in the channel #a. A NUL is spelled `␀`, and a CR `␍`.
+//! may take REDACT, it may be in the channel #a, its nick may be `bo` in place of `al`, or the directory may have no account
+//! at all. A NUL is spelled `␀`, and a CR `␍`.
+//!
+//! A line that begins with `%` is none of the client's. It names another such standing from then on; or it is `%too-long`
+//! for a line that was too long to be taken in, `%batch`, `%plain` or `%no-query` for what an answer was, `%reference` to
+//! tell the number of the next batch, or `%no-entry`: from then on no message can be looked up.
 #![tactic(auto)]
 
 mod play;
 
 use anyhow::Error;
-use client_session::Session;
+use client_session::{Answered, Directory, Session};
 use irc_caps::CapSet;
-use play::{DOWN, Standing, UP, directory_of, member, newcomer, play};
+use play::{DOWN, Player, RENAMED, Standing, UP, directory_of, member, newcomer};
 use std::alloc::{AllocError, Global};
 use std::{env, fs};
 
@@ -59,6 +64,7 @@ fn standing_of(word: &str) -> Standing {
             channel: Some(b"#a"),
             ..UP
         },
+        "renamed" => RENAMED,
         _ => DOWN,
     }
 }
@@ -78,12 +84,58 @@ fn bytes_of(alloc: Global, text: &str) -> Result<Vec<u8>, AllocError> {
     Vec::from_slice(alloc, with_cr.as_bytes())
 }
 
+/// The directory of which a word tells; `nowhere` has no account.
+fn directory_in(alloc: Global, word: &str) -> Result<Directory, Error> {
+    match word {
+        "nowhere" => Ok(Directory::new(alloc)),
+        _ => directory_of(alloc, standing_of(word)),
+    }
+}
+
+/// Does what a line that begins with `%` says, without that sign.
+fn turn(alloc: Global, player: &mut Player, word: &str, out: &mut Vec<u8>) -> Result<(), Error> {
+    match word {
+        "too-long" => player.play_too_long(alloc, out)?,
+        "reference" => player.tell_reference(alloc, out)?,
+        "no-entry" => player.close_state(),
+        "batch" => player.answered(Answered::Batch),
+        "plain" => player.answered(Answered::Plain),
+        "no-query" => player.answered(Answered::NotAQuery),
+        _ => player.turn_to(directory_in(alloc, word)?),
+    }
+    Ok(())
+}
+
+/// Plays a line of a case.
+fn play_line(
+    alloc: Global,
+    player: &mut Player,
+    line: &str,
+    out: &mut Vec<u8>,
+) -> Result<(), Error> {
+    match line.strip_prefix("%") {
+        Some(word) => turn(alloc, player, word, out),
+        None => {
+            let bytes = bytes_of(alloc, line)?;
+            player.play(alloc, &bytes, out)
+        }
+    }
+}
+
+fn player_of(alloc: Global, case: Case<'_>) -> Result<Player, Error> {
+    let session = session_of(alloc, case.who)?;
+    let directory = directory_in(alloc, case.standing)?;
+    Player::new(alloc, session, directory)
+}
+
 /// What a case comes to.
 fn played(alloc: Global, case: Case<'_>) -> Result<Vec<u8>, Error> {
-    let directory = directory_of(alloc, standing_of(case.standing))?;
-    let mut session = session_of(alloc, case.who)?;
-    let script = bytes_of(alloc, case.script)?;
-    play(alloc, &mut session, &directory, &script)
+    let mut player = player_of(alloc, case)?;
+    let mut out = Vec::new(alloc);
+    for line in case.script.split("\n") {
+        play_line(alloc, &mut player, line, &mut out)?;
+    }
+    Ok(out)
 }
 
 /// Plays a case, and says whether it came to what it is to come to.

@@ -1,8 +1,10 @@
 //! Sessions that are played line by line, and their effects as text.
 use anyhow::Error;
 use chat_change::{Buffer, Change, Kind, Message, MsgId, Record};
-use chat_state::State;
-use client_session::{Account, Directory, Effect, Entry, Facts, Network, Session, StepFault};
+use chat_state::{NoEntry, Peek, State};
+use client_session::{
+    Account, Answered, Directory, Effect, Entry, Facts, Network, Session, StepFault,
+};
 use irc_caps::CapSet;
 use irc_time::Moment;
 use memory::Text;
@@ -29,6 +31,8 @@ pub const UP: Standing = Standing {
     is_up: true,
     ..DOWN
 };
+
+pub const RENAMED: Standing = Standing { nick: b"bo", ..UP };
 
 fn entry_of(alloc: Global, standing: Standing) -> Result<Entry, Error> {
     let nick = Text::new(alloc, standing.nick)?;
@@ -152,33 +156,99 @@ pub fn tell_all(out: &mut Vec<u8>, effects: &[Effect]) -> Result<(), AllocError>
     Ok(())
 }
 
-// A step. One that is refused for want of memory is made again, since it leaves the session as it was.
-fn step(
-    alloc: Global,
-    session: &mut Session,
-    directory: &Directory,
-    state: &mut State,
-    line: &[u8],
-) -> Result<Vec<Effect>, StepFault> {
-    match session.step(alloc, line, directory, state) {
-        Ok(effects) => Ok(effects),
-        Err(StepFault::NoEntry) => Err(StepFault::NoEntry),
-        Err(StepFault::NoMemory) => session.step(alloc, line, directory, state),
+/// Where no message can be looked up.
+#[derive(Drop)]
+struct Closed;
+
+impl Peek for Closed {
+    ghost use Rattle.std.specs.Prelude.{◌≡◌, IfOk, OnErr};
+
+    ghost peeks = { λ old b m shown new. new ≡ old };
+
+    fn shown(&mut self, _buffer: &Buffer, _id: &MsgId) -> Result<bool, NoEntry>
+        ensures ok { IfOk result (λ shown. self.new ≡ self.old) }
+        ensures err { OnErr result (self.new ≡ self.old) }
+    {
+        Err(NoEntry)
     }
 }
 
-/// What the lines of a script come to, one after the other. LF stands between each two.
-pub fn play(
-    alloc: Global,
-    session: &mut Session,
-    directory: &Directory,
-    script: &[u8],
-) -> Result<Vec<u8>, Error> {
-    let mut state = state_of(alloc)?;
-    let mut out = Vec::new(alloc);
-    for line in script.split(|b| *b == b'\n') {
-        let effects = step(alloc, session, directory, &mut state, line)?;
-        tell_all(&mut out, &effects)?;
+/// A session, with what it is asked beside: a directory, and a state that shows the message m1 in the channel #a.
+#[derive(Drop)]
+pub struct Player {
+    session: Session,
+    directory: Directory,
+    state: State,
+    is_closed: bool,
+}
+
+impl Player {
+    pub fn new(alloc: Global, session: Session, directory: Directory) -> Result<Player, Error> {
+        let state = state_of(alloc)?;
+        Ok(Player {
+            session,
+            directory,
+            state,
+            is_closed: false,
+        })
     }
-    Ok(out)
+
+    /// Steps from now on are given this directory.
+    pub fn turn_to(&mut self, directory: Directory) {
+        self.directory = directory;
+    }
+
+    /// From now on no message can be looked up.
+    pub fn close_state(&mut self) {
+        self.is_closed = true;
+    }
+
+    pub fn answered(&mut self, answered: Answered) {
+        self.session.answered(answered);
+    }
+
+    fn step(&mut self, alloc: Global, line: &[u8]) -> Result<Vec<Effect>, StepFault> {
+        if self.is_closed {
+            self.session.step(alloc, line, &self.directory, &mut Closed)
+        } else {
+            self.session
+                .step(alloc, line, &self.directory, &mut self.state)
+        }
+    }
+
+    /// Tells what a line comes to. A step that is refused for want of memory is made again, since it leaves the session as
+    /// it was.
+    pub fn play(&mut self, alloc: Global, line: &[u8], out: &mut Vec<u8>) -> Result<(), Error> {
+        let first = self.step(alloc, line);
+        let effects = if let Err(StepFault::NoMemory) = first {
+            self.step(alloc, line)
+        } else {
+            first
+        };
+        match effects {
+            Ok(effects) => tell_all(out, &effects)?,
+            Err(StepFault::NoEntry) => out.extend_from_slice(b"no entry\n")?,
+            Err(StepFault::NoMemory) => return Err(Error::from(StepFault::NoMemory)),
+        }
+        Ok(())
+    }
+
+    /// Tells what a line comes to that was too long to be taken in.
+    pub fn play_too_long(&mut self, alloc: Global, out: &mut Vec<u8>) -> Result<(), Error> {
+        let effects = self.session.too_long(alloc, &self.directory)?;
+        tell_all(out, &effects)?;
+        Ok(())
+    }
+
+    /// Tells the number of the session's next batch.
+    pub fn tell_reference(&self, alloc: Global, out: &mut Vec<u8>) -> Result<(), Error> {
+        match self.session.facts() {
+            None => out.extend_from_slice(b"no facts\n")?,
+            Some(facts) => {
+                let text = format!(in alloc; "reference {}\n", facts.reference)?;
+                out.extend_from_slice(text.as_bytes())?;
+            }
+        }
+        Ok(())
+    }
 }
