@@ -4,6 +4,6 @@ mod WordLemmas
 mod ChangeLemmas
 mod LineLemmas
 mod GatherLemmas
+mod CutLemmas
 mod WrittenLemmas
-mod TextsLemmas
 pub mod CallerLemmas

@@ -10,13 +10,13 @@ use Rattle.chat_change.specs.declared.change.Change as change
 use Rattle.chat_change.specs.declared.change.Change.TheVariants as change_kind
 use Rattle.gossip_delta.specs.ChangeLine.{read_change}
 use Rattle.gossip_delta.specs.ChangeText.{line_of as change_text, post_words, moment_text}
-use Rattle.gossip_delta.specs.Words.{words_text}
+use Rattle.gossip_delta.specs.Words.{is_space, word, behind, words_text}
 use Rattle.gossip_delta.specs.declared.fault.ChangeLineFault.{ChangeLineFault}
 use Rattle.gossip_delta.proofs.CallerLemmas.{read_back, one_spelling}
 use Rattle.peer_lines.specs.Names.{is_node_name, is_shared_word, same_name}
 use Rattle.peer_lines.specs.Life as parts
 use Rattle.peer_lines.specs.Life.{Life}
-use Rattle.peer_lines.specs.Reading.{is_space, word, behind, number_of, life_of, life_at, behind_life, Span, span_of, span_at, word_at, hello_at, head_with, head_at, ack_with, ack_at}
+use Rattle.peer_lines.specs.Reading.{number_of, life_of, life_at, behind_life, Span, span_of, span_at, word_at, hello_at, head_with, head_at, ack_with, ack_at}
 use Rattle.peer_lines.specs.Spelling.{spaced, life_words, head_words, ack_words, text_of, IsLife, IsHead, IsAck, IsPeerLine, Spells}
 use Rattle.peer_lines.specs.LineReading.{IsReading, IsAnswer, change_or_none, change_at, line_of_kind, line_of}
 use Rattle.peer_lines.specs.declared.packet.TheConstants.{PACKET_LIMIT}

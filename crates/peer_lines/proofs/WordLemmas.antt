@@ -1,69 +1,29 @@
 -- Words that no space stands in, and where a line is cut behind its first word.
-use Rattle.std.proofs.Common.{◌≡◌, ℕ, suc, ◌+◌, ◌^◌, ◌<◌, ◌≤◌, Bool, true, false, cond, ◌||◌, ◌&&◌, Option, Some, None, List, [], ◌∷◌, ◌++◌, length, take, drop, get_or, position, refl, sym, ap, ◌∙◌, subst, arith, length-append}
-use Rattle.std.specs.Prelude.{nat_lt, not, ◌==◌}
-use Rattle.std.specs.List.{list_any, list_all, position_or_len}
+use Rattle.std.proofs.Common.{◌≡◌, ℕ, ◌^◌, ◌<◌, Bool, true, false, ◌||◌, ◌&&◌, List, [], ◌∷◌, ◌++◌, codes, length, refl, sym, ap, ◌∙◌, subst, arith, append_assoc}
+use Rattle.std.specs.Prelude.{nat_lt, not}
+use Rattle.std.specs.List.{list_any, list_all}
 use Rattle.std.specs.Fmt.{decimal}
 use Rattle.std.specs.Str.{all_ascii_digits}
 use Rattle.std.specs.Char.{is_ascii_digit}
 use Rattle.std.proofs.lemmas.Fmt.{decimal_is_IsNumeral, digits_decimal}
 use Rattle.std.proofs.lemmas.Str.Parse.{numerals_by_value, tells_all_ascii_digits}
-use Rattle.std.proofs.lemmas.Bool.{false≢true, lt-ltb, ltb-true, cond-true, cond-false}
+use Rattle.std.proofs.lemmas.Bool.{false≢true, lt-ltb, ltb-true}
 use Rattle.std.proofs.lemmas.Bool.Decides.{nat_tests}
-use Rattle.std.proofs.lemmas.List.{take_at}
-use Rattle.std.proofs.lemmas.List.Sums.{split_at_first, passes_at_first}
 use Rattle.chat_change.specs.Words.{ends_word}
+use Rattle.gossip_delta.specs.Words.{is_space, word, behind}
+use Rattle.gossip_delta.proofs.CallerLemmas.{word_of, behind_of, rejoined}
 use Rattle.peer_lines.specs.Names.{is_node_byte, is_node_name, is_shared_word}
-use Rattle.peer_lines.specs.Reading.{is_space, word, behind, word_to, rest_from}
 
--- ---- a word ends at the first space
-
-place_of_space : (w rest : List ℕ) → list_any is_space w ≡ false → position_or_len is_space (w ++ 32 ∷ rest) ≡ length w
-place_of_space [] rest e = refl
-place_of_space (b ∷ bs) rest e =
-    elim (is_space b) as (λ s. (s || list_any is_space bs) ≡ false → cond (not s) (1 + position_or_len is_space (bs ++ 32 ∷ rest)) 0 ≡ suc (length bs)) [
-      | true ↦ λ f. (cc)
-      | false ↦ λ f. (let r = place_of_space bs rest f in omega (arith, r))
-    ] e
-
-space_at : (w rest : List ℕ) → list_any is_space w ≡ false → position is_space (w ++ 32 ∷ rest) ≡ Some (length w)
-space_at w rest e =
-    let at = place_of_space w rest e in
-    let size = length-append w (32 ∷ rest) in
-    let within : length w < length (w ++ 32 ∷ rest) = omega arith in
-    cond-true _ _ _ (lt-ltb _ _ (subst (λ k. k < length (w ++ 32 ∷ rest)) (sym at) within)) ∙ ap Some at
+-- ---- a word ends at the first space, and what stands behind it was behind one space
 
 pub word_spaced : (w rest : List ℕ) → list_any is_space w ≡ false → word (w ++ 32 ∷ rest) ≡ w
-unfolding word
-word_spaced w rest e = ap (λ o. word_to o (w ++ 32 ∷ rest)) (space_at w rest e) ∙ take_at w (32 ∷ rest) (length w) refl
-
-drop_word : (w rest : List ℕ) → drop (length w + 1) (w ++ 32 ∷ rest) ≡ rest
-drop_word [] rest = refl
-drop_word (b ∷ bs) rest = let e : length (b ∷ bs) + 1 ≡ suc (length bs + 1) = omega arith in ap (λ n. drop n (b ∷ (bs ++ 32 ∷ rest))) e ∙ drop_word bs rest
+word_spaced w rest e = ap word (sym (append_assoc w (codes " ") rest)) ∙ word_of w rest e
 
 pub behind_spaced : (w rest : List ℕ) → list_any is_space w ≡ false → behind (w ++ 32 ∷ rest) ≡ rest
-unfolding behind
-behind_spaced w rest e = ap (λ o. rest_from o (w ++ 32 ∷ rest)) (space_at w rest e) ∙ drop_word w rest
-
--- ---- what stands behind a word was behind one space
-
-space_is : (b : ℕ) → is_space b ≡ true → b ≡ 32
-space_is b e = grind (arith, nat_tests)
+behind_spaced w rest e = ap behind (sym (append_assoc w (codes " ") rest)) ∙ behind_of w rest e
 
 pub spelled_by_words : (bytes : List ℕ) → 0 < length (behind bytes) → word bytes ++ 32 ∷ behind bytes ≡ bytes
-unfolding word behind
-spelled_by_words bytes h = go (nat_lt (position_or_len is_space bytes) (length bytes)) refl where
-  go : (b : Bool) → nat_lt (position_or_len is_space bytes) (length bytes) ≡ b → word bytes ++ 32 ∷ behind bytes ≡ bytes
-  go true t =
-      let within = ltb-true _ _ t in
-      let place : position is_space bytes ≡ Some (position_or_len is_space bytes) = cond-true _ _ _ t in
-      let space = space_is _ (passes_at_first is_space bytes 0 within) in
-      (λ i. word_to (place i) bytes ++ 32 ∷ rest_from (place i) bytes)
-      ∙ ap (λ b. take (position_or_len is_space bytes) bytes ++ b ∷ drop (position_or_len is_space bytes + 1) bytes) (sym space)
-      ∙ sym (split_at_first is_space bytes 0 within)
-  go false t =
-      let place : position is_space bytes ≡ None = cond-false _ _ _ t in
-      let none : length (rest_from (position is_space bytes) bytes) ≡ 0 = ap (λ o. length (rest_from o bytes)) place in
-      let h0 : 0 < 0 = subst (λ n. 0 < n) none h in absurd (omega (arith, h0))
+spelled_by_words bytes h = sym (append_assoc (word bytes) (codes " ") (behind bytes)) ∙ rejoined bytes (lt-ltb 0 (length (behind bytes)) h)
 
 -- ---- words that end nowhere within
 
@@ -75,7 +35,7 @@ any_weaker p q h (b ∷ bs) e =
       | false ↦ λ s. any_weaker p q h bs (elim (p b) as (λ t. (t || list_any p bs) ≡ false → list_any p bs ≡ false) [ true ↦ λ f. (cc) | false ↦ λ f. f ] e)
     ] refl
 
-all_but : (p q : ℕ → Bool) → ((b : ℕ) → p b ≡ true → q b ≡ false) → (w : List ℕ) → list_all p w ≡ true → list_any q w ≡ false
+pub all_but : (p q : ℕ → Bool) → ((b : ℕ) → p b ≡ true → q b ≡ false) → (w : List ℕ) → list_all p w ≡ true → list_any q w ≡ false
 all_but p q h [] e = refl
 all_but p q h (b ∷ bs) e =
     elim (p b) as (λ t. p b ≡ t → (t && list_all p bs) ≡ true → (q b || list_any q bs) ≡ false) [

@@ -2,10 +2,11 @@
 use Rattle.std.specs.Prelude.{ℕ, ◌≡◌, IsTrue, is_some, List, codes, Option, None, Some, Result, Ok, Err, if◌then◌else◌}
 use Rattle.std.specs.Option.{option_map}
 use Rattle.chat_change.specs.declared.change.Change as change
+use Rattle.gossip_delta.specs.Words.{word, behind}
 use Rattle.gossip_delta.specs.ChangeLine.{read_change}
 use Rattle.gossip_delta.specs.declared.fault.ChangeLineFault.{ChangeLineFault}
 use Rattle.peer_lines.specs.Names.{same_name}
-use Rattle.peer_lines.specs.Reading.{word, behind, word_at, hello_at, head_at, ack_at}
+use Rattle.peer_lines.specs.Reading.{word_at, hello_at, head_at, ack_at}
 use Rattle.peer_lines.specs.Spelling.{Spells}
 use Rattle.peer_lines.specs.declared.fault.LinkFault.{LinkFault}
 use Rattle.peer_lines.specs.declared.fault.LinkFault.TheVariants.{BadForm, WrongLife, AckTooHigh, NoMemory, NotTaken, NoEntry}

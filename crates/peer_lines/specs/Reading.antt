@@ -1,42 +1,16 @@
 -- How a line is read: word by word, with one space behind each.
-use Rattle.std.specs.Prelude.{ℕ, ◌+◌, ◌^◌, Bool, ◌&&◌, ◌==◌, List, [], ◌∷◌, take, drop, codes, nat_lt, nat_le, Option, None, Some, position, if◌then◌else◌}
-use Rattle.std.specs.Fmt.{decimal}
-use Rattle.std.specs.Option.{option_map}
-use Rattle.std.specs.Str.Parse.{digits_value}
+use Rattle.std.specs.Prelude.{ℕ, ◌-◌, ◌^◌, Bool, ◌&&◌, List, codes, nat_lt, nat_le, Option, None, Some, if◌then◌else◌}
+use Rattle.gossip_delta.specs.Words.{word, behind}
+use Rattle.gossip_delta.specs.Number.{number_to}
 use Rattle.peer_lines.specs.Names.{is_node_name, is_shared_word, same_name}
 use Rattle.peer_lines.specs.Life.{Life, Head, Ack}
 use Rattle.peer_lines.specs.declared.packet.TheConstants.{PACKET_LIMIT}
 
--- ---- words
-
-abbrev pub is_space : ℕ → Bool
-is_space b = b == 32
-
--- up to a space at that place, or to the end
-abbrev pub word_to : Option ℕ → List ℕ → List ℕ
-word_to None bytes = bytes
-word_to (Some at) bytes = take at bytes
-
-abbrev pub rest_from : Option ℕ → List ℕ → List ℕ
-rest_from None bytes = []
-rest_from (Some at) bytes = drop (at + 1) bytes
-
--- up to the first space, or to the end
-unfoldable pub word : List ℕ → List ℕ
-word bytes = word_to (position is_space bytes) bytes
-
--- behind the first space; nothing where there is none
-unfoldable pub behind : List ℕ → List ℕ
-behind bytes = rest_from (position is_space bytes) bytes
-
 -- ---- values
 
 -- the number of which a text is the decimal digits
-unfoldable pub number_of : List ℕ → Option ℕ
-number_of text =
-    if same_name (decimal (digits_value 10 text)) text && nat_lt (digits_value 10 text) (2 ^ 64)
-    then Some (digits_value 10 text)
-    else None
+abbrev pub number_of : List ℕ → Option ℕ
+number_of text = number_to (2 ^ 64 - 1) text
 
 -- a life by its name and its incarnation
 abbrev pub life_of : List ℕ → Option ℕ → Option Life

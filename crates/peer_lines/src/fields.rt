@@ -1,69 +1,18 @@
 //! The words of a line, and the values that they spell. Nothing here takes memory.
-ghost use Rattle.std.specs.Prelude.{◌≡◌, ℕ, ◌<◌, ◌^◌, true, Some, IfSome};
-ghost use Rattle.std.specs.Fmt.{decimal};
+ghost use Rattle.std.specs.Prelude.{◌≡◌};
 ghost use Rattle.std.specs.Option.{option_map};
-ghost use Rattle.peer_lines.specs.Names.{same_name};
 ghost use Rattle.peer_lines.specs.Reading as spec;
 ghost use Rattle.peer_lines.specs.Fields.{life_value, head_value, ack_value, span_value};
 
 use crate::names::is_node_name;
 use crate::packet::PACKET_LIMIT;
-use byte_search::find_byte;
+use gossip_delta::{is_text, number_to, split_word};
 
-/// Whether both texts are one, byte for byte.
-pub(crate) fn is_same_text(a: &[u8], b: &[u8]) -> bool
-    ensures { result ≡ same_name a.now b.now }
-{
-    a.cmp(b).is_eq()
-}
-
-/// The first word, and what stands behind the one space that ends it.
-#[tactic(auto, unfolding(crate::specs::Reading::word, crate::specs::Reading::behind))]
-pub(crate) fn split_word(bytes: &[u8]) -> (&[u8], &[u8])
-    ensures word { result.0.now ≡ spec.word bytes.now }
-    ensures behind { result.1.now ≡ spec.behind bytes.now }
-{
-    match find_byte(bytes, b' ') {
-        Some(at) => (&bytes[..at], &bytes[at + 1..]),
-        None => (bytes, &bytes[bytes.len()..]),
-    }
-}
-
-// The number that a text spells, with any zeros and with any plus in front.
-fn parsed(text: &[u8]) -> Option<u64>
-    ensures found { (n : ℕ) → n < 2 ^ 64 → text.now ≡ decimal n → result ≡ Some n }
-    ensures fits { IfSome result (λ n. n < 2 ^ 64) }
-{
-    match std::str::from_utf8(text) {
-        Ok(text) => match text.parse::<u64>() {
-            Ok(n) => Some(n),
-            Err(_) => None,
-        },
-        Err(_) => None,
-    }
-}
-
-fn is_decimal_of(n: u64, text: &[u8]) -> bool
-    ensures { result ≡ same_name (decimal n) text.now }
-{
-    let mut buffer = itoa::Buffer::new();
-    is_same_text(buffer.format(n).as_bytes(), text)
-}
-
-/// The number of which the text is the decimal digits, without leading zeros.
+/// The number below 2^64 of which the text is the decimal digits, without leading zeros.
 pub(crate) fn number_of(text: &[u8]) -> Option<u64>
     ensures { result ≡ spec.number_of text.now }
 {
-    match parsed(text) {
-        Some(n) => {
-            if is_decimal_of(n, text) {
-                Some(n)
-            } else {
-                None
-            }
-        }
-        None => None,
-    }
+    number_to(u64::MAX, text)
 }
 
 /// A life in a line: the name of the node, which is one, and the incarnation.
@@ -75,7 +24,8 @@ pub(crate) struct LifeFields<'a> {
 
 /// The life of a name and of the digits of an incarnation.
 fn life_of<'a>(node: &'a [u8], incarnation: &[u8]) -> Option<LifeFields<'a>>
-    ensures { option_map life_value result ≡ spec.life_of node.now (spec.number_of incarnation.now) }
+    ensures { option_map life_value result
+        ≡ spec.life_of node.now (spec.number_of incarnation.now) }
 {
     match number_of(incarnation) {
         None => None,
@@ -136,7 +86,7 @@ pub(crate) fn hello_at<'a>(bytes: &'a [u8]) -> Option<LifeFields<'a>>
 {
     let (version, rest) = split_word(bytes);
     let (node, incarnation) = split_word(rest);
-    if is_same_text(version, b"1") {
+    if is_text(version, b"1") {
         life_of(node, incarnation)
     } else {
         None

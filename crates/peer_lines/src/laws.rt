@@ -1,8 +1,11 @@
 //! Laws of the definitions. Their contracts are the laws, and their bodies are empty.
-ghost use Rattle.std.specs.Prelude.{◌≡◌, ◌++◌, ◌∷◌, [], ℕ, List, None, Some, Ok, Err, length};
+ghost use Rattle.std.specs.Prelude.{◌≡◌, ◌≤◌, ◌++◌, ◌∷◌, [], ℕ, List, None, Some, Ok, Err};
+ghost use Rattle.std.specs.Prelude.{length, map};
 ghost use Rattle.std.specs.List.{All, repeat};
+ghost use Rattle.irc_line.specs.Stream.{items, line, max_line};
 ghost use Rattle.peer_lines.specs.Life.{Packet};
 ghost use Rattle.peer_lines.specs.Spelling.{IsPeerLine, IsPacket, Spells, lines_of};
+ghost use Rattle.peer_lines.specs.Spelling.{text_of, written, packet_text};
 ghost use Rattle.peer_lines.specs.Gather.{Gather, pushed, after, answers};
 ghost use Rattle.peer_lines.specs.declared.fault.LinkFault.{LinkFault};
 ghost use Rattle.peer_lines.specs.declared.peer_line.PeerLine.{PeerLine};
@@ -22,4 +25,14 @@ pub fn packets_arrive()
     ensures whole { (p : Packet) → IsPacket p → after None (lines_of p) ≡ None }
     ensures refused { (g : Gather) (l : PeerLine) (f : LinkFault) →
         (pushed g l).answer ≡ Err f → (pushed g l).gather ≡ None }
+{}
+
+/// What is written is cut into lines again: a `Feeder` of [`irc_line`] makes of a stream just the lines that were written
+/// into it, whatever follows them. Each of them, with its ending, is within the limit of a line of a stream.
+pub fn lines_are_cut_as_they_were_written()
+    ensures line { (l : PeerLine) (rest : List ℕ) → IsPeerLine l →
+        items (written l ++ rest) ≡ line (text_of l) ∷ items rest }
+    ensures packet { (p : Packet) (rest : List ℕ) → IsPacket p →
+        items (packet_text p ++ rest) ≡ map (λ l. line (text_of l)) (lines_of p) ++ items rest }
+    ensures within { (l : PeerLine) → IsPeerLine l → length (written l) ≤ max_line }
 {}

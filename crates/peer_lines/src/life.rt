@@ -1,5 +1,5 @@
 //! Lives of nodes.
-ghost use Rattle.std.specs.Prelude.{◌≡◌, IfOk};
+ghost use Rattle.std.specs.Prelude.{◌≡◌, ◌<◌, ◌^◌, IfOk};
 ghost use Rattle.peer_lines.specs.Names.{same_name};
 
 use crate::names::NodeName;
@@ -24,10 +24,12 @@ impl Model for Life {
 
 impl Life {
     ghost use Rattle.peer_lines.specs.Life as spec;
+    ghost use Rattle.peer_lines.specs.Spelling.{IsLife};
 
     /// The life of a node in an incarnation.
     pub fn new(node: NodeName, incarnation: u64) -> Life
-        ensures { result ≡ record { node = node; incarnation = incarnation } }
+        ensures life { result ≡ record { node = node; incarnation = incarnation } }
+        ensures fits { result.incarnation < 2 ^ 64 }
     {
         Life { node, incarnation }
     }
@@ -48,13 +50,12 @@ impl Life {
 
     /// An equal life.
     pub fn try_clone(&self, alloc: Global) -> Result<Life, NoMemory>
-        ensures { IfOk result (λ copy. copy ≡ self.now) }
+        ensures equal { IfOk result (λ copy. copy ≡ self.now) }
+        ensures lawful { IfOk result IsLife }
     {
+        let incarnation = self.incarnation();
         let node = self.node.try_clone(alloc)?;
-        Ok(Life {
-            node,
-            incarnation: self.incarnation,
-        })
+        Ok(Life { node, incarnation })
     }
 
     /// Whether it is a life of the node of that name.

@@ -4,7 +4,7 @@ ghost use Rattle.std.specs.List.{list_all};
 ghost use Rattle.peer_lines.specs.Names as spec;
 
 use crate::fault::LinkFault;
-use crate::fields::is_same_text;
+use gossip_delta::is_text;
 use memory::{NoMemory, Text};
 use std::alloc::Global;
 use std::marker::Model;
@@ -80,7 +80,8 @@ impl NodeName {
 
     /// An equal name.
     pub fn try_clone(&self, alloc: Global) -> Result<NodeName, NoMemory>
-        ensures { IfOk result (λ copy. copy ≡ self.now) }
+        ensures equal { IfOk result (λ copy. copy ≡ self.now) }
+        ensures lawful { IfOk result (λ copy. spec.is_node_name copy ≡ true) }
     {
         let text = self.text.try_clone(alloc)?;
         Ok(NodeName { text })
@@ -90,6 +91,6 @@ impl NodeName {
     pub fn is_same(&self, other: &NodeName) -> bool
         ensures { result ≡ spec.same_name self.now other.now }
     {
-        is_same_text(self.as_bytes(), other.as_bytes())
+        is_text(self.as_bytes(), other.as_bytes())
     }
 }

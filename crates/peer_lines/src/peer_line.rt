@@ -7,15 +7,13 @@ ghost use Rattle.peer_lines.specs.Reading as spec;
 ghost use Rattle.peer_lines.specs.LineReading as reading;
 
 use crate::fault::LinkFault;
-use crate::fields::{
-    AckFields, HeadFields, LifeFields, ack_at, head_at, hello_at, is_same_text, split_word,
-};
+use crate::fields::{AckFields, HeadFields, LifeFields, ack_at, head_at, hello_at};
 use crate::life::Life;
 use crate::names::NodeName;
 use crate::packet::{Ack, Head};
 use crate::shared_word::{SharedWord, is_shared_word};
 use chat_change::Change;
-use gossip_delta::{ChangeLineFault, read_change};
+use gossip_delta::{ChangeLineFault, is_text, read_change, split_word};
 use memory::NoMemory;
 use std::alloc::Global;
 
@@ -126,13 +124,13 @@ fn read_change_line(alloc: Global, bytes: &[u8]) -> Result<PeerLine, LinkFault>
 fn read_kind(alloc: Global, kind: &[u8], bytes: &[u8], rest: &[u8]) -> Result<PeerLine, LinkFault>
     ensures { reading.IsAnswer (reading.line_of_kind kind.now bytes.now rest.now) result }
 {
-    if is_same_text(kind, b"W") {
+    if is_text(kind, b"W") {
         read_word(alloc, rest)
-    } else if is_same_text(kind, b"H") {
+    } else if is_text(kind, b"H") {
         read_hello(alloc, rest)
-    } else if is_same_text(kind, b"D") {
+    } else if is_text(kind, b"D") {
         read_head(alloc, rest)
-    } else if is_same_text(kind, b"A") {
+    } else if is_text(kind, b"A") {
         read_ack(alloc, rest)
     } else {
         read_change_line(alloc, bytes)

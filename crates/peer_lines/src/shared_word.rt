@@ -5,7 +5,7 @@ ghost use Rattle.chat_change.specs.Words.{ends_word as ends_shared_word};
 ghost use Rattle.peer_lines.specs.Names as spec;
 
 use crate::fault::LinkFault;
-use crate::fields::is_same_text;
+use gossip_delta::is_text;
 use memory::{NoMemory, Text};
 use std::alloc::Global;
 use std::marker::Model;
@@ -85,6 +85,6 @@ impl SharedWord {
     pub fn is_same(&self, other: &SharedWord) -> bool
         ensures { result ≡ spec.same_name self.now other.now }
     {
-        is_same_text(self.as_bytes(), other.as_bytes())
+        is_text(self.as_bytes(), other.as_bytes())
     }
 }

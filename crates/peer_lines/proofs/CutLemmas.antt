@@ -1,0 +1,253 @@
+-- A line that is written has no NUL, CR or LF and is short enough, so that a stream is cut into the lines that were
+-- written into it.
+use Rattle.std.proofs.Common.{◌≡◌, ℕ, suc, ◌+◌, ◌*◌, ◌^◌, ◌<◌, ◌≤◌, Bool, true, false, not, ◌&&◌, ◌||◌, Option, Some, None, List, [], ◌∷◌, ◌++◌, codes, map, length, refl, ap, ◌∙◌, arith, append_assoc, length-append, lit<, lit≤}
+use Rattle.std.specs.Prelude.{nat_lt, nat_le, ◌==◌, IfSome}
+use Rattle.std.specs.Fmt.{decimal}
+use Rattle.std.specs.List.{AllByRecursion, flat_map, list_any, list_all}
+use Rattle.std.proofs.lemmas.Bool.{and_parts, or_parts, leb-true, not-true}
+use Rattle.std.proofs.lemmas.Bool.Decides.{nat_tests}
+use Rattle.std.proofs.lemmas.Fmt.{length-decimal-le}
+use Rattle.std.proofs.lemmas.List.Elements.{recursion_from_All}
+use Rattle.irc_time.specs.Time.{greatest}
+use Rattle.irc_line.specs.Line.{is_bad}
+use Rattle.irc_line.specs.Stream.{items, line, max_line}
+use Rattle.irc_line.specs.CanStand.{HasNoBadByte}
+use Rattle.irc_line.proofs.CallerLemmas.{bytes_cut, good_append}
+use Rattle.chat_change.specs.Words.{has_length_to, is_name_byte, ends_line, ends_word, ends_target, begins_with_colon, is_star, is_name, is_target, is_id, is_body}
+use Rattle.chat_change.specs.Buffer.{Buffer, IsLawfulBuffer}
+use Rattle.chat_change.specs.Message.{Message, IsLawfulMessage, kind_letter, kind_word}
+use Rattle.chat_change.specs.Record.{Record}
+use Rattle.chat_change.specs.Lawful.{IsLawfulRecord, IsLawfulChange}
+use Rattle.chat_change.specs.declared.words.TheConstants.{NAME_LIMIT, TARGET_LIMIT, ID_LIMIT}
+use Rattle.chat_change.specs.declared.message.TheConstants.{LINE_LIMIT}
+use Rattle.chat_change.specs.declared.message.Kind.{Kind}
+use Rattle.chat_change.specs.declared.message.Kind.TheVariants.{Privmsg, Notice}
+use Rattle.chat_change.specs.declared.change.Change as change
+use Rattle.chat_change.specs.declared.change.Change.TheVariants.{Post, Redact, Mark, Floor}
+use Rattle.gossip_delta.specs.Words.{words_text}
+use Rattle.gossip_delta.specs.ChangeText.{line_of as change_text, buffer_words, post_words, moment_text, line_end}
+use Rattle.peer_lines.specs.Names.{is_node_byte, is_node_name, is_shared_word}
+use Rattle.peer_lines.specs.Life as parts
+use Rattle.peer_lines.specs.Life.{Life, Packet}
+use Rattle.peer_lines.specs.Spelling.{spaced, life_words, head_words, ack_words, text_of, IsLife, IsHead, IsAck, IsPeerLine, IsPacket, written, lines_of, packet_text}
+use Rattle.peer_lines.specs.declared.names.TheConstants.{NODE_NAME_LIMIT}
+use Rattle.peer_lines.specs.declared.shared_word.TheConstants.{SHARED_WORD_LIMIT}
+use Rattle.peer_lines.specs.declared.packet.TheConstants.{PACKET_LIMIT}
+use Rattle.peer_lines.specs.declared.peer_line.PeerLine.{PeerLine}
+use Rattle.peer_lines.specs.declared.peer_line.PeerLine.TheVariants.{Word, Hello, Head, Change, Ack}
+use Rattle.peer_lines.proofs.WordLemmas.{IsWord, all_but, name_is_word, shared_is_word, decimal_is_word}
+use Rattle.peer_lines.proofs.GatherLemmas.{packet_lines}
+
+-- ---- texts that may stand in a line
+
+-- no NUL, CR or LF, and no more than so many bytes
+record Stands (most : ℕ) (text : List ℕ) : Type 0 where
+  good : HasNoBadByte text
+  short : length text ≤ most
+
+stands-append : (m n : ℕ) (xs ys : List ℕ) → Stands m xs → Stands n ys → Stands (m + n) (xs ++ ys)
+stands-append m n xs ys p q = record {
+  good = good_append xs ys p.good q.good;
+  short = (let a = p.short in let b = q.short in omega (arith, length-append xs ys));
+}
+
+stands_to : (m n : ℕ) (text : List ℕ) → m ≤ n → Stands m text → Stands n text
+stands_to m n text l p = record { good = p.good; short = (let a = p.short in omega arith) }
+
+-- words with a space behind each
+words_stand : (ws : List (List ℕ)) → AllByRecursion (Stands 255) ws → Stands (256 * length ws) (words_text ws)
+words_stand [] all = record { good = refl; short = omega arith }
+words_stand (w ∷ ws) all =
+    let rest = words_stand ws all.1 in
+    let here = stands-append 255 1 w (codes " ") all.0 (record { good = refl; short = lit≤ tt }) in
+    let both = stands-append (255 + 1) (256 * length ws) (w ++ codes " ") (words_text ws) here rest in
+    record { good = both.good; short = (let s = both.short in omega arith) }
+
+-- words with a space between them
+spaced_stand : (ws : List (List ℕ)) → AllByRecursion (Stands 255) ws → Stands (256 * length ws) (spaced ws)
+spaced_stand [] all = record { good = refl; short = omega arith }
+spaced_stand (w ∷ []) all = stands_to 255 (256 * length (w ∷ [])) w (omega arith) all.0
+spaced_stand (w ∷ v ∷ ws) all =
+    let rest = spaced_stand (v ∷ ws) all.1 in
+    let behind : Stands (1 + 256 * length (v ∷ ws)) (32 ∷ spaced (v ∷ ws)) =
+    record { good = rest.good; short = (let s = rest.short in omega arith) } in
+    let both = stands-append 255 (1 + 256 * length (v ∷ ws)) w (32 ∷ spaced (v ∷ ws)) all.0 behind in
+    record { good = both.good; short = (let s = both.short in omega arith) }
+
+-- ---- the words of lines
+
+any_weaker : (p q : ℕ → Bool) → ((b : ℕ) → p b ≡ false → q b ≡ false) → (text : List ℕ) → list_any p text ≡ false → list_any q text ≡ false
+any_weaker p q h [] e = refl
+any_weaker p q h (b ∷ text) e =
+    let both = or_parts (p b) (list_any p text) e in
+    (λ i. h b both.0 i || any_weaker p q h text both.1 i)
+
+word_good : (text : List ℕ) → list_any ends_word text ≡ false → HasNoBadByte text
+word_good text e = any_weaker ends_word is_bad (λ b f. (or_parts (ends_line b) (b == 32) f).0) text e
+
+short_to : (most : ℕ) (text : List ℕ) → has_length_to most text ≡ true → length text ≤ most
+short_to most text e = leb-true (length text) most (and_parts (nat_lt 0 (length text)) (nat_le (length text) most) e).1
+
+name_byte_good : (b : ℕ) → is_name_byte b ≡ true → is_bad b ≡ false
+name_byte_good b e = grind (arith, nat_tests)
+
+name_stands : (text : List ℕ) → is_name text ≡ true → Stands 255 text
+name_stands text e =
+    let both = and_parts (has_length_to NAME_LIMIT text) (list_all is_name_byte text) e in
+    stands_to NAME_LIMIT 255 text (lit≤ tt)
+    (record { good = all_but is_name_byte is_bad name_byte_good text both.1; short = short_to NAME_LIMIT text both.0 })
+
+target_stands : (text : List ℕ) → is_target text ≡ true → Stands 255 text
+target_stands text e =
+    let a = and_parts (has_length_to TARGET_LIMIT text && not (list_any ends_target text) && not (begins_with_colon text)) (not (is_star text)) e in
+    let b = and_parts (has_length_to TARGET_LIMIT text && not (list_any ends_target text)) (not (begins_with_colon text)) a.0 in
+    let c = and_parts (has_length_to TARGET_LIMIT text) (not (list_any ends_target text)) b.0 in
+    stands_to TARGET_LIMIT 255 text (lit≤ tt)
+    (record {
+      good = word_good text (any_weaker ends_target ends_word (λ b f. (or_parts (ends_word b) (b == 44) f).0) text (not-true (list_any ends_target text) c.1));
+      short = short_to TARGET_LIMIT text c.0;
+    })
+
+-- an id, and a source
+id_stands : (text : List ℕ) → is_id text ≡ true → Stands 255 text
+id_stands text e =
+    let a = and_parts (has_length_to ID_LIMIT text && not (list_any ends_word text)) (not (begins_with_colon text)) e in
+    let b = and_parts (has_length_to ID_LIMIT text) (not (list_any ends_word text)) a.0 in
+    record { good = word_good text (not-true (list_any ends_word text) b.1); short = short_to ID_LIMIT text b.0 }
+
+decimal_stands : (n : ℕ) → n < 2 ^ 64 → Stands 255 (decimal n)
+decimal_stands n h = stands_to 20 255 (decimal n) (lit≤ tt)
+    (record { good = word_good (decimal n) (decimal_is_word n h).whole; short = length-decimal-le 20 n (lit< tt) (omega (arith, h)) h })
+
+node_stands : (text : List ℕ) → is_node_name text ≡ true → Stands 255 text
+node_stands text e = stands_to NODE_NAME_LIMIT 255 text (lit≤ tt)
+    (record {
+      good = word_good text (name_is_word text e).whole;
+      short = short_to NODE_NAME_LIMIT text (and_parts (has_length_to NODE_NAME_LIMIT text) (list_all is_node_byte text) e).0;
+    })
+
+shared_stands : (text : List ℕ) → is_shared_word text ≡ true → Stands 255 text
+shared_stands text e = stands_to SHARED_WORD_LIMIT 255 text (lit≤ tt)
+    (record {
+      good = word_good text (shared_is_word text e).whole;
+      short = short_to SHARED_WORD_LIMIT text (and_parts (has_length_to SHARED_WORD_LIMIT text) (not (list_any ends_word text)) e).0;
+    })
+
+letter_stands : (k : Kind) → Stands 255 (kind_letter k ∷ [])
+letter_stands Privmsg = record { good = refl; short = lit≤ tt }
+letter_stands Notice = record { good = refl; short = lit≤ tt }
+
+-- ---- the lines of changes
+
+second_shorter : (xs ys : List ℕ) (most : ℕ) → length (xs ++ ys) ≤ most → length ys ≤ most
+second_shorter xs ys most l = omega (arith, length-append xs ys)
+
+body_short : (m : Message) → IsLawfulMessage m → length m.body ≤ LINE_LIMIT
+body_short m is =
+    let behind_source = second_shorter m.source (codes " " ++ (kind_word m.kind ++ (codes " " ++ (m.target ++ (codes " :" ++ m.body))))) LINE_LIMIT
+    (second_shorter (codes ":") _ LINE_LIMIT is.within_limit) in
+    let behind_kind = second_shorter (kind_word m.kind) (codes " " ++ (m.target ++ (codes " :" ++ m.body))) LINE_LIMIT
+    (second_shorter (codes " ") _ LINE_LIMIT behind_source) in
+    let behind_target = second_shorter m.target (codes " :" ++ m.body) LINE_LIMIT
+    (second_shorter (codes " ") _ LINE_LIMIT behind_kind) in
+    second_shorter (codes " :") m.body LINE_LIMIT behind_target
+
+moment_fits : (t : ℕ) → t ≤ greatest → t < 2 ^ 64
+moment_fits t h = omega (arith, h)
+
+moment_stands : (at : Option ℕ) → IfSome at (λ t. t ≤ greatest) → Stands 255 (moment_text at)
+moment_stands None h = record { good = refl; short = lit≤ tt }
+moment_stands (Some t) h = decimal_stands t (moment_fits t h)
+
+-- the words by which a change's line begins
+buffer_words_stand : (b : Buffer) (kind : List ℕ) (more : List (List ℕ)) → IsLawfulBuffer b → Stands 255 kind → AllByRecursion (Stands 255) more
+    → AllByRecursion (Stands 255) (buffer_words kind b more)
+buffer_words_stand b kind more is k all = (record { good = refl; short = lit≤ tt }, (k, (name_stands b.account is.account, (name_stands b.network is.network, (target_stands b.target is.target, all)))))
+
+post_words_stand : (r : Record) → IsLawfulRecord r → AllByRecursion (Stands 255) (post_words r)
+post_words_stand r is = (
+  id_stands r.id is.id,
+  (
+    decimal_stands r.at (moment_fits r.at is.at),
+    (
+      letter_stands r.message.kind,
+      (target_stands r.message.target is.message.lawful_target, (id_stands r.message.source is.message.lawful_source, tt)),
+    ),
+  ),
+)
+
+body_stands : (m : Message) → IsLawfulMessage m → Stands 511 (58 ∷ m.body)
+body_stands m is = record { good = not-true (list_any ends_line m.body) is.lawful_body; short = (let l = body_short m is in omega arith) }
+
+-- the words of a line, and what stands behind them
+line_stands : (ws : List (List ℕ)) (last : List ℕ) → length ws ≤ 10 → AllByRecursion (Stands 255) ws → Stands 511 last → Stands 8000 (words_text ws ++ last)
+line_stands ws last l all p =
+    stands_to (256 * length ws + 511) 8000 (words_text ws ++ last) (omega arith) (stands-append (256 * length ws) 511 (words_text ws) last (words_stand ws all) p)
+
+change_stands : (c : change.Change) → IsLawfulChange c → Stands 8000 (change_text c)
+change_stands (Post r) is =
+    line_stands (buffer_words (codes "POST") r.buffer (post_words r)) (58 ∷ r.message.body) (lit≤ tt)
+    (buffer_words_stand r.buffer (codes "POST") (post_words r) is.buffer (record { good = refl; short = lit≤ tt }) (post_words_stand r is))
+    (body_stands r.message is.message)
+change_stands (Redact b m at) is =
+    line_stands (buffer_words (codes "REDACT") b (m ∷ [])) (moment_text at) (lit≤ tt)
+    (buffer_words_stand b (codes "REDACT") (m ∷ []) is.0 (record { good = refl; short = lit≤ tt }) (id_stands m is.1, tt))
+    (stands_to 255 511 (moment_text at) (lit≤ tt) (moment_stands at is.2))
+change_stands (Mark b at) is =
+    line_stands (buffer_words (codes "MARK") b []) (decimal at) (lit≤ tt)
+    (buffer_words_stand b (codes "MARK") [] is.0 (record { good = refl; short = lit≤ tt }) tt)
+    (stands_to 255 511 (decimal at) (lit≤ tt) (decimal_stands at (moment_fits at is.1)))
+change_stands (Floor b at) is =
+    line_stands (buffer_words (codes "FLOOR") b []) (decimal at) (lit≤ tt)
+    (buffer_words_stand b (codes "FLOOR") [] is.0 (record { good = refl; short = lit≤ tt }) tt)
+    (stands_to 255 511 (decimal at) (lit≤ tt) (decimal_stands at (moment_fits at is.1)))
+
+-- ---- the lines of a peer
+
+life_stands : (l : Life) (more : List (List ℕ)) → IsLife l → AllByRecursion (Stands 255) more → AllByRecursion (Stands 255) (life_words l more)
+life_stands l more is all = (node_stands l.node is.node, (decimal_stands l.incarnation is.incarnation, all))
+
+few_stand : (ws : List (List ℕ)) → length ws ≤ 10 → AllByRecursion (Stands 255) ws → Stands 8000 (spaced ws)
+few_stand ws l all = stands_to (256 * length ws) 8000 (spaced ws) (omega arith) (spaced_stand ws all)
+
+letter : (b : ℕ) → is_bad b ≡ false → Stands 255 (b ∷ [])
+letter b e = record { good = ap (λ t. t || false) e; short = omega arith }
+
+text_stands : (l : PeerLine) → IsPeerLine l → Stands 8000 (text_of l)
+text_stands (Word word) is = few_stand (codes "W" ∷ word ∷ []) (lit≤ tt) (letter 87 refl, (shared_stands word is, tt))
+text_stands (Hello life) is = few_stand (codes "H" ∷ codes "1" ∷ life_words life []) (lit≤ tt) (letter 72 refl, (letter 49 refl, life_stands life [] is tt))
+text_stands (Head head) is =
+    let rising = is.rising in
+    let number = is.number in
+    let within = is.within in
+    let numbers = decimal head.from ∷ decimal head.to ∷ decimal head.count ∷ [] in
+    let stand : AllByRecursion (Stands 255) numbers =
+    (decimal_stands head.from (omega arith), (decimal_stands head.to number, (decimal_stands head.count (omega arith), tt))) in
+    few_stand (codes "D" ∷ head_words head) (lit≤ tt)
+    (letter 68 refl, life_stands head.sender (life_words head.receiver numbers) is.sender (life_stands head.receiver numbers is.receiver stand))
+text_stands (Change c) is = change_stands c is
+text_stands (Ack ack) is =
+    few_stand (codes "A" ∷ ack_words ack) (lit≤ tt) (
+      letter 65 refl,
+      life_stands ack.sender (life_words ack.receiver (decimal ack.upto ∷ [])) is.sender
+          (life_stands ack.receiver (decimal ack.upto ∷ []) is.receiver (decimal_stands ack.upto is.number, tt)),
+    )
+
+-- ---- the stream is cut
+
+pub line_fits : (l : PeerLine) → IsPeerLine l → length (written l) ≤ max_line
+line_fits l is = (let s = (text_stands l is).short in omega (arith, length-append (text_of l) line_end))
+
+pub line_cut : (l : PeerLine) (rest : List ℕ) → IsPeerLine l → items (written l ++ rest) ≡ line (text_of l) ∷ items rest
+line_cut l rest is =
+    let s = text_stands l is in
+    ap items (append_assoc (text_of l) line_end rest) ∙ bytes_cut (text_of l) rest s.good (let m = s.short in omega arith)
+
+lines_cut : (ls : List PeerLine) (rest : List ℕ) → AllByRecursion IsPeerLine ls → items (flat_map written ls ++ rest) ≡ map (λ l. line (text_of l)) ls ++ items rest
+lines_cut [] rest all = refl
+lines_cut (l ∷ ls) rest all =
+    ap items (append_assoc (written l) (flat_map written ls) rest) ∙ line_cut l (flat_map written ls ++ rest) all.0
+    ∙ ap (λ is. line (text_of l) ∷ is) (lines_cut ls rest all.1)
+
+pub packet_cut : (p : Packet) (rest : List ℕ) → IsPacket p → items (packet_text p ++ rest) ≡ map (λ l. line (text_of l)) (lines_of p) ++ items rest
+packet_cut p rest is = lines_cut (lines_of p) rest (recursion_from_All IsPeerLine (lines_of p) (packet_lines p is))
