@@ -12,16 +12,16 @@ use Rattle.gossip_link.specs.Promises.{Knows}
 use Rattle.peer_lines.proofs.CallerLemmas.{same_name_is, same_name_itself}
 use Rattle.gossip_link.proofs.NameLemmas.{changed_here}
 
-apart : (a b : List ℕ) → a ≢ b → same_name a b ≡ false
+pub apart : (a b : List ℕ) → a ≢ b → same_name a b ≡ false
 apart a b ne = elim (same_name a b) as (λ t. same_name a b ≡ t → t ≡ false) [ true ↦ λ e. absurd (ne (same_name_is a b e)) | false ↦ λ _. refl ] refl
 
-equal_itself : (n : ℕ) → (n == n) ≡ true
+pub equal_itself : (n : ℕ) → (n == n) ≡ true
 equal_itself n = grind (arith, nat_tests)
 
-changed_there : {A : Type 0} (f : List ℕ → A) (name other : List ℕ) (x : A) → same_name name other ≡ false → with_value f name x other ≡ f other
+pub changed_there : {A : Type 0} (f : List ℕ → A) (name other : List ℕ) (x : A) → same_name name other ≡ false → with_value f name x other ≡ f other
 changed_there f name other x e = ap (λ b. cond b x (f other)) e
 
-same_life_itself : (l : Life) → same_life l l ≡ true
+pub same_life_itself : (l : Life) → same_life l l ≡ true
 same_life_itself l = ap (λ b. b && (l.incarnation == l.incarnation)) (same_name_itself l.node) ∙ equal_itself l.incarnation
 
 module _ (w : World) (name peer : List ℕ) (differ : name ≢ peer) (knows : Knows w name peer) (enough : (w.nodes name).used peer ≤ length (w.nodes name).taken) where

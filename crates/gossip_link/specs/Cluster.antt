@@ -109,7 +109,8 @@ with_packet w name peer count None = w
 with_packet w name peer count (Some p) =
     let x = w.nodes name in
     record w {
-      nodes = with_value w.nodes name (with_used (with_peer x peer (after_packet (x.peers peer) p)) peer count);
+      nodes = with_value w.nodes name
+          (with_used (with_peer x peer (after_packet (x.peers peer) p)) peer count);
       packets = p ∷ w.packets;
     }
 
@@ -120,7 +121,8 @@ send w name peer first =
     let x = w.nodes name in
     let p = x.peers peer in
     if nat_le (x.used peer) (length first)
-    then with_packet w name peer (length first) (packet_of (life name x) peer p.heard (delta 0 first p.acked))
+    then with_packet w name peer (length first)
+    (packet_of (life name x) peer p.heard (delta 0 first p.acked))
     else w
 
 abbrev pub packet_comes : World → List ℕ → List ℕ → Option Packet → World

@@ -1,8 +1,13 @@
 -- What a node knows of a peer, and what each message does to it.
 use Rattle.std.specs.Prelude.{ℕ, max, Bool, true, false, not, ◌&&◌, ◌||◌, ◌==◌, Option, Some, None, List, length, nat_lt, if◌then◌else◌}
+use Rattle.std.specs.Option.{IfSome}
+use Rattle.std.specs.List.{AllByRecursion}
+use Rattle.chat_change.specs.declared.change.Change.{Change}
+use Rattle.chat_change.specs.Lawful.{IsLawfulChange}
 use Rattle.chat_history.specs.Numbering.{Delta}
 use Rattle.peer_lines.specs.Life.{Life, Packet, Ack, same_life}
 use Rattle.peer_lines.specs.Names.{same_name}
+use Rattle.peer_lines.specs.Spelling.{IsPacket}
 
 pub record Peer : Type 0 where
   pub heard : Option ℕ  -- the peer's incarnation, where a hello told of it
@@ -54,6 +59,10 @@ packet_of me name (Some i) d =
 
 abbrev pub after_packet : Peer → Packet → Peer
 after_packet p packet = record { heard = p.heard; acked = p.acked; sent = max p.sent packet.to }
+
+-- a packet that is made of lawful changes may be written
+abbrev pub MayBeWritten : List Change → Option Packet → Type 0
+MayBeWritten taken packet = AllByRecursion IsLawfulChange taken → IfSome packet IsPacket
 
 -- where there was none, nothing is sent
 abbrev pub after_make : Peer → Option Packet → Peer

@@ -7,7 +7,7 @@ ghost use Rattle.gossip_delta.specs.Growth.{AfterOthers};
 ghost use Rattle.peer_lines.specs.Names.{same_name};
 ghost use Rattle.gossip_link.specs.Peer.{unheard, is_news, is_older, is_known};
 ghost use Rattle.gossip_link.specs.Peer.{hello_is_wrong, hello_is_news, after_hello};
-ghost use Rattle.gossip_link.specs.Peer.{packet_of, after_make, packet_is_mine, ack_of};
+ghost use Rattle.gossip_link.specs.Peer.{packet_of, after_make, packet_is_mine, ack_of, MayBeWritten};
 ghost use Rattle.gossip_link.specs.Peer.{ack_is_mine, ack_is_too_high, after_ack};
 
 use gossip_delta::{DeltaFault, Source, Taker};
@@ -148,6 +148,8 @@ impl Link {
     /// heard or nothing is newer. What was acknowledged stays so until an acknowledgement comes: a packet that is lost is
     /// made again.
     ///
+    /// A packet has 1 to 256 changes, and its `from` is below its `to`, so that its lines read back.
+    ///
     /// Refused with [`LinkFault::NoEntry`] or [`LinkFault::NoMemory`], where the source was or where there was no memory
     /// for the packet; the link stays as it was.
     pub fn make<S: Source>(
@@ -159,6 +161,9 @@ impl Link {
             AfterOthers S.holds S.may_add source.old (λ start all. S.holds source.new start all
             × (packet ≡ packet_of self.old.me self.old.name self.old.peer.heard
             (delta start all self.old.peer.acked)))) }
+        ensures writable { IfOk result (λ packet. IsTrue (is_some self.old.peer.heard) →
+            AfterOthers S.holds S.may_add source.old (λ start all. S.holds source.new start all
+            × MayBeWritten all packet)) }
         ensures unheard { self.old.peer.heard ≡ None →
             (result ≡ Ok None) × (source.new ≡ source.old) }
         ensures known { IfOk result (λ packet. self.new
