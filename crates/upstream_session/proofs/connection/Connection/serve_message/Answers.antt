@@ -1,0 +1,20 @@
+use Rattle.std.proofs.Common.{◌≡◌, ◌<◌, ◌∙◌, ℕ, List, [], ◌∷◌, length, map, refl, sym, ap, arith}
+use Rattle.std.proofs.lemmas.List.{length-map}
+use Rattle.irc_line.specs.Line.{Reading}
+use Rattle.chat_change.specs.declared.message.Kind.{Kind}
+use Rattle.upstream_session.specs.declared.connection.Connection.{Connection}
+use Rattle.upstream_session.specs.Step.{stays}
+use Rattle.upstream_session.specs.Rows.{pass_on, message}
+use Rattle.upstream_session.proofs.connection.Connection.serve_message.Goals as goal
+
+too_few : (u : Connection) (now : ℕ) (kind : Kind) (line : Reading) (bytes : List ℕ) (ps : List (List ℕ)) → length ps < 2
+    → message u now kind line bytes ps ≡ stays u (pass_on u line bytes)
+too_few u now kind line bytes [] h = refl
+too_few u now kind line bytes (a ∷ []) h = refl
+too_few u now kind line bytes (a ∷ b ∷ more) h = absurd (omega arith)
+
+pub returns-in_ok-list-in_default : goal.returns-in_ok-list-in_default
+returns-in_ok-list-in_default c =
+    let n = length-map c.args.parameters.now (λ p. p.now) in
+    let e = too_few c.args.self.now c.args.now c.args.kind c.args.line.now c.args.bytes.now (map (λ p. p.now) c.args.parameters.now) (omega (arith, n)) in
+    ap (λ l. stays c.args.self.now l) c.in_ok-list-in_default.ensures ∙ sym e

@@ -1,0 +1,122 @@
+-- Lists of what happens to a session: lines of the server, and lines of clients that go to it.
+use Rattle.std.specs.Prelude.{◌≡◌, ◌⊎◌, ℕ, ◌+◌, ◌==◌, List, [], ◌∷◌, ◌++◌, Option, None, Some, Result, Ok, Err, if◌then◌else◌}
+use Rattle.irc_line.specs.declared.line.LineFault.{LineFault}
+use Rattle.irc_line.specs.declared.line.TagLimit.TheVariants.{Server}
+use Rattle.irc_line.specs.Line.{Reading}
+use Rattle.irc_line.specs.Read.{read}
+use Rattle.chat_change.specs.Buffer.{Buffer}
+use Rattle.chat_change.specs.declared.change.Change.{Change}
+use Rattle.chat_change.specs.declared.change.Change.TheVariants.{Post, Redact, Mark, Floor}
+use Rattle.upstream_session.specs.Command.{command_of}
+use Rattle.upstream_session.specs.declared.command.Command.TheVariants.{Welcome}
+use Rattle.upstream_session.specs.declared.connection.Home.{Home}
+use Rattle.upstream_session.specs.declared.connection.Connection.{Connection}
+use Rattle.upstream_session.specs.declared.effect.UpEffect.{UpEffect}
+use Rattle.upstream_session.specs.declared.effect.UpEffect.TheVariants.{Send, Put, Relay, Close}
+use Rattle.upstream_session.specs.Messages.{made_text, stamp_of}
+use Rattle.upstream_session.specs.Step.{Step}
+use Rattle.upstream_session.specs.Session.{step, say}
+
+-- each with its moment
+pub data Event : Type 0 where
+  Line : (now : ℕ) (bytes : List ℕ) → Event
+  Saying : (now : ℕ) (bytes : List ℕ) → Event
+
+abbrev pub step_by : Connection → Event → Step
+step_by u (Line now bytes) = step u now bytes
+step_by u (Saying now bytes) = say u now bytes
+
+abbrev pub after : Connection → Event → Connection
+after u event = (step_by u event).session
+
+abbrev pub effects_of : Connection → Event → List UpEffect
+effects_of u event = (step_by u event).effects
+
+-- the session after a list of events
+abbrev pub run : Connection → List Event → Connection
+run u [] = u
+run u (event ∷ events) = run (after u event) events
+
+-- all that its caller does for it
+abbrev pub all_effects : Connection → List Event → List UpEffect
+all_effects u [] = []
+all_effects u (event ∷ events) = effects_of u event ++ all_effects (after u event) events
+
+-- ---- changes
+
+abbrev pub IsIn : Home → Buffer → Type 0
+IsIn home buffer = (buffer.account ≡ home.account) × (buffer.network ≡ home.network)
+
+-- a post or a redaction in a buffer of the account and the network
+abbrev pub IsOwnChange : Home → Change → Type 0
+IsOwnChange home (Post r) = IsIn home r.buffer
+IsOwnChange home (Redact buffer id at) = IsIn home buffer
+IsOwnChange home (Mark buffer at) = ⊥
+IsOwnChange home (Floor buffer at) = ⊥
+
+abbrev pub IsOwnEffect : Home → UpEffect → Type 0
+IsOwnEffect home (Put change) = IsOwnChange home change
+IsOwnEffect home _ = Unit {0}
+
+-- ---- before the network is up
+
+-- a line to the server, or the end
+abbrev pub IsUnheard : UpEffect → Type 0
+IsUnheard (Send bytes) = Unit {0}
+IsUnheard (Put change) = ⊥
+IsUnheard (Relay bytes to) = ⊥
+IsUnheard Close = Unit {0}
+
+abbrev pub IsWelcomeRead : Result Reading LineFault → Type 0
+IsWelcomeRead (Err fault) = ⊥
+IsWelcomeRead (Ok line) = command_of line.command ≡ Welcome
+
+-- the server welcomes the session
+abbrev pub IsWelcome : Event → Type 0
+IsWelcome (Line now bytes) = IsWelcomeRead (read Server bytes)
+IsWelcome (Saying now bytes) = ⊥
+
+-- ---- made ids
+
+-- the id that a line of the server bears, if it can be one
+abbrev pub id_read : Result Reading LineFault → Option (List ℕ)
+id_read (Err fault) = None
+id_read (Ok line) = (stamp_of line.tags 0).id
+
+abbrev pub id_given : Event → Option (List ℕ)
+id_given (Line now bytes) = id_read (read Server bytes)
+id_given (Saying now bytes) = None
+
+-- The post has the id that the line bears, and no serial number is used; or it has the one that is made of the serial
+-- number, and the next one is greater by one.
+abbrev pub HasOwnId : Connection → Connection → Option (List ℕ) → List ℕ → Type 0
+HasOwnId old new given id =
+    ((given ≡ Some id) × (new.serial ≡ old.serial))
+    ⊎ ((id ≡ made_text old.home old.serial) × (new.serial ≡ old.serial + 1))
+
+abbrev pub IsIdOf : Connection → Connection → Option (List ℕ) → UpEffect → Type 0
+IsIdOf old new given (Put (Post r)) = HasOwnId old new given r.id
+IsIdOf old new given _ = Unit {0}
+
+-- the post of that id is among the effects
+abbrev pub HasPost : List ℕ → List UpEffect → Type 0
+HasPost id [] = ⊥
+HasPost id (Put (Post r) ∷ effects) = (r.id ≡ id) ⊎ HasPost id effects
+HasPost id (_ ∷ effects) = HasPost id effects
+
+-- the id that an event makes, if its serial number was used
+abbrev pub ids_made_by : Connection → Event → List (List ℕ)
+ids_made_by u event =
+    if (after u event).serial == u.serial then [] else made_text u.home u.serial ∷ []
+
+-- the ids that a session makes in a list of events
+abbrev pub ids_made : Connection → List Event → List (List ℕ)
+ids_made u [] = []
+ids_made u (event ∷ events) = ids_made_by u event ++ ids_made (after u event) events
+
+-- ---- the end
+
+abbrev pub HasClose : List UpEffect → Type 0
+HasClose [] = ⊥
+HasClose (Close ∷ effects) = Unit {0}
+HasClose (_ ∷ effects) = HasClose effects

@@ -1,0 +1,87 @@
+-- What a session makes of a message: its source, the conversation that it belongs to, its id and its moment.
+use Rattle.std.specs.Prelude.{ℕ, Bool, ◌&&◌, ◌==◌, List, ◌++◌, codes, unwrap_or, Option, None, Some, if◌then◌else◌}
+use Rattle.std.specs.List.{before_first}
+use Rattle.std.specs.Str.{str_eq_ignore_ascii_case}
+use Rattle.std.specs.Fmt.{decimal}
+use Rattle.irc_tags.specs.TagList.{Tag, tag_list, value_at}
+use Rattle.irc_time.specs.Reading.{time_of}
+use Rattle.chat_change.specs.Words.{is_name, is_target, is_id}
+use Rattle.chat_change.specs.Buffer.{buffer_of}
+use Rattle.chat_change.specs.Message.{Message}
+use Rattle.chat_change.specs.Faults.{is_message}
+use Rattle.chat_change.specs.declared.change.Change.TheVariants.{Post}
+use Rattle.upstream_session.specs.declared.connection.Home.{Home}
+use Rattle.upstream_session.specs.declared.connection.Connection.{Connection}
+use Rattle.upstream_session.specs.declared.messages.Stamp.{Stamp}
+use Rattle.upstream_session.specs.declared.effect.UpEffect.{UpEffect}
+use Rattle.upstream_session.specs.declared.effect.UpEffect.TheVariants.{Put}
+
+-- ---- nicks
+
+-- the nick of a source stands before its `!`
+abbrev pub nick_of : List ℕ → List ℕ
+nick_of source = before_first (λ b. b == 33) source
+
+-- nicks are compared without regard to case
+abbrev pub is_same_nick : List ℕ → List ℕ → Bool
+is_same_nick nick other = str_eq_ignore_ascii_case nick other
+
+-- the source is the session itself, by its present nick
+abbrev pub is_own : Connection → List ℕ → Bool
+is_own u source = is_same_nick (nick_of source) u.entry.nick
+
+-- a line without a source comes from the network
+abbrev pub source_of : Connection → Option (List ℕ) → List ℕ
+source_of u source = unwrap_or source u.home.network
+
+-- a message to the present nick belongs to the conversation with whoever sent it
+abbrev pub conversation : Connection → List ℕ → List ℕ → List ℕ
+conversation u source target = if is_same_nick target u.entry.nick then nick_of source else target
+
+-- the conversation has a buffer
+abbrev pub has_buffer : Home → List ℕ → Bool
+has_buffer home target = is_name home.account && (is_name home.network && is_target target)
+
+-- the message is one that can be kept
+abbrev pub can_be_kept : Connection → Message → Bool
+can_be_kept u m = has_buffer u.home (conversation u m.source m.target) && is_message m
+
+-- ---- ids and moments (IRCv3 message-ids and server-time)
+
+abbrev pub id_if : Option (List ℕ) → Option (List ℕ)
+id_if None = None
+id_if (Some text) = if is_id text then Some text else None
+
+abbrev pub moment_if : Option (List ℕ) → ℕ → ℕ
+moment_if None now = now
+moment_if (Some text) now = unwrap_or (time_of text) now
+
+-- The tag `msgid` gives the id, where it can be one, and the tag `time` the moment, where it is one; else it is now.
+abbrev pub stamp_in : List Tag → ℕ → Stamp
+stamp_in tags now = record {
+  id = id_if (value_at (codes "msgid") tags);
+  at = moment_if (value_at (codes "time") tags) now;
+}
+
+abbrev pub stamp_of : Option (List ℕ) → ℕ → Stamp
+stamp_of None now = record { id = None; at = now }
+stamp_of (Some text) now = stamp_in (tag_list text) now
+
+-- an id that this node makes: its name, its incarnation and a serial number that it uses once
+abbrev pub made_text : Home → ℕ → List ℕ
+made_text home serial =
+    home.node ++ (codes "-" ++ (decimal home.incarnation ++ (codes "-" ++ decimal serial)))
+
+-- none where the node's name can't stand in an id
+abbrev pub made_id : Home → ℕ → Option (List ℕ)
+made_id home serial = id_if (Some (made_text home serial))
+
+-- ---- records
+
+abbrev pub post : Connection → List ℕ → ℕ → Message → UpEffect
+post u id at m = Put (Post (record {
+  buffer = buffer_of u.home.account u.home.network (conversation u m.source m.target);
+  id = id;
+  at = at;
+  message = m;
+}))

@@ -1,0 +1,36 @@
+-- The calls of a session with a server.
+use Rattle.std.specs.Prelude.{ℕ, List, [], ◌∷◌, Result, Ok, Err, if◌then◌else◌}
+use Rattle.irc_line.specs.declared.line.LineFault.{LineFault}
+use Rattle.irc_line.specs.declared.line.TagLimit.TheVariants.{Server}
+use Rattle.irc_line.specs.Line.{Reading}
+use Rattle.irc_line.specs.Read.{read}
+use Rattle.upstream_session.specs.Command.{command_of}
+use Rattle.upstream_session.specs.declared.connection.Connection.{Connection}
+use Rattle.upstream_session.specs.declared.effect.UpEffect.{UpEffect}
+use Rattle.upstream_session.specs.declared.effect.UpEffect.TheVariants.{Send}
+use Rattle.upstream_session.specs.Step.{Step, stays}
+use Rattle.upstream_lines.specs.Lines.{ls_line, nick_line, user_line}
+use Rattle.upstream_session.specs.Rows.{serve}
+use Rattle.upstream_session.specs.Sayings.{without_ending, say_line}
+
+-- the lines that open a session
+abbrev pub opening : Connection → List UpEffect
+opening u =
+    Send ls_line ∷ Send (nick_line u.entry.nick) ∷ Send (user_line u.home.user) ∷ []
+
+abbrev pub start : Connection → List UpEffect
+start u = if u.is_closed then [] else opening u
+
+-- a line that can't be read is dropped
+abbrev pub reading_step : Connection → ℕ → List ℕ → Result Reading LineFault → Step
+reading_step u now bytes (Err fault) = stays u []
+reading_step u now bytes (Ok line) = serve u now bytes line (command_of line.command)
+
+-- what a line of the server comes to, at that moment
+unfoldable pub step : Connection → ℕ → List ℕ → Step
+step u now bytes =
+    if u.is_closed then stays u [] else reading_step u now bytes (read Server bytes)
+
+-- what a line of a client comes to, at that moment
+unfoldable pub say : Connection → ℕ → List ℕ → Step
+say u now bytes = if u.is_closed then stays u [] else say_line u now (without_ending bytes)

@@ -1,0 +1,47 @@
+//! Which sessions of clients hear of what comes from a server.
+ghost use Rattle.std.specs.Prelude.{◌≡◌};
+ghost use Rattle.std.specs.Str.{bytes_eq};
+ghost use Rattle.upstream_session.specs.Hearers as spec;
+
+use crate::effect::Recipients;
+use crate::messages::{is_same_nick, nick_of};
+use chat_batch::Facts;
+use chat_change::Record;
+
+fn is_same(a: &[u8], b: &[u8]) -> bool
+    ensures { result ≡ bytes_eq a.now b.now }
+{
+    a == b
+}
+
+fn is_of(account: &[u8], network: &[u8], facts: &Facts) -> bool
+    ensures { result ≡ spec.is_of account.now network.now facts.now }
+{
+    is_same(facts.account.as_bytes(), account) && is_same(facts.network.as_bytes(), network)
+}
+
+/// Whether a session hears a message as it comes: it is of the account and the network, and, unless it holds
+/// `echo-message` (IRCv3 echo-message), the message isn't from the present nick.
+pub fn hears_message(nick: &[u8], message: &Record, facts: &Facts) -> bool
+    ensures { result ≡ spec.hears_message nick.now message.now facts.now }
+{
+    let buffer = message.buffer();
+    is_of(buffer.account(), buffer.network(), facts)
+        && (facts.caps.echo_message || !is_same_nick(nick_of(message.source()), nick))
+}
+
+fn is_recipient(to: Recipients, facts: &Facts) -> bool
+    ensures { result ≡ spec.is_recipient to facts.now }
+{
+    match to {
+        Recipients::All => true,
+        Recipients::Holding(capability) => facts.caps.holds(capability),
+    }
+}
+
+/// Whether a line that is passed on goes to a session: it is of the account and the network, and one of the recipients.
+pub fn hears_line(account: &[u8], network: &[u8], to: Recipients, facts: &Facts) -> bool
+    ensures { result ≡ spec.hears_line account.now network.now to facts.now }
+{
+    is_of(account, network, facts) && is_recipient(to, facts)
+}

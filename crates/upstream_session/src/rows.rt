@@ -1,0 +1,631 @@
+//! What each line of a server comes to.
+ghost use Rattle.std.specs.Prelude.{◌≡◌, ◌++◌, ◌∷◌, [], take, drop, map, length, IfOk, OnErr, if◌then◌else◌};
+ghost use Rattle.std.specs.Option.{option_copied};
+ghost use Rattle.std.specs.Str.{bytes_eq};
+ghost use Rattle.irc_caps.specs.Negotiation.{list_in};
+ghost use Rattle.chat_change.specs.Message.{value_of};
+ghost use Rattle.upstream_lines.specs.Lines as lines;
+ghost use Rattle.upstream_session.specs.Rows as spec;
+ghost use Rattle.upstream_session.specs.Standing.{after};
+ghost use Rattle.upstream_session.specs.declared.effect.UpEffect.TheVariants as effects;
+
+use crate::command::{Command, command_of};
+use crate::connection::{Connection, LAST_SERIAL, MOST_TRIES, Standing};
+use crate::effect::{Recipients, UpEffect};
+use crate::effects::{one, push, send};
+use crate::messages::{Stamp, has_buffer, is_same_nick, made_id, stamp_of};
+use chat_change::{Buffer, Change, Kind, Message, Moment, MsgId, is_id, is_target};
+use client_replies::nick_line;
+use irc_caps::Capability;
+use irc_line::Line;
+use memory::{NoMemory, Text};
+use std::alloc::Global;
+use upstream_lines::{
+    cap_end, join_line, pong_line, relayed_line, request, with_acknowledged, with_offers,
+    with_underscores,
+};
+
+fn is_star(word: &[u8]) -> bool
+    ensures { result ≡ bytes_eq word.now (codes "*") }
+{
+    word == b"*".as_slice()
+}
+
+ghost use Rattle.std.specs.Prelude.{codes};
+
+/// The list behind a subcommand of CAP; empty where there is none.
+fn list_in<'a>(parameters: &[&'a [u8]]) -> &'a [u8]
+    ensures { result.now ≡ list_in (map (λ p. p.now) parameters.now) }
+{
+    match parameters {
+        [list, ..] => list,
+        [] => b"",
+    }
+}
+
+/// The first parameter, where it is a nick or a channel.
+fn first_target<'a>(parameters: &[&'a [u8]]) -> Option<&'a [u8]>
+    ensures { option_copied result ≡ spec.first_target (map (λ p. p.now) parameters.now) }
+{
+    match parameters {
+        [word, ..] => { if is_target(word) { Some(word) } else { None } }
+        [] => None,
+    }
+}
+
+fn copy_of(alloc: Global, text: Option<&[u8]>) -> Result<Option<Text>, NoMemory>
+    ensures { IfOk result (λ copy. copy ≡ option_copied text.entry) }
+{
+    match text {
+        None => Ok(None),
+        Some(text) => Ok(Some(Text::new(alloc, text)?)),
+    }
+}
+
+fn relay_to_all(alloc: Global, line: &Line<'_>, bytes: &[u8]) -> Result<Vec<UpEffect>, NoMemory>
+    ensures { IfOk result (λ list. list.items ≡ spec.relay_to_all line.now bytes.now) }
+{
+    let text = relayed_line(alloc, line.source(), bytes)?;
+    one(alloc, UpEffect::Relay(text, Recipients::All))
+}
+
+fn push_join(alloc: Global, list: &mut Vec<UpEffect>, channel: &[u8]) -> Result<(), NoMemory>
+    ensures { IfOk result (λ _. list.new.items
+        ≡ list.old.items ++ effects.Send (lines.join_line channel.now) ∷ []) }
+{
+    let text = join_line(alloc, channel)?;
+    push(list, UpEffect::Send(text))
+}
+
+fn joins(alloc: Global, channels: &[Text]) -> Result<Vec<UpEffect>, NoMemory>
+    ensures { IfOk result (λ list. list.items ≡ spec.joins channels.now) }
+{
+    let mut list = Vec::new(alloc);
+    for channel in channels {
+        push_join(alloc, &mut list, channel.as_bytes())?;
+    }
+    Ok(list)
+}
+
+impl Connection {
+    // Once the network is up, a line is passed on as it is.
+    fn pass_on(
+        &self,
+        alloc: Global,
+        line: &Line<'_>,
+        bytes: &[u8],
+    ) -> Result<Vec<UpEffect>, NoMemory>
+        ensures { IfOk result (λ list. list.items ≡ spec.pass_on self.now line.now bytes.now) }
+    {
+        if self.entry.is_up() {
+            relay_to_all(alloc, line, bytes)
+        } else {
+            Ok(Vec::new(alloc))
+        }
+    }
+
+    // More offers are to come.
+    fn gather(&mut self, alloc: Global, list: &[u8]) -> Result<Vec<UpEffect>, NoMemory>
+        ensures ok { IfOk result (λ effects. record { session = self.new; effects = effects.items }
+            ≡ spec.gather self.old list.now) }
+        ensures err { OnErr result (self.new ≡ self.old) }
+    {
+        self.offered = with_offers(alloc, self.offered, list)?;
+        Ok(Vec::new(alloc))
+    }
+
+    // These offers are the last.
+    fn ask(&mut self, alloc: Global, list: &[u8]) -> Result<Vec<UpEffect>, NoMemory>
+        ensures ok { IfOk result (λ effects. record { session = self.new; effects = effects.items }
+            ≡ spec.ask self.old list.now) }
+        ensures err { OnErr result (self.new ≡ self.old) }
+    {
+        let offered = with_offers(alloc, self.offered, list)?;
+        let text = request(alloc, offered)?;
+        let effects = send(alloc, text)?;
+        self.offered = offered;
+        Ok(effects)
+    }
+
+    fn ls(&mut self, alloc: Global, parameters: &[&[u8]]) -> Result<Vec<UpEffect>, NoMemory>
+        ensures ok { IfOk result (λ effects. record { session = self.new; effects = effects.items }
+            ≡ spec.ls self.old (map (λ p. p.now) parameters.now)) }
+        ensures err { OnErr result (self.new ≡ self.old) }
+    {
+        match parameters {
+            [first, list, ..] => {
+                if is_star(first) {
+                    self.gather(alloc, list)
+                } else {
+                    self.ask(alloc, first)
+                }
+            }
+            _ => self.ask(alloc, list_in(parameters)),
+        }
+    }
+
+    fn ack(&mut self, alloc: Global, list: &[u8]) -> Result<Vec<UpEffect>, NoMemory>
+        ensures ok { IfOk result (λ effects. record { session = self.new; effects = effects.items }
+            ≡ spec.ack self.old list.now) }
+        ensures err { OnErr result (self.new ≡ self.old) }
+    {
+        let held = with_acknowledged(alloc, self.held, list)?;
+        let text = cap_end(alloc)?;
+        let effects = send(alloc, text)?;
+        self.held = held;
+        self.entry.set_takes_redact(held.message_redaction);
+        Ok(effects)
+    }
+
+    fn nak(&self, alloc: Global) -> Result<Vec<UpEffect>, NoMemory>
+        ensures { IfOk result (λ list. list.items ≡ effects.Send lines.cap_end ∷ []) }
+    {
+        let text = cap_end(alloc)?;
+        send(alloc, text)
+    }
+
+    /// CAP (IRCv3 capability negotiation).
+    fn cap(&mut self, alloc: Global, parameters: &[&[u8]]) -> Result<Vec<UpEffect>, NoMemory>
+        ensures ok { IfOk result (λ effects. record { session = self.new; effects = effects.items }
+            ≡ spec.cap self.old (map (λ p. p.now) parameters.now)) }
+        ensures err { OnErr result (self.new ≡ self.old) }
+    {
+        match parameters {
+            [_, subcommand, more @ ..] => {
+                if subcommand.eq_ignore_ascii_case(b"LS") {
+                    self.ls(alloc, more)
+                } else if subcommand.eq_ignore_ascii_case(b"ACK") {
+                    self.ack(alloc, list_in(more))
+                } else if subcommand.eq_ignore_ascii_case(b"NAK") {
+                    self.nak(alloc)
+                } else {
+                    Ok(Vec::new(alloc))
+                }
+            }
+            _ => Ok(Vec::new(alloc)),
+        }
+    }
+
+    fn set_nick(&mut self, nick: Option<Text>)
+        ensures { self.new ≡ spec.with_nick self.old nick }
+    {
+        if let Some(nick) = nick {
+            self.entry.set_nick(nick);
+        }
+    }
+
+    /// 001 (RPL_WELCOME, RFC 2812, section 5.1).
+    fn welcome(&mut self, alloc: Global, parameters: &[&[u8]]) -> Result<Vec<UpEffect>, NoMemory>
+        ensures ok { IfOk result (λ effects. record { session = self.new; effects = effects.items }
+            ≡ spec.welcome self.old (map (λ p. p.now) parameters.now)) }
+        ensures err { OnErr result (self.new ≡ self.old) }
+    {
+        let nick = copy_of(alloc, first_target(parameters))?;
+        let effects = joins(alloc, self.home.channels.names())?;
+        self.set_nick(nick);
+        self.entry.set_up(true);
+        Ok(effects)
+    }
+
+    fn next_nick(&self, alloc: Global, count: usize) -> Result<Vec<UpEffect>, NoMemory>
+        requires { count ≤ MOST_TRIES }
+        ensures { IfOk result (λ list. list.items ≡ effects.Send
+            (lines.nick_line (lines.with_underscores self.now.entry.nick count)) ∷ []) }
+    {
+        let nick = with_underscores(alloc, self.entry.nick(), count)?;
+        let text = nick_line(alloc, nick.as_bytes())?;
+        send(alloc, text)
+    }
+
+    fn try_again(&mut self, alloc: Global) -> Result<Vec<UpEffect>, NoMemory>
+        ensures ok { IfOk result (λ effects. record { session = self.new; effects = effects.items }
+            ≡ spec.try_again self.old) }
+        ensures err { OnErr result (self.new ≡ self.old) }
+    {
+        if self.tries < MOST_TRIES {
+            let count = self.tries + 1;
+            let effects = self.next_nick(alloc, count)?;
+            self.tries = count;
+            Ok(effects)
+        } else {
+            self.close(alloc)
+        }
+    }
+
+    // The session is over.
+    fn close(&mut self, alloc: Global) -> Result<Vec<UpEffect>, NoMemory>
+        ensures ok { IfOk result (λ effects. record { session = self.new; effects = effects.items }
+            ≡ closes self.old) }
+        ensures err { OnErr result (self.new ≡ self.old) }
+    {
+        let effects = one(alloc, UpEffect::Close)?;
+        self.is_closed = true;
+        Ok(effects)
+    }
+
+    /// 433 (ERR_NICKNAMEINUSE, RFC 2812, section 5.2).
+    fn nick_in_use(
+        &mut self,
+        alloc: Global,
+        line: &Line<'_>,
+        bytes: &[u8],
+    ) -> Result<Vec<UpEffect>, NoMemory>
+        ensures ok { IfOk result (λ effects. record { session = self.new; effects = effects.items }
+            ≡ spec.nick_in_use self.old line.now bytes.now) }
+        ensures err { OnErr result (self.new ≡ self.old) }
+    {
+        if self.entry.is_up() {
+            relay_to_all(alloc, line, bytes)
+        } else {
+            self.try_again(alloc)
+        }
+    }
+
+    /// PING (RFC 2812, section 3.7.2).
+    fn ping(
+        &self,
+        alloc: Global,
+        line: &Line<'_>,
+        bytes: &[u8],
+        parameters: &[&[u8]],
+    ) -> Result<Vec<UpEffect>, NoMemory>
+        ensures { IfOk result (λ list. record { session = self.now; effects = list.items }
+            ≡ spec.ping self.now line.now bytes.now (map (λ p. p.now) parameters.now)) }
+    {
+        match parameters {
+            [word, ..] => {
+                let text = pong_line(alloc, word)?;
+                send(alloc, text)
+            }
+            [] => self.pass_on(alloc, line, bytes),
+        }
+    }
+
+    // The network is up, and the line comes from the session itself.
+    fn is_up_and_own(&self, line: &Line<'_>) -> bool
+        ensures { result ≡ spec.is_up_and_own self.now line.now }
+    {
+        self.entry.is_up() && self.is_own(self.source_of(line.source()))
+    }
+
+    /// NICK (RFC 2812, section 3.1.2).
+    fn nick(
+        &mut self,
+        alloc: Global,
+        line: &Line<'_>,
+        bytes: &[u8],
+    ) -> Result<Vec<UpEffect>, NoMemory>
+        ensures ok { IfOk result (λ effects. record { session = self.new; effects = effects.items }
+            ≡ spec.nick self.old line.now bytes.now) }
+        ensures err { OnErr result (self.new ≡ self.old) }
+    {
+        let effects = self.pass_on(alloc, line, bytes)?;
+        if self.is_up_and_own(line) {
+            let nick = copy_of(alloc, first_target(line.parameters()))?;
+            self.set_nick(nick);
+        }
+        Ok(effects)
+    }
+
+    fn join_if(&mut self, alloc: Global, channel: Option<&[u8]>) -> Result<(), NoMemory>
+        ensures ok { IfOk result (λ _.
+            self.new ≡ spec.join_if self.old (option_copied channel.entry)) }
+        ensures err { OnErr result (self.new ≡ self.old) }
+    {
+        match channel {
+            None => Ok(()),
+            Some(name) => {
+                let name = Text::new(alloc, name)?;
+                self.entry.join(name)
+            }
+        }
+    }
+
+    /// JOIN (RFC 2812, section 3.2.1).
+    fn join(
+        &mut self,
+        alloc: Global,
+        line: &Line<'_>,
+        bytes: &[u8],
+    ) -> Result<Vec<UpEffect>, NoMemory>
+        ensures ok { IfOk result (λ effects. record { session = self.new; effects = effects.items }
+            ≡ spec.join self.old line.now bytes.now) }
+        ensures err { OnErr result (self.new ≡ self.old) }
+    {
+        let effects = self.pass_on(alloc, line, bytes)?;
+        if self.is_up_and_own(line) {
+            self.join_if(alloc, first_target(line.parameters()))?;
+        }
+        Ok(effects)
+    }
+
+    fn leave(&mut self, parameters: &[&[u8]])
+        ensures { self.new ≡ spec.leave self.old (map (λ p. p.now) parameters.now) }
+    {
+        match parameters {
+            [channel, ..] => self.entry.part(channel),
+            [] => {}
+        }
+    }
+
+    /// PART (RFC 2812, section 3.2.2).
+    fn part(
+        &mut self,
+        alloc: Global,
+        line: &Line<'_>,
+        bytes: &[u8],
+    ) -> Result<Vec<UpEffect>, NoMemory>
+        ensures ok { IfOk result (λ effects. record { session = self.new; effects = effects.items }
+            ≡ spec.part self.old line.now bytes.now) }
+        ensures err { OnErr result (self.new ≡ self.old) }
+    {
+        let effects = self.pass_on(alloc, line, bytes)?;
+        if self.is_up_and_own(line) {
+            self.leave(line.parameters());
+        }
+        Ok(effects)
+    }
+
+    fn put_out(&mut self, parameters: &[&[u8]])
+        ensures { self.new ≡ spec.put_out self.old (map (λ p. p.now) parameters.now) }
+    {
+        match parameters {
+            [channel, nick, ..] => {
+                if is_same_nick(nick, self.entry.nick()) {
+                    self.entry.part(channel);
+                }
+            }
+            _ => {}
+        }
+    }
+
+    /// KICK (RFC 2812, section 3.2.8).
+    fn kick(
+        &mut self,
+        alloc: Global,
+        line: &Line<'_>,
+        bytes: &[u8],
+    ) -> Result<Vec<UpEffect>, NoMemory>
+        ensures ok { IfOk result (λ effects. record { session = self.new; effects = effects.items }
+            ≡ spec.kick self.old line.now bytes.now) }
+        ensures err { OnErr result (self.new ≡ self.old) }
+    {
+        let effects = self.pass_on(alloc, line, bytes)?;
+        if self.entry.is_up() {
+            self.put_out(line.parameters());
+        }
+        Ok(effects)
+    }
+
+    fn keep_made(
+        &self,
+        alloc: Global,
+        line: &Line<'_>,
+        bytes: &[u8],
+        message: Message<'_>,
+        at: Moment,
+    ) -> Result<(Standing, Vec<UpEffect>), NoMemory>
+        ensures { IfOk result (λ r. record { session = after r.0 self.now; effects = r.1.items }
+            ≡ spec.keep_made self.now line.now bytes.now (value_of message.entry) at) }
+    {
+        if self.serial == LAST_SERIAL {
+            let list = one(alloc, UpEffect::Close)?;
+            return Ok((Standing::Closes, list));
+        }
+        match made_id(alloc, &self.home, self.serial)? {
+            None => {
+                let list = relay_to_all(alloc, line, bytes)?;
+                Ok((Standing::Stays, list))
+            }
+            Some(id) => {
+                let post = self.post(alloc, id, at, message)?;
+                let list = one(alloc, post)?;
+                Ok((Standing::Counts(self.serial + 1), list))
+            }
+        }
+    }
+
+    fn keep_stamped(
+        &self,
+        alloc: Global,
+        line: &Line<'_>,
+        bytes: &[u8],
+        message: Message<'_>,
+        stamp: Stamp,
+    ) -> Result<(Standing, Vec<UpEffect>), NoMemory>
+        ensures { IfOk result (λ r. record { session = after r.0 self.now; effects = r.1.items }
+            ≡ spec.keep_stamped self.now line.now bytes.now (value_of message.entry)
+            stamp.id stamp.at) }
+    {
+        let Stamp { id, at } = stamp;
+        match id {
+            None => self.keep_made(alloc, line, bytes, message, at),
+            Some(id) => {
+                let post = self.post(alloc, id, at, message)?;
+                let list = one(alloc, post)?;
+                Ok((Standing::Stays, list))
+            }
+        }
+    }
+
+    fn keep(
+        &self,
+        alloc: Global,
+        now: Moment,
+        line: &Line<'_>,
+        bytes: &[u8],
+        message: Message<'_>,
+    ) -> Result<(Standing, Vec<UpEffect>), NoMemory>
+        ensures { IfOk result (λ r. record { session = after r.0 self.now; effects = r.1.items }
+            ≡ spec.keep self.now now line.now bytes.now (value_of message.entry)) }
+    {
+        if self.can_be_kept(message) {
+            let stamp = stamp_of(alloc, line.tags(), now)?;
+            self.keep_stamped(alloc, line, bytes, message, stamp)
+        } else {
+            let list = relay_to_all(alloc, line, bytes)?;
+            Ok((Standing::Stays, list))
+        }
+    }
+
+    fn serve_message(
+        &self,
+        alloc: Global,
+        now: Moment,
+        kind: Kind,
+        line: &Line<'_>,
+        bytes: &[u8],
+        parameters: &[&[u8]],
+    ) -> Result<(Standing, Vec<UpEffect>), NoMemory>
+        ensures { IfOk result (λ r. record { session = after r.0 self.now; effects = r.1.items }
+            ≡ spec.message self.now now kind line.now bytes.now (map (λ p. p.now) parameters.now)) }
+    {
+        match parameters {
+            [target, body, ..] => {
+                if self.entry.is_up() {
+                    let source = self.source_of(line.source());
+                    let message = Message {
+                        kind,
+                        source,
+                        target,
+                        body,
+                    };
+                    self.keep(alloc, now, line, bytes, message)
+                } else {
+                    Ok((Standing::Stays, Vec::new(alloc)))
+                }
+            }
+            _ => {
+                let list = self.pass_on(alloc, line, bytes)?;
+                Ok((Standing::Stays, list))
+            }
+        }
+    }
+
+    /// PRIVMSG and NOTICE (RFC 2812, section 3.3).
+    fn message(
+        &mut self,
+        alloc: Global,
+        now: Moment,
+        kind: Kind,
+        line: &Line<'_>,
+        bytes: &[u8],
+    ) -> Result<Vec<UpEffect>, NoMemory>
+        ensures ok { IfOk result (λ effects. record { session = self.new; effects = effects.items }
+            ≡ spec.message self.old now kind line.now bytes.now line.now.parameters) }
+        ensures err { OnErr result (self.new ≡ self.old) }
+    {
+        let (standing, list) = self.serve_message(
+            alloc,
+            now,
+            kind,
+            line,
+            bytes,
+            line.parameters(),
+        )?;
+        self.go_on(standing);
+        Ok(list)
+    }
+
+    fn redact_change(&self, alloc: Global, talk: &[u8], id: &[u8]) -> Result<UpEffect, NoMemory>
+        ensures { IfOk result (λ effect. effect ≡ effects.Put (changes.Redact
+            (buffer_of self.now.home.account self.now.home.network talk.now) id.now None)) }
+    {
+        let account = self.home.account.as_bytes();
+        match Buffer::new(alloc, account, self.home.network.as_bytes(), talk) {
+            // Both were tested before, so it is memory that is wanted.
+            Err(_) => Err(NoMemory),
+            Ok(buffer) => match MsgId::new(alloc, id) {
+                Err(_) => Err(NoMemory),
+                Ok(id) => Ok(UpEffect::Put(Change::Redact {
+                    buffer,
+                    id,
+                    at: None,
+                })),
+            },
+        }
+    }
+
+    fn redaction(
+        &self,
+        alloc: Global,
+        source: &[u8],
+        target: &[u8],
+        id: &[u8],
+    ) -> Result<Vec<UpEffect>, NoMemory>
+        ensures { IfOk result (λ list. list.items
+            ≡ spec.redaction self.now source.now target.now id.now) }
+    {
+        let talk = self.conversation(source, target);
+        if has_buffer(&self.home, talk) && is_id(id) {
+            let change = self.redact_change(alloc, talk, id)?;
+            one(alloc, change)
+        } else {
+            Ok(Vec::new(alloc))
+        }
+    }
+
+    /// REDACT (IRCv3 draft/message-redaction).
+    fn redact(
+        &self,
+        alloc: Global,
+        line: &Line<'_>,
+        bytes: &[u8],
+        parameters: &[&[u8]],
+    ) -> Result<Vec<UpEffect>, NoMemory>
+        ensures { IfOk result (λ list. record { session = self.now; effects = list.items }
+            ≡ spec.redact self.now line.now bytes.now (map (λ p. p.now) parameters.now)) }
+    {
+        match parameters {
+            [target, id, ..] => {
+                if self.entry.is_up() && self.entry.takes_redact() {
+                    let source = self.source_of(line.source());
+                    let mut list = self.redaction(alloc, source, target, id)?;
+                    let text = relayed_line(alloc, line.source(), bytes)?;
+                    let to = Recipients::Holding(Capability::MessageRedaction);
+                    push(&mut list, UpEffect::Relay(text, to))?;
+                    Ok(list)
+                } else {
+                    self.pass_on(alloc, line, bytes)
+                }
+            }
+            _ => self.pass_on(alloc, line, bytes),
+        }
+    }
+
+    /// What a line of the server comes to. For want of memory nothing changes.
+    pub(crate) fn serve(
+        &mut self,
+        alloc: Global,
+        now: Moment,
+        bytes: &[u8],
+        line: &Line<'_>,
+    ) -> Result<Vec<UpEffect>, NoMemory>
+        ensures ok { IfOk result (λ effects. record { session = self.new; effects = effects.items }
+            ≡ spec.serve self.old now bytes.now line.now (command_of line.now.command)) }
+        ensures err { OnErr result (self.new ≡ self.old) }
+    {
+        match command_of(line.command()) {
+            Command::Cap => self.cap(alloc, line.parameters()),
+            Command::Welcome => self.welcome(alloc, line.parameters()),
+            Command::Greeting | Command::Tagmsg => Ok(Vec::new(alloc)),
+            Command::NickInUse => self.nick_in_use(alloc, line, bytes),
+            Command::Ping => self.ping(alloc, line, bytes, line.parameters()),
+            Command::Error => self.close(alloc),
+            Command::Nick => self.nick(alloc, line, bytes),
+            Command::Join => self.join(alloc, line, bytes),
+            Command::Part => self.part(alloc, line, bytes),
+            Command::Kick => self.kick(alloc, line, bytes),
+            Command::Privmsg => self.message(alloc, now, Kind::Privmsg, line, bytes),
+            Command::Notice => self.message(alloc, now, Kind::Notice, line, bytes),
+            Command::Redact => self.redact(alloc, line, bytes, line.parameters()),
+            Command::Other => self.pass_on(alloc, line, bytes),
+        }
+    }
+}
+
+ghost use Rattle.std.specs.Prelude.{◌≤◌, None};
+ghost use Rattle.chat_change.specs.Buffer.{buffer_of};
+ghost use Rattle.chat_change.specs.declared.change.Change.TheVariants as changes;
+ghost use Rattle.upstream_session.specs.Step.{closes};
+ghost use Rattle.upstream_session.specs.Command.{command_of};

@@ -1,0 +1,151 @@
+//! Sessions with servers.
+ghost use Rattle.std.specs.Prelude.{◌≡◌, IfOk, OnErr};
+ghost use Rattle.upstream_session.specs.Session as spec;
+ghost use Rattle.upstream_session.specs.Step as steps;
+
+use crate::config::Config;
+use crate::connection::{Connection, Home};
+use crate::effect::UpEffect;
+use crate::effects::{push, send};
+use crate::sayings::without_ending;
+use chat_change::Moment;
+use client_directory::Entry;
+use client_replies::nick_line;
+use irc_caps::CapSet;
+use irc_line::{TagLimit, read_line};
+use memory::{NoMemory, Text};
+use std::alloc::Global;
+use std::marker::Model;
+use upstream_lines::{ls_line, user_line};
+
+/// The session with the server of a network: it registers, is up, or is closed.
+#[derive(Drop)]
+pub struct Upstream {
+    connection: Connection,
+}
+
+impl Model for Upstream {
+    ghost use Rattle.upstream_session.specs.declared.connection.Connection.{Connection as Kept};
+
+    ghost Value = { Kept };
+
+    ghost view = { λ u. u.connection };
+}
+
+impl Upstream {
+    /// A session of that configuration, which isn't connected yet. Messages that bear no id get one of the node's name,
+    /// its incarnation and a serial number, of which this is the first. It takes no memory.
+    pub fn new(
+        alloc: Global,
+        config: Config,
+        node: Text,
+        incarnation: u64,
+        first_serial: u64,
+    ) -> Upstream
+        ensures { result ≡ steps.new config node incarnation first_serial }
+    {
+        Upstream {
+            connection: Connection {
+                home: Home {
+                    account: config.account,
+                    network: config.network,
+                    user: config.user,
+                    channels: config.channels,
+                    node,
+                    incarnation,
+                },
+                serial: first_serial,
+                entry: Entry::new(false, config.nick, Vec::new(alloc), false),
+                offered: CapSet::none(),
+                held: CapSet::none(),
+                tries: 0,
+                is_closed: false,
+            },
+        }
+    }
+
+    /// The serial number of the next id that is made.
+    pub fn serial(&self) -> u64
+        ensures { result ≡ self.now.serial }
+    {
+        self.connection.serial
+    }
+
+    /// How the session stands: whether the network is up, the present nick, the channels, and whether the server takes
+    /// REDACT.
+    pub fn entry(&self) -> &Entry
+        ensures { result.now ≡ self.now.entry }
+    {
+        &self.connection.entry
+    }
+
+    fn opening(&self, alloc: Global) -> Result<Vec<UpEffect>, NoMemory>
+        ensures { IfOk result (λ list. list.items ≡ spec.opening self.now) }
+    {
+        let text = ls_line(alloc)?;
+        let mut list = send(alloc, text)?;
+        let text = nick_line(alloc, self.connection.entry.nick())?;
+        push(&mut list, UpEffect::Send(text))?;
+        let text = user_line(alloc, self.connection.home.user.as_bytes())?;
+        push(&mut list, UpEffect::Send(text))?;
+        Ok(list)
+    }
+
+    /// What a new session begins with: it asks for the server's capabilities, and for its nick and its user name.
+    pub fn start(&self, alloc: Global) -> Result<Vec<UpEffect>, NoMemory>
+        ensures { IfOk result (λ list. list.items ≡ spec.start self.now) }
+    {
+        if self.connection.is_closed {
+            Ok(Vec::new(alloc))
+        } else {
+            self.opening(alloc)
+        }
+    }
+
+    /// What a line of the server comes to at that moment. The line stands without its ending; one that can't be read is
+    /// dropped. A refused step leaves the session as it was.
+    ///
+    /// A line that is passed on is copied once, and a record is made of slices of the line.
+    #[tactic(auto, unfolding(crate::specs::Session::step))]
+    pub fn step(
+        &mut self,
+        alloc: Global,
+        bytes: &[u8],
+        now: Moment,
+    ) -> Result<Vec<UpEffect>, NoMemory>
+        ensures step { IfOk result (λ list. record { session = self.new; effects = list.items }
+            ≡ spec.step self.old now bytes.now) }
+        ensures err { OnErr result (self.new ≡ self.old) }
+    {
+        if self.connection.is_closed {
+            return Ok(Vec::new(alloc));
+        }
+        match read_line(bytes, TagLimit::Server) {
+            Err(_) => Ok(Vec::new(alloc)),
+            Ok(line) => self.connection.serve(alloc, now, bytes, &line),
+        }
+    }
+
+    /// What a client's line for the server comes to at that moment. The line stands with its CR LF or without. It is
+    /// sent without tags and source; a message is kept too, where the server doesn't send it back (IRCv3 echo-message).
+    /// A refused call leaves the session as it was.
+    #[tactic(auto, unfolding(crate::specs::Session::say))]
+    pub fn say(
+        &mut self,
+        alloc: Global,
+        bytes: &[u8],
+        now: Moment,
+    ) -> Result<Vec<UpEffect>, NoMemory>
+        ensures step { IfOk result (λ list. record { session = self.new; effects = list.items }
+            ≡ spec.say self.old now bytes.now) }
+        ensures err { OnErr result (self.new ≡ self.old) }
+    {
+        if self.connection.is_closed {
+            return Ok(Vec::new(alloc));
+        }
+        let text = without_ending(bytes);
+        let (standing, list) = self.connection.say_line(alloc, now, text)?;
+        self.connection.go_on(standing);
+        Ok(list)
+    }
+}
