@@ -1,0 +1,7 @@
+mod PrefixLemmas
+mod AddLemmas
+mod SameLemmas
+mod StateLemmas
+mod ChainLemmas
+mod ShownLemmas
+mod ReadLemmas

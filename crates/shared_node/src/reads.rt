@@ -1,0 +1,161 @@
+//! What a pass reads, without a lock.
+ghost use Rattle.std.specs.Prelude.{◌≡◌, ◌≢◌, ◌↔◌, List, Err, IsTrue, IfOk, IfSome, IfNone, OnErr};
+ghost use mathlib.Core.List.{IsPrefix};
+ghost use Rattle.output.specs.Writes.{Writes};
+ghost use Rattle.chat_change.specs.declared.change.Change.{Change as Piece};
+ghost use Rattle.chat_history.specs.History.{norm};
+ghost use Rattle.chat_history.specs.Lookups.{IsShown};
+ghost use Rattle.chat_history.specs.Numbering as numbering;
+ghost use Rattle.chat_history.specs.Retention as retention;
+ghost use Rattle.chat_batch.specs.Answers.{answer_of};
+ghost use Rattle.shared_node.specs.Lists.{changes_in, state_of};
+ghost use Rattle.shared_node.specs.Passes.{Reads};
+
+use crate::entrance::{Entrance, Visit};
+use crate::faults::AskFault;
+use crate::history::Naming;
+use crate::pass::Pass;
+use crate::prefix::Prefix;
+use chat_batch::{AnswerFault, Answered, Facts, answer};
+use chat_change::{Buffer, Change, Moment, MsgId};
+use chat_state::{NoEntry, Peek, State};
+use gossip_delta::{Delta, DeltaFault, Source, delta_since};
+use irc_line::Line;
+use std::alloc::Global;
+use std::io::Write;
+
+// Enters the published version, where its list follows what was seen and told. From then on it is what was seen.
+fn enter<'a, J: Naming>(
+    entrance: &'a mut Entrance<J>,
+    seen: &mut Prefix<J>,
+    told: &Prefix<J>,
+) -> Option<Visit<'a, J>>
+    ensures version { IfSome result (λ v. v.reading.part.value.state ≡ state_of seen.new) }
+    ensures follows { IfSome result (λ _. IsPrefix seen.old seen.new
+        × IsPrefix told.now seen.new) }
+    ensures refused { IfNone result (seen.new ≡ seen.old) }
+{
+    let visit = entrance.enter()?;
+    let list = visit.list();
+    if !list.follows(seen) || !list.follows(told) {
+        return None;
+    }
+    *seen = list;
+    Some(visit)
+}
+
+// Whether a visible record of the buffer has that id: whether the message has a position and wasn't redacted.
+fn is_shown(state: &State, buffer: &Buffer, id: &MsgId) -> bool
+    ensures { (changes : List Piece) → state.now.history ≡ norm changes
+        → IsTrue result ↔ IsShown (norm changes) buffer.now id.now }
+{
+    match state.position(buffer, id) {
+        Some(_) => !state.is_gone(buffer, id),
+        None => false,
+    }
+}
+
+impl<J: Naming> Pass<J> {
+    /// Answers a question about the past ([`answer`]), from the state of a list that follows all that the pass has seen or
+    /// was told of. It takes no lock.
+    ///
+    /// Fails with [`AskFault::NoEntry`], and then the pass is as it was, and with [`AskFault::NoMemory`], before anything
+    /// is written; with [`AskFault::Write`] where the writer fails.
+    pub fn ask<W: Write>(
+        &mut self,
+        alloc: Global,
+        facts: &Facts,
+        line: &Line<'_>,
+        writer: &mut W,
+    ) -> Result<Answered, AskFault>
+        ensures text { Writes W.contents writer.old writer.new result
+            (answer_of (changes_in self.new.list) facts.now line.now).text }
+        ensures answered { IfOk result (λ a.
+            a ≡ (answer_of (changes_in self.new.list) facts.now line.now).answered) }
+        ensures seen { result ≢ Err AskFault.NoEntry → Reads self.old self.new }
+        ensures no_entry { result ≡ Err AskFault.NoEntry
+            → (self.new ≡ self.old) × (writer.new ≡ writer.old) }
+        ensures memory { result ≡ Err AskFault.NoMemory → writer.new ≡ writer.old }
+    {
+        let Some(visit) = enter(&mut self.entrance, &mut self.list, &self.told) else {
+            return Err(AskFault::NoEntry);
+        };
+        match answer(alloc, visit.state(), facts, line, writer) {
+            Ok(answered) => Ok(answered),
+            Err(AnswerFault::NoMemory) => Err(AskFault::NoMemory),
+            Err(AnswerFault::Write) => Err(AskFault::Write),
+        }
+    }
+
+    /// The floors that are due ([`State::due_floors`](chat_state::State::due_floors)) in the state of a list that follows
+    /// all that the pass has seen or was told of. It takes no lock. After `NoEntry` the pass is as it was.
+    pub fn due_floors(
+        &mut self,
+        alloc: Global,
+        now: Moment,
+        days: u32,
+    ) -> Result<Vec<Change>, DeltaFault>
+        ensures floors { IfOk result (λ floors.
+            floors.items ≡ retention.due_floors (norm (changes_in self.new.list)) now days) }
+        ensures seen { result ≢ Err DeltaFault.NoEntry → Reads self.old self.new }
+        ensures no_entry { result ≡ Err DeltaFault.NoEntry → self.new ≡ self.old }
+    {
+        let Some(visit) = enter(&mut self.entrance, &mut self.list, &self.told) else {
+            return Err(DeltaFault::NoEntry);
+        };
+        match visit.state().due_floors(alloc, now, days) {
+            Ok(floors) => Ok(floors),
+            Err(_) => Err(DeltaFault::NoMemory),
+        }
+    }
+
+    /// The delta since a number ([`delta_since`]) of the state of a list that follows all that the pass has seen or was told
+    /// of. It takes no lock. After `NoEntry` the pass is as it was.
+    pub fn delta(&mut self, alloc: Global, from: u64) -> Result<Delta, DeltaFault>
+        ensures delta { IfOk result (λ d.
+            d ≡ numbering.delta 0 (changes_in self.new.list) from) }
+        ensures seen { result ≢ Err DeltaFault.NoEntry → Reads self.old self.new }
+        ensures no_entry { result ≡ Err DeltaFault.NoEntry → self.new ≡ self.old }
+    {
+        let Some(visit) = enter(&mut self.entrance, &mut self.list, &self.told) else {
+            return Err(DeltaFault::NoEntry);
+        };
+        match delta_since(alloc, visit.state(), from) {
+            Ok(delta) => Ok(delta),
+            Err(_) => Err(DeltaFault::NoMemory),
+        }
+    }
+
+    /// Whether a visible record of the buffer has that id, in the state of a list that follows all that the pass has seen or
+    /// was told of. It takes no lock and no memory. After `NoEntry` the pass is as it was.
+    pub fn shown(&mut self, buffer: &Buffer, id: &MsgId) -> Result<bool, NoEntry>
+        ensures shown { IfOk result (λ shown. IsTrue shown
+            ↔ IsShown (norm (changes_in self.new.list)) buffer.now id.now) }
+        ensures seen { IfOk result (λ _. Reads self.old self.new) }
+        ensures no_entry { OnErr result (self.new ≡ self.old) }
+    {
+        let Some(visit) = enter(&mut self.entrance, &mut self.list, &self.told) else {
+            return Err(NoEntry);
+        };
+        Ok(is_shown(visit.state(), buffer, id))
+    }
+}
+
+impl<J: Naming> Source for Pass<J> {
+    ghost holds = { λ p start list. (start ≡ 0) × (list ≡ changes_in p.list) };
+
+    ghost may_add = { λ _ _. Unit {0} };
+
+    fn delta(&mut self, alloc: Global, from: u64) -> Result<Delta, DeltaFault> {
+        Pass::delta(self, alloc, from)
+    }
+}
+
+impl<J: Naming> Peek for Pass<J> {
+    ghost peeks = { λ old b m shown new. Reads old new
+        × (IsTrue shown ↔ IsShown (norm (changes_in new.list)) b m) };
+
+    fn shown(&mut self, buffer: &Buffer, id: &MsgId) -> Result<bool, NoEntry> {
+        Pass::shown(self, buffer, id)
+    }
+}
