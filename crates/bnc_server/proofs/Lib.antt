@@ -1,7 +1,14 @@
 mod RequestLemmas
 mod NodeLemmas
+mod PlaceLemmas
+mod DeltaLemmas
 mod OrderLemmas
 mod ProgressLemmas
 mod PrintedLemmas
+mod MomentLemmas
 mod SoundLemmas
 mod PrintLemmas
+mod ScheduleLemmas
+mod ScheduleHelloLemmas
+mod ScheduleStartLemmas
+mod ScheduleLinesLemmas

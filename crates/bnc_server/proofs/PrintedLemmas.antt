@@ -15,7 +15,7 @@ use Rattle.irc_line.proofs.CallerLemmas.{bytes_cut, good, reads_back, lines_cut}
 use Rattle.irc_reply.specs.Reply.{ending}
 use Rattle.bnc_server.specs.Printed.{percent_sign, IsPrintedLine, IsPrinted}
 
-all-append : {A : Type 0} (P : A → Type 0) (xs ys : List A) → AllByRecursion P xs → AllByRecursion P ys → AllByRecursion P (xs ++ ys)
+pub all-append : {A : Type 0} (P : A → Type 0) (xs ys : List A) → AllByRecursion P xs → AllByRecursion P ys → AllByRecursion P (xs ++ ys)
 all-append P [] ys p q = q
 all-append P (x ∷ xs) ys p q = (p.0, all-append P xs ys p.1 q)
 

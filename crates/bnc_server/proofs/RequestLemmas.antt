@@ -1,5 +1,5 @@
 -- What a line asks for, by its first bytes, and why it spells no change.
-use Rattle.std.proofs.Common.{◌≡◌, ℕ, true, false, List, Result, Ok, Err, refl, sym, ◌∙◌, subst}
+use Rattle.std.proofs.Common.{◌≡◌, ℕ, drop, true, false, List, Result, Ok, Err, refl, sym, ◌∙◌, subst}
 use Rattle.std.specs.Prelude.{◌≢◌, IfErr}
 use Rattle.std.proofs.lemmas.Bool.{cond-true, cond-false}
 use Rattle.chat_change.specs.Words.{begins_with}
@@ -7,8 +7,8 @@ use Rattle.chat_change.specs.declared.change.Change.{Change}
 use Rattle.gossip_delta.specs.ChangeLine.{read_change, fault_or_no_memory}
 use Rattle.gossip_delta.specs.declared.fault.ChangeLineFault.{ChangeLineFault}
 use Rattle.gossip_delta.specs.declared.fault.ChangeLineFault.TheVariants.{BadForm, BadField, NoMemory}
-use Rattle.bnc_server.specs.ClientLine.{other, client_line}
-use Rattle.bnc_server.specs.Request.{request_in, is_change_line, of_change, of_client}
+use Rattle.bnc_server.specs.Request.{request_in, is_change_line, of_change, of_command, of_client}
+use Rattle.bnc_server.specs.Command.{command_of}
 use Rattle.bnc_server.specs.Faults.{IsFaultOf}
 
 module _ (text : List ℕ) where
@@ -16,11 +16,11 @@ module _ (text : List ℕ) where
   unfolding request_in
   asked_change t = cond-true _ _ _ t
 
-  pub asked_percent : is_change_line text ≡ false → begins_with 37 text ≡ true → request_in text ≡ of_client other
+  pub asked_percent : is_change_line text ≡ false → begins_with 37 text ≡ true → request_in text ≡ of_command (command_of (drop 1 text))
   unfolding request_in
   asked_percent t u = cond-false _ _ _ t ∙ cond-true _ _ _ u
 
-  pub asked_client : is_change_line text ≡ false → begins_with 37 text ≡ false → request_in text ≡ of_client (client_line text)
+  pub asked_client : is_change_line text ≡ false → begins_with 37 text ≡ false → request_in text ≡ of_client text
   unfolding request_in
   asked_client t u = cond-false _ _ _ t ∙ cond-false _ _ _ u
 

@@ -1,36 +1,94 @@
--- The code's node: the node of a script, with what is held in place of the changes that it took.
-use Rattle.std.specs.Prelude.{◌≡◌, ℕ, List, Option, Result, OnOk}
+-- The code's node and world: those of a script, with what is held in place of the changes that were taken.
+use Rattle.std.specs.Prelude.{◌≡◌, ◌<◌, ⊤, ℕ, List, map, Option, None, Some, Result, OnOk, IfErr}
 use Rattle.output.specs.Writes.{WritesKnown}
 use Rattle.chat_history.specs.StateValue.{StateValue, state_after}
+use Rattle.client_directory.specs.Directory.{Directory}
+use Rattle.client_session.specs.declared.stage.Stage.{Stage}
 use Rattle.chat_batch.specs.declared.facts.Facts.{Facts}
-use Rattle.bnc_server.specs.Request.{Request}
-use Rattle.bnc_server.specs.Script.{Node, outcome}
+use Rattle.peer_lines.specs.Life.{Life, Ack}
+use Rattle.gossip_link.specs.Link.{Link}
+use Rattle.bnc_server.specs.Node.{Node}
+use Rattle.bnc_server.specs.Links.{after_ack_of, late_ack}
+use Rattle.bnc_server.specs.World.{World}
+use Rattle.bnc_server.specs.Schedule.{node_count, ArePlaces}
+use Rattle.bnc_server.specs.Command.{Command, select, exchange, lose, hold_back, hand_over, restart, bad_form}
+use Rattle.bnc_server.specs.declared.command.Command as code
+use Rattle.bnc_server.specs.declared.command.Command.TheVariants as variant
 
 pub record HeldNode : Type 0 where
-  pub facts : Facts
+  pub life : Life
+  pub session : Stage
   pub state : StateValue
+  pub links : List Link
+  pub late : List (Option Ack)
 
 -- what a node holds
 abbrev pub held_node : Node → HeldNode
-held_node node = record { facts = node.facts; state = state_after 0 node.taken }
+held_node node = record {
+  life = node.life;
+  session = node.session;
+  state = state_after 0 node.taken;
+  links = node.links;
+  late = node.late;
+}
 
--- a call writes a text of each node of a script that holds this
-abbrev pub WritesOf : {W T E : Type 0}
-    → (W → Option (List ℕ)) → W → W → Result T E → HeldNode → (Node → List ℕ) → Type 0
-WritesOf contents old new result held text =
-    (node : Node) → held ≡ held_node node → WritesKnown (contents old) (contents new) result (text node)
+-- a node takes what is held back of the node at a place, if there is anything
+abbrev pub after_ack_if : Node → ℕ → Option Ack → Node
+after_ack_if node place None = node
+after_ack_if node place (Some ack) = after_ack_of node place ack
 
--- a call prints what such a node prints that is asked
-abbrev pub Prints : {W T E : Type 0}
-    → (W → Option (List ℕ)) → W → W → Result T E → HeldNode → Request → Type 0
-Prints contents old new result held a =
-    WritesOf contents old new result held (λ node. (outcome node a).text)
+abbrev pub after_late : Node → ℕ → Node
+after_late node place = after_ack_if node place (late_ack node place)
 
--- at `Ok` what is held is what each node that held the old becomes
-abbrev pub Leaves : {T E : Type 0} → Result T E → HeldNode → (Node → Node) → HeldNode → Type 0
-Leaves result old after new =
-    OnOk result ((node : Node) → old ≡ held_node node → new ≡ held_node (after node))
+pub record HeldWorld : Type 0 where
+  pub directory : Directory
+  pub facts : Facts
+  pub nodes : List HeldNode
+  pub selected : ℕ
 
--- it is what such a node becomes that is asked
-abbrev pub Becomes : {T E : Type 0} → Result T E → HeldNode → Request → HeldNode → Type 0
-Becomes result old a new = Leaves result old (λ node. (outcome node a).node) new
+abbrev pub held_world : World → HeldWorld
+held_world w = record {
+  directory = w.directory;
+  facts = w.facts;
+  nodes = map held_node w.nodes;
+  selected = w.selected;
+}
+
+-- ---- what a call does to each node, or each world, that holds this
+
+-- a call writes a text of it
+abbrev pub WritesOf : {W T E S H : Type 0} → (W → Option (List ℕ)) → W → W → Result T E
+    → (S → H) → H → (S → List ℕ) → Type 0
+WritesOf {W} {T} {E} {S} {H} contents old new result hold held text =
+    (s : S) → held ≡ hold s → WritesKnown (contents old) (contents new) result (text s)
+
+-- at `Ok` it has become another
+abbrev pub Leaves : {T E S H : Type 0} → Result T E → (S → H) → H → (S → S) → H → Type 0
+Leaves {T} {E} {S} {H} result hold old after new =
+    OnOk result ((s : S) → old ≡ hold s → new ≡ hold (after s))
+
+-- the fault is one of it
+abbrev pub EndsBy : {T E S H : Type 0} → Result T E → (S → H) → H → (S → E → Type 0) → Type 0
+EndsBy {T} {E} {S} {H} result hold held MayEnd =
+    IfErr result (λ fault. (s : S) → held ≡ hold s → MayEnd s fault)
+
+-- ---- commands
+
+abbrev pub value_of : code.Command → Command
+value_of (variant.Select node) = select node
+value_of (variant.Exchange sender receiver) = exchange sender receiver
+value_of (variant.Lose sender receiver) = lose sender receiver
+value_of (variant.HoldBack sender receiver) = hold_back sender receiver
+value_of (variant.HandOver sender receiver) = hand_over sender receiver
+value_of (variant.Restart node) = restart node
+value_of variant.BadForm = bad_form
+
+-- the nodes of a command are there, and two of them differ
+abbrev pub HasNodes : code.Command → Type 0
+HasNodes (variant.Select node) = node < node_count
+HasNodes (variant.Exchange sender receiver) = ArePlaces sender receiver
+HasNodes (variant.Lose sender receiver) = ArePlaces sender receiver
+HasNodes (variant.HoldBack sender receiver) = ArePlaces sender receiver
+HasNodes (variant.HandOver sender receiver) = ArePlaces sender receiver
+HasNodes (variant.Restart node) = node < node_count
+HasNodes variant.BadForm = ⊤

@@ -1,11 +1,15 @@
--- what a reader must believe: lines, what they ask for, what a script prints, and that it is lines
-pub mod ClientLine
+-- what a reader must believe: what lines ask for, what a node does with them, what a script prints, that it is lines, and
+-- what the nodes are in a cluster
+pub mod Command
 pub mod Request
+pub mod Node
+pub mod Links
+pub mod World
 pub mod Script
 pub mod ChangeLines
 pub mod Printed
--- what only the proofs use: what the code's values stand for, how far a script has come, and that nodes stay sound
+pub mod Schedule
+-- what only the proofs use: what the code's values stand for, and how far a script has come
 pub mod HeldNode
 pub mod Faults
 pub mod Progress
-pub mod Sound

@@ -1,17 +1,20 @@
 -- What a script prints: its items in turn, each answered by what the node took before it.
-use Rattle.std.specs.Prelude.{ℕ, List, [], ◌∷◌, ◌++◌, codes, Ok, Err}
+use Rattle.std.specs.Prelude.{ℕ, ◌+◌, false, List, [], ◌∷◌, ◌++◌, codes, map, Option, None, Ok, Err}
 use Rattle.irc_line.specs.Stream.{Item, items}
 use Rattle.irc_caps.specs.CapSet.{all_capabilities}
-use Rattle.chat_change.specs.declared.change.Change.{Change}
-use Rattle.irc_reply.specs.Reply.{ending, too_long_text, unknown_text}
-use Rattle.chat_batch.specs.Reference.{after_answer}
-use Rattle.chat_batch.specs.Answers.{Answer, answer_of}
+use Rattle.irc_reply.specs.Reply.{ending}
 use Rattle.chat_batch.specs.declared.facts.Facts.{Facts}
-use Rattle.chat_batch.specs.declared.facts.Answered.{Answered}
 use Rattle.gossip_delta.specs.declared.fault.ChangeLineFault.{ChangeLineFault}
 use Rattle.gossip_delta.specs.declared.fault.ChangeLineFault.TheVariants.{BadForm}
-use Rattle.bnc_server.specs.ClientLine.{nothing, over_long, unknown, other, question}
-use Rattle.bnc_server.specs.Request.{Request, of_change, of_client, request_of}
+use Rattle.client_directory.specs.Directory.{Directory}
+use Rattle.client_session.specs.declared.stage.Stage.{Stage}
+use Rattle.client_session.specs.declared.stage.Stage.TheVariants.{Registered}
+use Rattle.chat_change.specs.declared.change.Change.{Change}
+use Rattle.peer_lines.specs.Life.{Life, Ack}
+use Rattle.bnc_server.specs.Request.{Request, of_change, of_command, of_client, over_long, request_of}
+use Rattle.bnc_server.specs.Links.{new_node}
+use Rattle.bnc_server.specs.World.{World, Outcome, printing, node_at, with_node, after_command}
+use Rattle.bnc_server.specs.Node.{Node, Reply, after_taking, reply_to_line, reply_to_long_line}
 
 abbrev pub cluster : List ℕ
 cluster = codes "bnc.example"
@@ -20,12 +23,19 @@ cluster = codes "bnc.example"
 abbrev pub maximum : ℕ
 maximum = 100
 
--- ---- nodes
+-- ---- the beginning
 
--- a node with its session, and the changes that it took
-pub record Node : Type 0 where
-  pub facts : Facts
-  pub taken : List Change
+-- the one account with its one network, which isn't up
+abbrev pub directory_of : List ℕ → List ℕ → List ℕ → Directory
+directory_of account network nick =
+    record {
+      name = account;
+      secret = [];
+      networks = record {
+        name = network;
+        entry = record { is_up = false; nick = nick; channels = []; takes_redact = false };
+      } ∷ [];
+    } ∷ []
 
 -- a session holds all capabilities, and its batches are numbered from 1
 abbrev pub facts_of : List ℕ → List ℕ → List ℕ → Facts
@@ -39,13 +49,39 @@ facts_of account network nick = record {
   maximum = maximum;
 }
 
-abbrev pub start : List ℕ → List ℕ → List ℕ → Node
-start account network nick = record { facts = facts_of account network nick; taken = [] }
+-- a session that is registered
+abbrev pub session_of : List ℕ → List ℕ → List ℕ → Stage
+session_of account network nick = Registered (facts_of account network nick)
+
+-- nodes 1 to 9 are called `n1` to `n9`
+abbrev pub places : List ℕ
+places = 0 ∷ 1 ∷ 2 ∷ 3 ∷ 4 ∷ 5 ∷ 6 ∷ 7 ∷ 8 ∷ []
+
+abbrev pub name_of : ℕ → List ℕ
+name_of place = 110 ∷ (49 + place) ∷ []
+
+abbrev pub first_life : ℕ → Life
+first_life place = record { node = name_of place; incarnation = 1 }
+
+abbrev pub first_lives : List Life
+first_lives = map first_life places
+
+abbrev pub none_late : List (Option Ack)
+none_late = map (λ (place : ℕ). None) places
+
+-- each has heard of all
+abbrev pub first_node : Stage → Life → Node
+first_node session life = new_node session life first_lives none_late
+
+abbrev pub start : List ℕ → List ℕ → List ℕ → World
+start account network nick = record {
+  directory = directory_of account network nick;
+  facts = facts_of account network nick;
+  nodes = map (first_node (session_of account network nick)) first_lives;
+  selected = 0;
+}
 
 -- ---- texts
-
-abbrev pub not_yet_text : List ℕ
-not_yet_text = codes "% NotYet" ++ ending
 
 -- of a line that spells no change, by its form or else by a field
 abbrev pub refusal_text : ChangeLineFault → List ℕ
@@ -54,47 +90,30 @@ refusal_text _ = codes "% BadField" ++ ending
 
 -- ---- answers
 
--- what a node is after a line, and what is printed
-pub record Outcome : Type 0 where
-  pub node : Node
-  pub text : List ℕ
+-- the selected node replies
+abbrev pub of_reply : World → Reply → Outcome
+of_reply w reply = printing (with_node w w.selected reply.node) reply.text
 
-abbrev pub after_taking : Node → Change → Node
-after_taking node change = record node { taken = node.taken ++ change ∷ [] }
+abbrev pub selected_node : World → Node
+selected_node w = node_at w w.selected
 
-abbrev pub with_reference : Facts → ℕ → Facts
-with_reference facts n = record facts { reference = n }
+abbrev pub after_change : World → Change → World
+after_change w change = with_node w w.selected (after_taking (selected_node w) (change ∷ []))
 
-abbrev pub after_answering : Node → Answered → Node
-after_answering node answered =
-    record node { facts = with_reference node.facts (after_answer answered node.facts.reference) }
-
-abbrev pub reply_of : Node → List ℕ → Outcome
-reply_of node text = record { node = node; text = text }
-
-abbrev pub answered_by : Node → Answer → Outcome
-answered_by node answer =
-    record { node = after_answering node answer.answered; text = answer.text }
-
-abbrev pub outcome : Node → Request → Outcome
-outcome node (of_change (Ok change)) = reply_of (after_taking node change) []
-outcome node (of_change (Err fault)) = reply_of node (refusal_text fault)
-outcome node (of_client nothing) = reply_of node []
-outcome node (of_client over_long) =
-    reply_of node (too_long_text node.facts.cluster node.facts.nick)
-outcome node (of_client unknown) =
-    reply_of node (unknown_text node.facts.cluster node.facts.nick (codes "*"))
-outcome node (of_client other) = reply_of node not_yet_text
-outcome node (of_client (question line)) =
-    answered_by node (answer_of node.taken node.facts line)
+abbrev pub outcome : World → Request → Outcome
+outcome w (of_change (Ok change)) = printing (after_change w change) []
+outcome w (of_change (Err fault)) = printing w (refusal_text fault)
+outcome w (of_command command) = after_command w command
+outcome w (of_client bytes) = of_reply w (reply_to_line w.directory (selected_node w) bytes)
+outcome w over_long = of_reply w (reply_to_long_line w.directory (selected_node w))
 
 -- ---- scripts
 
--- what the items print, from a node on
-abbrev pub text_of : Node → List Item → List ℕ
-text_of node [] = []
-text_of node (item ∷ items) =
-    (outcome node (request_of item)).text ++ text_of (outcome node (request_of item)).node items
+-- what the items print, from a world on
+abbrev pub text_of : World → List Item → List ℕ
+text_of w [] = []
+text_of w (item ∷ items) =
+    (outcome w (request_of item)).text ++ text_of (outcome w (request_of item)).world items
 
 -- what the bytes of a script print
 abbrev pub script : List ℕ → List ℕ → List ℕ → List ℕ → List ℕ

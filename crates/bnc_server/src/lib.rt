@@ -1,7 +1,7 @@
 //! The server of the bouncer: scripts of changes and questions, and their answers.
 #![tactic(auto)]
 
-mod client_line;
+mod command;
 mod fault;
 pub mod laws;
 mod node;
@@ -9,6 +9,7 @@ mod reply;
 mod script;
 #[cfg(test)]
 mod tests;
+mod world;
 
 pub use fault::ReplayFault;
 pub use script::replay;

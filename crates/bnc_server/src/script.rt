@@ -4,11 +4,11 @@ ghost use Rattle.output.specs.Writes.{Writes};
 ghost use Rattle.irc_line.specs.Stream.{next_item, held_without};
 ghost use Rattle.chat_change.specs.Faults.{buffer_fault};
 ghost use Rattle.bnc_server.specs.Script.{script};
-ghost use Rattle.bnc_server.specs.HeldNode.{WritesOf, Leaves};
-ghost use Rattle.bnc_server.specs.Progress.{text_of_next, node_after_next, IsDrained, Serves};
+ghost use Rattle.bnc_server.specs.HeldNode.{held_world, WritesOf, Leaves};
+ghost use Rattle.bnc_server.specs.Progress.{text_of_next, world_after_next, IsDrained, Serves};
 
 use crate::fault::ReplayFault;
-use crate::node::Node;
+use crate::world::World;
 use irc_line::{Feeder, Next};
 use std::alloc::Global;
 use std::io::{ErrorKind, Read, Write};
@@ -18,25 +18,26 @@ const MOST_READS: u64 = 16_777_216;
 
 // Answers one item of what the feeder holds, and says whether there was one.
 fn serve_next<W: Write>(
-    node: &mut Node,
+    world: &mut World,
     feeder: &mut Feeder,
     alloc: Global,
     writer: &mut W,
 ) -> Result<bool, ReplayFault>
-    ensures text { WritesOf W.contents writer.old writer.new result node.old
+    ensures text { WritesOf W.contents writer.old writer.new result held_world world.old
         (text_of_next (next_item feeder.old)) }
-    ensures node { Leaves result node.old (node_after_next (next_item feeder.old)) node.new }
+    ensures world { Leaves result held_world world.old
+        (world_after_next (next_item feeder.old)) world.new }
     ensures feeder { feeder.new ≡ held_without (next_item feeder.old) feeder.old }
     ensures some { IfOk result (λ more. more ≡ is_some (next_item feeder.old)) }
 {
     match feeder.next_line() {
         Next::More => Ok(false),
         Next::TooLong => {
-            node.serve_too_long(writer)?;
+            world.serve_too_long(alloc, writer)?;
             Ok(true)
         }
         Next::Line(text) => {
-            node.serve_line(alloc, text, writer)?;
+            world.serve_line(alloc, text, writer)?;
             Ok(true)
         }
     }
@@ -44,22 +45,22 @@ fn serve_next<W: Write>(
 
 // Answers each whole line that the feeder holds.
 fn drain<W: Write>(
-    node: &mut Node,
+    world: &mut World,
     feeder: &mut Feeder,
     alloc: Global,
     writer: &mut W,
 ) -> Result<(), ReplayFault>
     ensures serves { Serves W.contents writer.old writer.new result
-        node.old feeder.old [] node.new feeder.new }
+        world.old feeder.old [] world.new feeder.new }
     ensures drained { OnOk result (IsDrained feeder.new) }
 {
-    'lines: while serve_next(node, feeder, alloc, writer)? {}
+    'lines: while serve_next(world, feeder, alloc, writer)? {}
     Ok(())
 }
 
 // Answers the lines that end in a piece of the script.
 fn feed_piece<W: Write>(
-    node: &mut Node,
+    world: &mut World,
     feeder: &mut Feeder,
     alloc: Global,
     piece: &[u8],
@@ -67,14 +68,14 @@ fn feed_piece<W: Write>(
 ) -> Result<(), ReplayFault>
     requires drained { IsDrained feeder.old }
     ensures serves { Serves W.contents writer.old writer.new result
-        node.old feeder.old piece.now node.new feeder.new }
+        world.old feeder.old piece.now world.new feeder.new }
     ensures drained { OnOk result (IsDrained feeder.new) }
 {
     let mut rest = piece;
     'feeds: while !rest.is_empty() {
         let n = feeder.feed(rest);
         rest = &rest[n..];
-        drain(node, feeder, alloc, writer)?;
+        drain(world, feeder, alloc, writer)?;
     }
     Ok(())
 }
@@ -82,7 +83,7 @@ fn feed_piece<W: Write>(
 // Answers the lines that end in a piece of the script, and sends the answers on their way, so that whoever asked sees
 // them before more is read.
 fn serve_piece<W: Write>(
-    node: &mut Node,
+    world: &mut World,
     feeder: &mut Feeder,
     alloc: Global,
     piece: &[u8],
@@ -90,10 +91,10 @@ fn serve_piece<W: Write>(
 ) -> Result<(), ReplayFault>
     requires drained { IsDrained feeder.old }
     ensures serves { Serves W.contents writer.old writer.new result
-        node.old feeder.old piece.now node.new feeder.new }
+        world.old feeder.old piece.now world.new feeder.new }
     ensures drained { OnOk result (IsDrained feeder.new) }
 {
-    feed_piece(node, feeder, alloc, piece, writer)?;
+    feed_piece(world, feeder, alloc, piece, writer)?;
     match writer.flush() {
         Ok(()) => Ok(()),
         Err(_) => Err(ReplayFault::Write),
@@ -116,14 +117,14 @@ pub(crate) fn replay_within<In: Read, Out: Write>(
     let Ok(mut feeder) = Feeder::new(alloc) else {
         return Err(ReplayFault::NoMemory);
     };
-    let Ok(mut node) = Node::new(alloc, account, network, nick) else {
+    let Ok(mut world) = World::new(alloc, account, network, nick) else {
         return Err(ReplayFault::NoMemory);
     };
     let mut buffer = [0u8; 4096];
     'reads: for _ in 0..most_reads {
         match reader.read(&mut buffer) {
             Ok(0) => return Ok(()),
-            Ok(n) => serve_piece(&mut node, &mut feeder, alloc, &buffer[..n], writer)?,
+            Ok(n) => serve_piece(&mut world, &mut feeder, alloc, &buffer[..n], writer)?,
             Err(e) => {
                 if e.kind() != ErrorKind::Interrupted {
                     return Err(ReplayFault::Read);
@@ -137,19 +138,29 @@ pub(crate) fn replay_within<In: Read, Out: Write>(
 /// Answers a script, which is read to its end by at most 16,777,216 reads. At `Ok` all that the script prints was
 /// written, and after a fault a prefix of it.
 ///
-/// The script is of the account and the network of those names, and the session's nick is a target. Lines end with LF,
-/// and one CR before it is dropped; bytes behind the last LF are ignored where they are fewer than 8703. Each line is
-/// answered by lines that end with CR LF:
+/// The script is of nine nodes, `n1` to `n9`, which begin with nothing taken and know each other's lives. The client talks
+/// to node 1 until a line selects another. Each node has a session of the account and the network of those names, and the
+/// session's nick is a target. The network isn't up. Lines end with LF, and one CR before it is dropped; bytes behind the
+/// last LF are ignored where they are fewer than 8703. What is printed are lines that end with CR LF:
 ///
-/// - a line that begins with `C` and a space is taken where it spells a change (`gossip_delta::read_change`), and answered
-///   `% BadForm` or `% BadField` where it spells none;
-/// - CHATHISTORY (IRCv3 draft/chathistory), and MARKREAD (IRCv3 draft/read-marker) with one parameter or none, are answered
-///   as `chat_batch::answer` answers them, to a session that holds all capabilities;
-/// - an empty line is answered by nothing, a line or tags of too many bytes by numeric 417, a line with no command by
-///   numeric 421, and every other line by `% NotYet`.
+/// - a line that begins with `C` and a space is taken by the selected node where it spells a change
+///   (`gossip_delta::read_change`), and answered `% BadForm` or `% BadField` where it spells none;
+/// - a line that begins with `%` is about nodes, which are `1` to `9`, and of a pair no node is both:
+///   - `%2` selects node 2;
+///   - `%1>2` makes a packet of node 1 for node 2 (`gossip_link::Link`), where there is anything that node 2 hasn't
+///     acknowledged. Node 2 takes it, and node 1 takes the acknowledgement;
+///   - `%1>2!` makes the packet and loses it;
+///   - `%1>2-` has it taken and holds the acknowledgement back. The last one of each pair stays held, whatever comes;
+///   - `%1<2` lets node 1 take the one that is held of node 2. A refusal prints `% WrongLife` or `% AckTooHigh`, and where
+///     none is held nothing happens;
+///   - `%2*` begins another life of node 2: nothing is taken, its session is new, and all nodes hear each other's hellos;
+///   - any other is answered `% BadForm`;
+/// - every other line, and one of too many bytes, goes to the selected node's session (`client_session::Session`), which is
+///   registered and holds all capabilities. What it puts is taken by the node, and what it asks is answered by what the
+///   node took (`chat_batch::answer`). Once it is closed nothing answers.
 ///
 /// Fails with `NoMemory` for want of memory, with `Read` where the reader fails or has more after the most reads, or a
-/// node can take no further change, and with `Write` where the writer fails.
+/// node can take no further change or begin no further life, and with `Write` where the writer fails.
 pub fn replay<In: Read, Out: Write>(
     alloc: Global,
     reader: &mut In,

@@ -4,18 +4,18 @@ use Rattle.bnc_server.proofs.ProgressLemmas.{goes-nothing, goes-on, goes-next, g
 use Rattle.bnc_server.proofs.script.drain.Goals as goal
 
 pub lines-init : goal.lines-init
-lines-init g c node is = goes-nothing _ _ _ [] node is
+lines-init g c world is = goes-nothing _ _ _ [] world is
 
 pub returns-in_err-serve_next-clause-serves : goal.returns-in_err-serve_next-clause-serves
-returns-in_err-serve_next-clause-serves g c node is =
+returns-in_err-serve_next-clause-serves g c world is =
     advances_failed _ _ _ c.from_residual.result _ _ _ c.from_residual.ensures.1
-    (goes-stops _ _ _ _ c.lines.node c.lines.feeder [] (c.lines.invariant node is) (λ now held.
-    stops-next _ _ c.lines.node c.serve_next.new.node c.lines.feeder c.serve_next.new.feeder now (c.in_err-serve_next.ensures.text now held)))
+    (goes-stops _ _ _ _ c.lines.world c.lines.feeder [] (c.lines.invariant world is) (λ now held.
+    stops-next _ _ c.lines.world c.serve_next.new.world c.lines.feeder c.serve_next.new.feeder now (c.in_err-serve_next.ensures.text now held)))
 
 pub lines-preserved : goal.lines-preserved
-lines-preserved g c node is =
-    goes-on _ _ _ _ c.lines.node c.lines.feeder [] (c.lines.invariant node is) _ _ _ (λ now held.
-    goes-next _ _ c.lines.node c.serve_next.new.node c.lines.feeder c.serve_next.new.feeder now (c.in_ok-serve_next.ensures.text now held) (c.in_ok-serve_next.ensures.node now held)
+lines-preserved g c world is =
+    goes-on _ _ _ _ c.lines.world c.lines.feeder [] (c.lines.invariant world is) _ _ _ (λ now held.
+    goes-next _ _ c.lines.world c.serve_next.new.world c.lines.feeder c.serve_next.new.feeder now (c.in_ok-serve_next.ensures.text now held) (c.in_ok-serve_next.ensures.world now held)
     c.serve_next.ensures.feeder)
 
 pub lines-smaller : goal.lines-smaller

@@ -4,13 +4,13 @@ use Rattle.bnc_server.proofs.ProgressLemmas.{goes-nothing, goes-on, goes-stops, 
 use Rattle.bnc_server.proofs.script.feed_piece.Goals as goal
 
 pub feeds-init : goal.feeds-init
-feeds-init g c = record { drained = c.requires.drained; written = λ node is. goes-nothing _ _ _ _ node is }
+feeds-init g c = record { drained = c.requires.drained; written = λ world is. goes-nothing _ _ _ _ world is }
 
 pub feeds-preserved : goal.feeds-preserved
 feeds-preserved g c = record {
   drained = c.in_ok-drain.ensures.drained;
-  written = λ node is.
-      goes-on _ _ _ _ c.feeds.node c.feeds.feeder c.feeds.rest.now (c.feeds.invariant.written node is) _ _ _ (λ now held.
+  written = λ world is.
+      goes-on _ _ _ _ c.feeds.world c.feeds.feeder c.feeds.rest.now (c.feeds.invariant.written world is) _ _ _ (λ now held.
       goes-fed _ _ _ c.feeds.feeder c.feed-n.new.self _ c.feeds.rest.now _ c.feed-n.result c.feed-n.ensures.taken (take_rest c.feeds.rest.now c.feed-n.result) now
       (c.in_ok-drain.ensures.serves now held));
 }
@@ -23,8 +23,8 @@ feeds-smaller g c =
     omega (arith, more, some, length-take (length c.feeds.rest.now - c.feed-n.result) (drop c.feed-n.result c.feeds.rest.now), length-drop c.feed-n.result c.feeds.rest.now)
 
 pub returns-in_err-drain-clause-serves : goal.returns-in_err-drain-clause-serves
-returns-in_err-drain-clause-serves g c node is =
+returns-in_err-drain-clause-serves g c world is =
     advances_failed _ _ _ c.from_residual.result _ _ _ c.from_residual.ensures.1
-    (goes-stops _ _ _ _ c.feeds.node c.feeds.feeder c.feeds.rest.now (c.feeds.invariant.written node is) (λ now held.
-    stops-fed _ _ c.drain.new.node c.feeds.feeder c.feed-n.new.self c.drain.new.feeder c.feeds.rest.now _ c.feed-n.result c.feed-n.ensures.taken (take_rest c.feeds.rest.now c.feed-n.result) now
+    (goes-stops _ _ _ _ c.feeds.world c.feeds.feeder c.feeds.rest.now (c.feeds.invariant.written world is) (λ now held.
+    stops-fed _ _ c.drain.new.world c.feeds.feeder c.feed-n.new.self c.drain.new.feeder c.feeds.rest.now _ c.feed-n.result c.feed-n.ensures.taken (take_rest c.feeds.rest.now c.feed-n.result) now
     (c.in_err-drain.ensures.serves now held)))

@@ -1,7 +1,7 @@
 use Rattle.gossip_delta.specs.ChangeLine.{read_change}
 use Rattle.gossip_delta.proofs.CallerLemmas.{own_fault}
 use Rattle.bnc_server.proofs.RequestLemmas.{fault_of_line}
-use Rattle.bnc_server.proofs.node.Node.read.Goals as goal
+use Rattle.bnc_server.proofs.world.World.read.Goals as goal
 
 pub returns-in-Err-clause-refused : goal.returns-in-Err-clause-refused
 returns-in-Err-clause-refused c = fault_of_line (read_change c.args.text.now) c.in-Err.fault (own_fault c.args.text.now) c.in-Err.ensures.refused
