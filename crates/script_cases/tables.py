@@ -2,10 +2,11 @@
 """Writes the tables of queries in data/, each with the answers of a plain program: filter, sort and cut over a list of
 changes, as the IRCv3 specification draft/chathistory words them. The gate doesn't run it; it runs what it wrote.
 
-    ./tables.py          writes data/pages, data/between, data/targets, data/refusals
+    ./tables.py          writes data/pages, data/between, data/targets, data/refusals, data/lengths, data/orders
 """
 
 import os
+import random
 from datetime import datetime, timedelta
 
 CLUSTER = ":bnc.example"
@@ -312,6 +313,68 @@ def refusals():
     yield session.case("buffers are asked for by moments alone")
 
 
+def lengths():
+    """Lines at the most bytes that are served, and one beyond."""
+    too_long = f"{CLUSTER} 417 al :Input line was too long"
+    for name, line, printed in [
+        ("tags of the most bytes", "@" + "a" * 4094 + " PING x", [f"{CLUSTER} PONG bnc.example :x"]),
+        ("tags of one byte more", "@" + "a" * 4095 + " PING x", [too_long]),
+        ("a line of the most bytes", "PING " + "a" * 505, [f"{CLUSTER} PONG bnc.example :" + "a" * 300]),
+        ("a line of one byte more", "PING " + "a" * 506, [too_long]),
+        ("an over-long line of a change", "C " + "a" * 8701, [too_long]),
+        ("an over-long line about nodes", "%" + "a" * 8702, [too_long]),
+        ("after a close an over-long line is not answered", "QUIT\n%" + "a" * 8702, ["ERROR :Closing link"]),
+        ("a word of the most bytes that is told again", "CHATHISTORY " + "n" * 64,
+         [f"{CLUSTER} FAIL CHATHISTORY INVALID_PARAMS {'N' * 64} :Unknown command"]),
+    ]:
+        yield "\n".join([f"== {name}", line, "--"] + printed) + "\n"
+
+
+def questions(session):
+    for sub in ["BEFORE", "AFTER", "AROUND", "LATEST"]:
+        for selector in SELECTORS[::3]:
+            session.ask(sub, "#a", [selector], 3)
+    session.ask("LATEST", "#a", [], 5)
+    session.ask("BETWEEN", "#a", [("timestamp", 0), ("timestamp", 9000)], 4)
+    session.ask_targets(0, 9000, 5)
+
+
+def asked_of_all(name, lines):
+    """The lines, and then every node is asked the same and answers alike."""
+    asked, printed = list(lines), []
+    for node in range(1, 10):
+        session = Session(channel())
+        questions(session)
+        asked += [f"%{node}"] + session.asked
+        printed += session.printed
+    return "\n".join([f"== {name}"] + asked + ["--"] + printed) + "\n"
+
+
+def orders():
+    """One set of changes, which nine nodes take in other orders, with repeats, in other parts."""
+    changes = channel().lines
+    lines = []
+    for node in range(1, 10):
+        chosen = random.Random(node)
+        mine = changes + chosen.sample(changes, node)
+        chosen.shuffle(mine)
+        lines += [f"%{node}"] + mine
+    yield asked_of_all("each node takes all, in an order of its own, some of it again", lines)
+    for seed in range(4):
+        chosen = random.Random(100 + seed)
+        lines = []
+        for node in range(1, 10):
+            lines += [f"%{node}"] + [c for i, c in enumerate(changes) if (i + seed) % 9 + 1 == node]
+        for _ in range(40):
+            a, b = chosen.sample(range(1, 10), 2)
+            lines.append(chosen.choice([f"%{a}>{b}", f"%{a}>{b}!", f"%{a}>{b}-", f"%{a}<{b}"]))
+        # a ring, twice around: then each has all
+        lines += 2 * [f"%{a}>{a % 9 + 1}" for a in range(1, 10)]
+        yield asked_of_all(f"each node takes a part, and packets carry the rest, {seed}", lines)
+    lines = changes + [f"%1>{a}" for a in range(2, 10)] + ["%5*", "%7*", "%5>7", "%7>5", "%2>5", "%3>7", "%1*", "%9>1"]
+    yield asked_of_all("nodes begin again with nothing and are filled by others", lines)
+
+
 def write(name, cases):
     path = os.path.join(os.path.dirname(os.path.abspath(__file__)), "data", name)
     with open(path, "w", encoding="utf-8", newline="\n") as file:
@@ -323,3 +386,5 @@ if __name__ == "__main__":
     write("between", between())
     write("targets", targets())
     write("refusals", refusals())
+    write("lengths", lengths())
+    write("orders", orders())

@@ -16,8 +16,6 @@ mod history_steps;
 #[cfg(test)]
 mod limits;
 #[cfg(test)]
-mod questions;
-#[cfg(test)]
 mod reads;
 #[cfg(test)]
 mod state_limits;
