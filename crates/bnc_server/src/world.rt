@@ -227,7 +227,8 @@ impl World {
     fn take(&mut self, change: Change) -> Result<(), ReplayFault>
         ensures world { Leaves result held_world self.old
             (λ w. (spec.outcome w (of_change (Ok change))).world) self.new }
-        ensures fault { EndsBy result held_world self.old (λ w. MayRefuse (spec.selected_node w) change) }
+        ensures fault { EndsBy result held_world self.old
+            (λ w. MayRefuse (spec.selected_node w) change) }
     {
         self.nodes[self.selected].take(change)
     }
