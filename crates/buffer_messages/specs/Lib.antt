@@ -3,6 +3,7 @@
 
 pub mod Messages
 pub mod Nearest
--- ---- what only the proofs use of the code: how the two maps agree
+-- ---- what only the proofs use of the code: how the two maps agree, and the ends of ranges
 
 pub mod Agreement
+pub mod Ends

@@ -40,6 +40,17 @@ impl Model for Messages {
     ghost invariant = { λ p. Agree p.by_spot p.by_id };
 }
 
+/// A clone has maps of its own, and shares the ids and the records.
+impl Clone for Messages {
+    ghost is_clone = { λ messages copy. copy ≡ messages };
+
+    fn clone(&self) -> Result<Messages, AllocError> {
+        let by_id = self.by_id.clone()?;
+        let by_spot = self.by_spot.clone()?;
+        Ok(Messages { by_id, by_spot })
+    }
+}
+
 // What a record is filed by, and the record. All share its memory.
 #[derive(Drop)]
 struct Copies {
@@ -113,6 +124,7 @@ impl Messages {
         ensures refused { result ≡ false → self.new ≡ self.old }
     {
         let at = post.at();
+        // without it nothing says that the moment is at most the greatest, as the maps' agreement does of each record
         let _bound = at.ms();
         let Ok(
             Copies {
@@ -147,6 +159,7 @@ impl Messages {
         ensures refused { result ≡ false → self.new ≡ self.old }
     {
         let at = post.at();
+        // without it nothing says that the moment is at most the greatest, as the maps' agreement does of each record
         let _bound = at.ms();
         let Ok(
             Copies {

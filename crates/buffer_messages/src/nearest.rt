@@ -1,15 +1,15 @@
 //! The kept records that lie nearest to a cut.
 
-ghost use Rattle.std.specs.Prelude.{◌≡◌, ◌<◌, ◌+◌, not, nat_le, nat_lt, MatchOption, IfOk};
+ghost use Rattle.std.specs.Prelude.{◌≡◌, ◌<◌, ◌+◌, true, not, nat_le, nat_lt, MatchOption, IfOk};
 ghost use Rattle.irc_time.specs.Time.{greatest};
 ghost use Rattle.std.specs.Ordering.{flip_args, is_lt};
 ghost use Rattle.std.specs.Map.Iter.{deref};
 ghost use Rattle.std.specs.Option.{option_map};
 ghost use Rattle.std.specs.Range.Bound.{bound_map};
-ghost use Rattle.std.specs.BTreeMap.Range.{is_from_start, is_past_end};
-ghost use Rattle.chat_history.specs.Cut.{cut_cmp, of_record, is_after};
+ghost use Rattle.chat_history.specs.Cut.{of_record, is_after};
 ghost use Rattle.chat_history.specs.Visible.{by_spot};
 ghost use Rattle.buffer_messages.specs.Nearest.{IsFirstKept};
+ghost use Rattle.buffer_messages.specs.Ends.{is_from, is_until};
 
 use crate::messages::Messages;
 use chat_change::{Moment, Record};
@@ -18,12 +18,19 @@ use std::alloc::AllocError;
 use std::ops::Bound;
 
 impl Messages {
+    /// The first kept record, by (moment, id).
+    pub fn first(&self) -> Option<&Record>
+        ensures { IsFirstKept by_spot (λ _. true) self.now (option_map deref result) }
+    {
+        self.first_from(Bound::Unbounded)
+    }
+
     /// The first kept record after a cut, by (moment, id).
     pub fn first_after(&self, cut: &Cut<'_>) -> Option<&Record>
         ensures { IsFirstKept by_spot (is_after cut.now) self.now (option_map deref result) }
     {
         match cut {
-            Cut::Bottom => self.first_from(Bound::Unbounded),
+            Cut::Bottom => self.first(),
             Cut::UnderTime(at) => self.first_from_moment(*at),
             Cut::OverTime(at) => match moment_after(*at) {
                 Some(next) => self.first_from_moment(next),
@@ -106,8 +113,7 @@ impl Messages {
     // The first record from a bound on.
     fn first_from(&self, start: Bound<&Spot>) -> Option<&Record>
         ensures { IsFirstKept by_spot
-            (λ r. is_from_start cut_cmp (bound_map (λ s. s.now) start.entry) (of_record r)) self.now
-            (option_map deref result) }
+            (is_from (bound_map (λ s. s.now) start.entry)) self.now (option_map deref result) }
     {
         let mut range = self.by_spot.range((start, Bound::Unbounded));
         match range.next() {
@@ -119,8 +125,7 @@ impl Messages {
     // The last record up to a bound.
     fn last_until(&self, end: Bound<&Spot>) -> Option<&Record>
         ensures { IsFirstKept (flip_args by_spot)
-            (λ r. not (is_past_end cut_cmp (bound_map (λ s. s.now) end.entry) (of_record r))) self.now
-            (option_map deref result) }
+            (is_until (bound_map (λ s. s.now) end.entry)) self.now (option_map deref result) }
     {
         let mut range = self.by_spot.range((Bound::Unbounded, end));
         match range.next_back() {

@@ -4,6 +4,7 @@ ghost use Rattle.std.specs.Prelude.{◌≡◌};
 ghost use Rattle.buffer_messages.specs.Messages as spec;
 
 use chat_change::{Moment, Record};
+use std::alloc::AllocError;
 
 /// What is held of a message, under the number of its piece.
 #[derive(Drop)]
@@ -22,6 +23,21 @@ impl Standing {
         match self {
             Standing::Kept(_, number) => *number,
             Standing::Gone(_, number) => *number,
+        }
+    }
+}
+
+/// A clone shares the memory of the record.
+impl Clone for Standing {
+    ghost is_clone = { λ standing copy. copy ≡ standing };
+
+    fn clone(&self) -> Result<Standing, AllocError> {
+        match self {
+            Standing::Kept(post, number) => {
+                let post = post.try_clone()?;
+                Ok(Standing::Kept(post, *number))
+            }
+            Standing::Gone(at, number) => Ok(Standing::Gone(*at, *number)),
         }
     }
 }

@@ -77,6 +77,7 @@ fn records_come_and_go(rt: HostRuntime) -> Result<(), Fail> {
             has_id(messages.first_after(&Cut::Bottom), first),
             "step {number}"
         );
+        assert!(rt; has_id(messages.clone()?.first(), first), "step {number}");
         assert!(rt;
             has_id(messages.last_before(&Cut::Top), last),
             "step {number}"

@@ -192,3 +192,12 @@ impl Ord for Buffer {
         self.order(other)
     }
 }
+
+/// A clone shares its memory, as one by [`Buffer::try_clone`] does.
+impl Clone for Buffer {
+    ghost is_clone = { λ buffer copy. copy ≡ buffer };
+
+    fn clone(&self) -> Result<Buffer, AllocError> {
+        self.try_clone()
+    }
+}

@@ -22,8 +22,6 @@ mod message;
 mod msg_id;
 mod order;
 mod record;
-#[cfg(test)]
-mod tests;
 mod texts;
 mod words;
 

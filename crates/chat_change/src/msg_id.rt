@@ -129,3 +129,12 @@ impl Ord for MsgId {
         self.order(other)
     }
 }
+
+/// A clone shares its memory, as one by [`MsgId::try_clone`] does.
+impl Clone for MsgId {
+    ghost is_clone = { λ msg_id copy. copy ≡ msg_id };
+
+    fn clone(&self) -> Result<MsgId, AllocError> {
+        self.try_clone()
+    }
+}

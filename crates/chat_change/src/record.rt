@@ -206,3 +206,12 @@ impl Record {
         Ok(Record { parts })
     }
 }
+
+/// A clone shares its memory, as one by [`Record::try_clone`] does.
+impl Clone for Record {
+    ghost is_clone = { λ post copy. copy ≡ post };
+
+    fn clone(&self) -> Result<Record, AllocError> {
+        self.try_clone()
+    }
+}

@@ -20,6 +20,8 @@ pub use Rattle.chat_history.proofs.VisibleLemmas.{spot_total, rising_total, chan
 pub use Rattle.chat_history.proofs.VisibleLemmas.{IsRecordOf, posted_is, posted_here, record_of, of_record, records_sorted}
 -- buffers in their order
 pub use Rattle.chat_history.proofs.BuffersLemmas.{in_order_member, member_in_order, buffers_sorted}
+-- no record of a normal form lies below the floor of its buffer
+pub use Rattle.chat_history.proofs.StoredLemmas.{not_below}
 -- what one more change does to a normal form and to its numbers
 pub use Rattle.chat_history.proofs.StepLemmas.{floor_set}
 pub use Rattle.chat_history.proofs.AbsorbLemmas.{append_none, get_after, get_floor, low_floor, floor_is, get_is_piece}
@@ -27,6 +29,8 @@ pub use Rattle.chat_history.proofs.AbsorbLemmas.{new_form_differs, first_form_be
 pub use Rattle.chat_history.proofs.AbsorbLemmas.{key_of-remainder, same_buffer_from}
 pub use Rattle.chat_history.proofs.NumberLemmas.{get-numbers, get-numbers_after}
 pub use Rattle.chat_history.proofs.HeldLemmas.{held_counted, held_same}
+-- the test of two histories
+pub use Rattle.chat_history.proofs.SameLemmas.{same_history_decides}
 -- what is visible was posted, and a marker was set
 pub use Rattle.chat_history.proofs.PostedLemmas.{visible_posted}
 pub use Rattle.chat_history.proofs.StandingLemmas.{mark_greatest}

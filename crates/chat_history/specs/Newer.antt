@@ -1,5 +1,5 @@
 -- The pieces of a state that are newer than a number, as they are sent.
-use Rattle.std.specs.Prelude.{ℕ, ◌≡◌, ◌<◌, ◌↔◌, Contains, Some, List, map}
+use Rattle.std.specs.Prelude.{ℕ, ◌≡◌, ◌<◌, ◌↔◌, Contains, Some, List, map, take}
 use Rattle.std.specs.List.{IsDistinct}
 use Rattle.std.specs.List.Sorted.{IsNonDecreasingBy}
 use Rattle.std.specs.FinMap.{get}
@@ -16,3 +16,8 @@ pub record IsNewer (h : StateValue) (from : ℕ) (turn : List (ℕ × Change)) :
   pub pieces : (e : ℕ × Change) → Contains turn e ↔ (HasPiece h e × (from < e.0))
   pub once : IsDistinct same_key (map (λ (e : ℕ × Change). key_of e.1) turn)
   pub rising : IsNonDecreasingBy (λ (e : ℕ × Change). e.0) turn
+
+-- the first of them, at most so many as a limit
+abbrev pub AreFirstNewer : StateValue → ℕ → ℕ → List (ℕ × Change) → Type 0
+AreFirstNewer h from limit first =
+    (turn : List (ℕ × Change)) × IsNewer h from turn × (first ≡ take limit turn)

@@ -8,6 +8,7 @@ ghost use Rattle.chat_history.specs.Visible.{spot_of, spot_cmp};
 ghost use Rattle.chat_history.specs.Cut.{cut_cmp, cut_total, of_record, is_after};
 
 use chat_change::{Moment, MsgId, Record};
+use std::alloc::AllocError;
 use std::cmp::Ordering;
 
 /// A moment, and the id of the message there. No id stands before all ids of the moment.
@@ -32,6 +33,19 @@ pub enum Cut<'s> {
     OverMsg(&'s Spot),
     /// After all records.
     Top,
+}
+
+/// A clone shares the memory of the id.
+impl Clone for Spot {
+    ghost is_clone = { λ spot copy. copy ≡ spot };
+
+    fn clone(&self) -> Result<Spot, AllocError> {
+        let id = match &self.id {
+            Some(id) => Some(id.try_clone()?),
+            None => None,
+        };
+        Ok(Spot { at: self.at, id })
+    }
 }
 
 impl Spot {
