@@ -1,6 +1,8 @@
 -- A store as a finite map: its history, its numbers, and what stands where a piece was placed.
 use Rattle.std.proofs.Common.{◌≡◌, ℕ, true, false, cond, Some, List, [], ◌∷◌, map, refl, sym, ◌∙◌, ap, subst, inl, inr}
 use Rattle.std.specs.Option.{IfSome, option_map}
+use Rattle.std.specs.Cmp.{IsTotalOrder}
+use Rattle.std.proofs.lemmas.Cmp.{on_total, nat_cmp_total}
 use Rattle.std.specs.FinMap as finite
 use Rattle.chat_change.specs.declared.change.Change.{Change}
 use Rattle.chat_change.specs.declared.change.Change.TheVariants.{Post, Redact, Mark, Floor}
@@ -8,7 +10,7 @@ use Rattle.chat_change.specs.Key.{Key, key_cmp, key_of, same_key}
 use Rattle.chat_history.specs.History.{IsKeyedEntry, IsKeyed}
 use Rattle.std.specs.List.{AllByRecursion}
 use Rattle.chat_history.specs.Choice.{Among}
-use Rattle.chat_buffers.specs.Store.{Store, Numbered, map_values, history_in, numbers_in, change_at, piece_after}
+use Rattle.chat_buffers.specs.Store.{Store, Numbered, map_values, history_in, numbers_in, change_at, piece_after, by_number}
 use Rattle.chat_history.specs.Form.{IsNoFloor}
 use Rattle.chat_change.proofs.CallerLemmas.{key_total, key_exact}
 use Rattle.chat_history.proofs.CallerLemmas.{from_entries_keyed, get_entry}
@@ -54,3 +56,6 @@ placed-plain s n (Post r) p k = refl
 placed-plain s n (Redact b m t) p k = refl
 placed-plain s n (Mark b t) p k = refl
 placed-plain s n (Floor b t) p k = absurd p
+
+pub by_number_total : IsTotalOrder by_number
+by_number_total = on_total (λ (p : Numbered). p.number) nat_cmp_total

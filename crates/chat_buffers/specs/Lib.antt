@@ -6,7 +6,12 @@ pub mod Store
 pub mod Fate
 -- how a piece enters it, and a floor takes records away one by one
 pub mod Entering
+-- the search for the nearest record of a buffer, and for the next buffer
+pub mod Nearest
+pub mod Sought
 -- ---- what only the proofs use of the code
 
 -- what is held of one buffer, and of many
 pub mod Held
+-- what a walk over the buffers has ahead of it
+pub mod Ahead

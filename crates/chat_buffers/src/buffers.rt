@@ -1,6 +1,6 @@
 //! The numbered pieces of many buffers.
 
-ghost use Rattle.std.specs.Prelude.{◌≡◌, IsTrue, Some, None, false, IfSome};
+ghost use Rattle.std.specs.Prelude.{◌≡◌, IsTrue, IfOk, Some, None, false, IfSome};
 ghost use Rattle.std.specs.FinMap as map;
 ghost use Rattle.chat_change.specs.Key as key;
 ghost use Rattle.chat_change.specs.Key.{key_of, key_buffer, value_of};
@@ -14,7 +14,7 @@ use crate::held::{Held, at_or_above, moment_of, nothing_held, number_of, settle}
 use buffer_messages::Standing;
 use chat_change::{Buffer, Change, Key, Moment, MsgId, Record};
 use ordered_maps::{discard, put};
-use std::alloc::Global;
+use std::alloc::{AllocError, Global};
 use std::collections::BTreeMap;
 use std::marker::Model;
 
@@ -30,8 +30,8 @@ pub enum Fate<'a> {
 /// The numbered pieces of many buffers, one for each key at most. They are seen as one store.
 #[derive(Drop)]
 pub struct Buffers {
-    alloc: Global,
-    held: BTreeMap<Buffer, Held>,
+    pub(crate) alloc: Global,
+    pub(crate) held: BTreeMap<Buffer, Held>,
 }
 
 impl Model for Buffers {
@@ -57,6 +57,14 @@ impl Buffers {
             alloc,
             held: BTreeMap::new(alloc),
         }
+    }
+
+    /// An equal value, with maps of its own. It shares the buffers' names, the ids and the records.
+    pub fn try_clone(&self, alloc: Global) -> Result<Buffers, AllocError>
+        ensures { IfOk result (λ copy. copy ≡ self.now) }
+    {
+        let held = self.held.clone()?;
+        Ok(Buffers { alloc, held })
     }
 
     /// The number of the piece of a key, if it has one.

@@ -9,7 +9,7 @@ ghost use Rattle.chat_buffers.specs.Held.{Fits, Settles, held_piece, floor_momen
 use buffer_messages::Messages;
 use chat_change::{Change, Moment};
 use ordered_maps::discard;
-use std::alloc::Global;
+use std::alloc::{AllocError, Global};
 
 /// A moment under the number of its piece.
 #[derive(Clone, Copy)]
@@ -24,6 +24,20 @@ pub(crate) struct Held {
     pub(crate) messages: Messages,
     pub(crate) floor: Option<Stamp>,
     pub(crate) marker: Option<Stamp>,
+}
+
+/// A clone has maps of its own, and shares the ids and the records.
+impl Clone for Held {
+    ghost is_clone = { λ held copy. copy ≡ held };
+
+    fn clone(&self) -> Result<Held, AllocError> {
+        let messages = self.messages.clone()?;
+        Ok(Held {
+            messages,
+            floor: self.floor,
+            marker: self.marker,
+        })
+    }
 }
 
 /// Nothing of a buffer.

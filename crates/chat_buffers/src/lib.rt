@@ -3,5 +3,9 @@
 
 mod buffers;
 mod held;
+mod nearest;
+mod sought;
 
 pub use buffers::{Buffers, Fate};
+pub use nearest::Edge;
+pub use sought::Sought;

@@ -1,5 +1,5 @@
 -- The piece of a number, and the least number above another.
-use Rattle.std.proofs.Common.{◌≡◌, refl, sym, ◌∙◌, ap, subst, ℕ, ◌<◌, ◌≤◌, List, [], ◌∷◌, Bool, true, false, ◌&&◌, nat_lt, Option, Some, None, ⊎_elim, inl, arith}
+use Rattle.std.proofs.Common.{◌≡◌, ◌≢◌, refl, sym, ◌∙◌, ap, subst, ℕ, ◌<◌, ◌≤◌, List, [], ◌∷◌, Bool, true, false, ◌&&◌, nat_lt, Option, Some, None, ⊎_elim, inl, arith}
 use Rattle.std.proofs.lemmas.Option.{same_Some}
 use Rattle.std.specs.declared.cmp.Ordering.TheVariants.{Less}
 use Rattle.std.specs.Ordering.{nat_cmp, is_gt, is_lt}
@@ -20,7 +20,7 @@ use Rattle.buffer_messages.proofs.CallerLemmas.{first_least}
 use Rattle.chat_buffers.specs.Store.{Store, Numbered, number_at, change_at, by_number, pieces_above}
 use Rattle.chat_index.specs.declared.place.Place.{Place}
 use Rattle.chat_index.specs.Index.{ByNumber, place_of, IsIndexed}
-use Rattle.chat_index.specs.Walk.{StandsAt, IsPieceOf, HasStamp}
+use Rattle.chat_index.specs.Walk.{StandsAt, IsHeld, IsPieceOf, HasStamp}
 
 -- a piece with its number and its change
 whole : (o : Option Numbered) (n : ℕ) (c : Change) → option_map (λ (p : Numbered). p.number) o ≡ Some n → option_map (λ (p : Numbered). p.change) o ≡ Some c → o ≡ Some (record { number = n; change = c })
@@ -30,23 +30,40 @@ whole (Some p) n c e f = let number : p.number ≡ n = same_Some p.number n e in
 same_place : (p q : Place) → p ≡ q → (p.buffer ≡ q.buffer) × (p.id ≡ q.id)
 same_place p q e = (ap (λ (x : Place). x.buffer) e, ap (λ (x : Place). x.id) e)
 
-pub message_piece : (s : Store) (n : ℕ) (b : Buffer) (m : List ℕ) (c : Change) → StandsAt s n (record { buffer = b; id = Some m }) → change_at s (MessageOf b m) ≡ Some c → IsPieceOf s n (record { number = n; change = c })
-message_piece s n b m c stands e = (refl, MessageOf b m, whole (finite.get s (MessageOf b m)) n c (number_in stands.0 stands.1 stands.2) e)
+-- what has a number is held
+pub held_some : (s : Store) (k : Key) (n : ℕ) → number_at s k ≡ Some n → change_at s k ≢ None
+held_some s k n e = has (finite.get s k) e
+  where
+    has : (o : Option Numbered) → option_map (λ (p : Numbered). p.number) o ≡ Some n → option_map (λ (p : Numbered). p.change) o ≢ None
+    has None e none = cc e
+    has (Some p) e none = cc none
+
+pub message_held : (s : Store) (n : ℕ) (b : Buffer) (m : List ℕ) → StandsAt s n (record { buffer = b; id = Some m }) → IsHeld s (MessageOf b m)
+message_held s n b m stands = (n, number_in stands.0 stands.1 stands.2)
   where
     number_in : (k : Key) → place_of k ≡ record { buffer = b; id = Some m } → number_at s k ≡ Some n → number_at s (MessageOf b m) ≡ Some n
     number_in (FloorOf d) p e = let apart : ◌≡◌ {A = Option (List ℕ)} None (Some m) = (same_place _ _ p).1 in cc apart
     number_in (MarkerOf d) p e = let apart : ◌≡◌ {A = Option (List ℕ)} None (Some m) = (same_place _ _ p).1 in cc apart
     number_in (MessageOf d i) p e = let both = same_place _ _ p in let id : i ≡ m = same_Some i m both.1 in (λ j. number_at s (MessageOf (sym both.0 j) (sym id j))) ∙ e
 
+pub marker_number : (s : Store) (n : ℕ) (b : Buffer) → StandsAt s n (record { buffer = b; id = None }) → number_at s (FloorOf b) ≢ Some n → number_at s (MarkerOf b) ≡ Some n
+marker_number s n b stands not = number_in stands.0 stands.1 stands.2
+  where
+    number_in : (k : Key) → place_of k ≡ record { buffer = b; id = None } → number_at s k ≡ Some n → number_at s (MarkerOf b) ≡ Some n
+    number_in (FloorOf d) p e = absurd (not (ap (λ x. number_at s (FloorOf x)) (sym (same_place _ _ p).0) ∙ e))
+    number_in (MarkerOf d) p e = ap (λ x. number_at s (MarkerOf x)) (sym (same_place _ _ p).0) ∙ e
+    number_in (MessageOf d i) p e = let apart : ◌≡◌ {A = Option (List ℕ)} (Some i) None = (same_place _ _ p).1 in cc apart
+
+pub message_piece : (s : Store) (n : ℕ) (b : Buffer) (m : List ℕ) (c : Change) → StandsAt s n (record { buffer = b; id = Some m }) → change_at s (MessageOf b m) ≡ Some c → IsPieceOf s n (record { number = n; change = c })
+unfolding message_held
+message_piece s n b m c stands e =
+    let held = message_held s n b m stands in
+    (refl, MessageOf b m, whole (finite.get s (MessageOf b m)) n c held.1 e)
+
 pub stamp_piece : (s : Store) (n : ℕ) (b : Buffer) (c : Change) → StandsAt s n (record { buffer = b; id = None }) → HasStamp s n b c → IsPieceOf s n (record { number = n; change = c })
 stamp_piece s n b c stands has = ⊎_elim
     (λ h. (refl, FloorOf b, whole (finite.get s (FloorOf b)) n c h.0 h.1))
-    (λ h. (refl, MarkerOf b, whole (finite.get s (MarkerOf b)) n c (number_in stands.0 stands.1 stands.2 h.0) h.1)) has
-  where
-    number_in : (k : Key) → place_of k ≡ record { buffer = b; id = None } → number_at s k ≡ Some n → (number_at s (FloorOf b) ≡ Some n → ⊥) → number_at s (MarkerOf b) ≡ Some n
-    number_in (FloorOf d) p e not = absurd (not (ap (λ x. number_at s (FloorOf x)) (sym (same_place _ _ p).0) ∙ e))
-    number_in (MarkerOf d) p e not = ap (λ x. number_at s (MarkerOf x)) (sym (same_place _ _ p).0) ∙ e
-    number_in (MessageOf d i) p e not = let apart : ◌≡◌ {A = Option (List ℕ)} (Some i) None = (same_place _ _ p).1 in cc apart
+    (λ h. (refl, MarkerOf b, whole (finite.get s (MarkerOf b)) n c (marker_number s n b stands h.0) h.1)) has
 
 -- ---- the least number above another
 

@@ -1,5 +1,7 @@
 -- ---- what a reader has to believe
 
+-- a piece that is lent
+pub mod Piece
 -- the pieces by rising number
 pub mod Walk
 -- ---- what only the proofs use of the code

@@ -5,12 +5,12 @@ use Rattle.chat_change.specs.Buffer.{Buffer}
 use Rattle.chat_change.specs.Key.{Key, FloorOf, MarkerOf}
 use Rattle.chat_change.specs.declared.change.Change.{Change}
 use Rattle.chat_buffers.specs.Store.{Store, Numbered, number_at, change_at}
-use Rattle.chat_index.specs.declared.piece.Piece.{Piece}
 use Rattle.chat_index.specs.declared.place.Place.{Place}
 use Rattle.chat_index.specs.Index.{place_of}
 
-abbrev pub numbered_of : Piece → Numbered
-numbered_of p = record { number = p.number; change = p.change }
+-- a piece stands under the key
+abbrev pub IsHeld : Store → Key → Type 0
+IsHeld s k = (n : ℕ) × (number_at s k ≡ Some n)
 
 -- the piece of a number stands at that place
 abbrev pub StandsAt : Store → ℕ → Place → Type 0

@@ -1,17 +1,17 @@
 //! The numbered pieces of many buffers, with an index by number.
 
-ghost use Rattle.std.specs.Prelude.{◌≡◌, IsTrue, false};
+ghost use Rattle.std.specs.Prelude.{◌≡◌, IsTrue, IfOk, false};
 ghost use Rattle.std.specs.FinMap as map;
 ghost use Rattle.chat_change.specs.declared.change.Change.TheVariants as value;
 ghost use Rattle.chat_buffers.specs.Store as spec;
-ghost use Rattle.chat_buffers.specs.Entering.{FitsStore, IsEntered, TakesOne, IsSweptOf};
+ghost use Rattle.chat_buffers.specs.Entering.{FitsStore, IsEntered, IsSweptOf};
 ghost use Rattle.chat_index.specs.Sweeping.{TakesSome, IsSwept};
 
 use crate::place::{Place, place_of};
 use chat_buffers::Buffers;
 use chat_change::{Buffer, Change, Moment};
 use ordered_maps::{discard, put, take_out};
-use std::alloc::Global;
+use std::alloc::{AllocError, Global};
 use std::collections::BTreeMap;
 use std::marker::Model;
 
@@ -112,6 +112,15 @@ impl Indexed {
             take_out(&mut self.index, &before);
         }
         true
+    }
+
+    /// An equal value, with maps of its own. It shares the buffers' names, the ids and the records.
+    pub fn try_clone(&self, alloc: Global) -> Result<Indexed, AllocError>
+        ensures { IfOk result (λ copy. copy ≡ self.now) }
+    {
+        let buffers = self.buffers.try_clone(alloc)?;
+        let index = self.index.clone()?;
+        Ok(Indexed { buffers, index })
     }
 
     // Takes the records of a buffer away that lie below a floor. It takes no memory.

@@ -2,9 +2,10 @@
 #![tactic(auto)]
 
 mod indexed;
+mod lookups;
 mod piece;
 mod place;
 mod walk;
 
 pub use indexed::Indexed;
-pub use piece::Piece;
+pub use piece::{ChangeRef, Piece};

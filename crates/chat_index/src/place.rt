@@ -14,6 +14,20 @@ pub(crate) struct Place {
     pub(crate) id: Option<MsgId>,
 }
 
+/// A clone shares the memory of the buffer's names and of the id.
+impl Clone for Place {
+    ghost is_clone = { λ place copy. copy ≡ place };
+
+    fn clone(&self) -> Result<Place, AllocError> {
+        let buffer = self.buffer.try_clone()?;
+        let id = match &self.id {
+            Some(id) => Some(id.try_clone()?),
+            None => None,
+        };
+        Ok(Place { buffer, id })
+    }
+}
+
 /// Where the piece of a key stands. It takes no memory.
 pub(crate) fn place_of(key: &Key<'_>) -> Result<Place, AllocError>
     ensures { IfOk result (λ p. p ≡ spec.place_of (value_of key.now)) }

@@ -1,83 +1,75 @@
 //! The pieces by rising number.
 
-ghost use Rattle.std.specs.Prelude.{◌≡◌, IfOk, Some};
+ghost use Rattle.std.specs.Prelude.{◌≡◌, Some, None};
 ghost use Rattle.std.specs.Option.{option_map};
 ghost use Rattle.chat_change.specs.Key as key;
 ghost use Rattle.chat_history.specs.Choice.{IsFirst};
 ghost use Rattle.chat_buffers.specs.Store as spec;
-ghost use Rattle.chat_index.specs.Walk.{StandsAt, IsPieceOf, numbered_of, HasStamp};
+ghost use Rattle.chat_index.specs.Piece.{change_of, numbered_of};
+ghost use Rattle.chat_index.specs.Walk.{StandsAt, IsHeld, IsPieceOf, HasStamp};
 
 use crate::indexed::Indexed;
-use crate::piece::Piece;
+use crate::piece::{ChangeRef, Piece};
 use crate::place::Place;
 use chat_buffers::Fate;
-use chat_change::{Buffer, Change, Key, MsgId};
-use std::alloc::AllocError;
+use chat_change::{Buffer, Key, MsgId};
 use std::ops::Bound;
 
 impl Indexed {
-    /// The piece with the least number above another, which shares the texts of what is held. It takes no memory, and fails
-    /// only where a part of the piece has 2^63 - 1 owners.
-    pub fn next_above(&self, number: u64) -> Result<Option<Piece>, AllocError>
-        ensures { IfOk result (λ p. IsFirst spec.by_number (spec.pieces_above number self.now)
-            (option_map numbered_of p)) }
+    /// The piece with the least number above another. It takes no memory.
+    pub fn next_above(&self, number: u64) -> Option<Piece<'_>>
+        ensures { IsFirst spec.by_number (spec.pieces_above number self.now)
+            (option_map numbered_of result) }
     {
         let mut later = self
             .index
             .range((Bound::Excluded(&number), Bound::Unbounded));
         match later.next() {
-            Some((next, place)) => {
-                let piece = self.piece_at(*next, place)?;
-                Ok(Some(piece))
-            }
-            None => Ok(None),
+            Some((next, place)) => Some(self.piece_at(*next, place)),
+            None => None,
         }
     }
 
     // The piece of a number, which stands at that place.
-    fn piece_at(&self, number: u64, place: &Place) -> Result<Piece, AllocError>
+    fn piece_at<'s>(&'s self, number: u64, place: &'s Place) -> Piece<'s>
         requires { StandsAt self.now number place.now }
-        ensures { IfOk result (λ p. IsPieceOf self.now number (numbered_of p)) }
+        ensures { IsPieceOf self.now number (numbered_of result) }
     {
         match &place.id {
             Some(id) => {
-                let change = self.message_at(&place.buffer, id)?;
-                Ok(Piece { number, change })
+                let change = self.message_at(&place.buffer, id);
+                Piece { number, change }
             }
             None => {
-                let change = self.stamp_at(number, &place.buffer)?;
-                Ok(Piece { number, change })
+                let change = self.stamp_at(number, &place.buffer);
+                Piece { number, change }
             }
         }
     }
 
     // What is held of a message, as a change.
-    fn message_at(&self, buffer: &Buffer, id: &MsgId) -> Result<Change, AllocError>
-        ensures { IfOk result (λ c.
-            spec.change_at self.now (key.MessageOf buffer.now id.now) ≡ Some c) }
+    fn message_at<'s>(&'s self, buffer: &'s Buffer, id: &'s MsgId) -> ChangeRef<'s>
+        requires { IsHeld self.now (key.MessageOf buffer.now id.now) }
+        ensures { spec.change_at self.now (key.MessageOf buffer.now id.now) ≡
+            Some (change_of result) }
     {
         match self.buffers.message(buffer, id) {
-            Some(Fate::Kept(post)) => Ok(Change::Post(post.try_clone()?)),
-            Some(Fate::Gone(at)) => {
-                let buffer = buffer.try_clone()?;
-                let id = id.try_clone()?;
-                Ok(Change::Redact { buffer, id, at })
-            }
-            None => Err(AllocError),
+            Some(Fate::Kept(post)) => ChangeRef::Post(post),
+            Some(Fate::Gone(at)) => ChangeRef::Redact { buffer, id, at },
+            None => unreachable!(),
         }
     }
 
     // The floor or the marker of a buffer that has that number.
-    fn stamp_at(&self, number: u64, buffer: &Buffer) -> Result<Change, AllocError>
-        ensures { IfOk result (λ c. HasStamp self.now number buffer.now c) }
+    fn stamp_at<'s>(&'s self, number: u64, buffer: &'s Buffer) -> ChangeRef<'s>
+        requires { StandsAt self.now number (record { buffer = buffer.now; id = None }) }
+        ensures { HasStamp self.now number buffer.now (change_of result) }
     {
         if self.buffers.number(&Key::Floor(buffer)) == Some(number) {
-            let at = self.buffers.floor(buffer).ok_or(AllocError)?;
-            let buffer = buffer.try_clone()?;
-            return Ok(Change::Floor { buffer, at });
+            let at = self.buffers.floor(buffer).unwrap();
+            return ChangeRef::Floor { buffer, at };
         }
-        let at = self.buffers.marker(buffer).ok_or(AllocError)?;
-        let buffer = buffer.try_clone()?;
-        Ok(Change::Mark { buffer, at })
+        let at = self.buffers.marker(buffer).unwrap();
+        ChangeRef::Mark { buffer, at }
     }
 }

@@ -1,0 +1,236 @@
+-- A walk over the buffers, to the first of which a record is sought.
+use Rattle.std.proofs.Common.{◌≡◌, refl, sym, ◌∙◌, ap, subst, ℕ, ◌≤◌, Bool, true, false, cond, ◌&&◌, nat_lt, List, [], ◌∷◌, Option, Some, None, ◌⊎◌, ⊎_elim, inl, inr, arith}
+use Rattle.std.proofs.lemmas.Bool.{false≢true}
+use Rattle.std.proofs.lemmas.Option.{same_Some}
+use Rattle.std.proofs.lemmas.Cmp.{tied_itself}
+use Rattle.std.specs.declared.cmp.Ordering.{Ordering}
+use Rattle.std.specs.declared.cmp.Ordering.TheVariants.{Less, Equal, Greater}
+use Rattle.std.specs.Ordering.{ordering_then, nat_cmp, is_eq, is_gt}
+use Rattle.std.specs.Cmp.{Equal-is}
+use Rattle.std.specs.List.{filter, AllByRecursion}
+use Rattle.std.specs.List.Sorted.{IsStrictlySortedBy}
+use Rattle.std.specs.Map.{keys_of}
+use Rattle.std.specs.BTreeMap as tree
+use Rattle.std.specs.FinMap as finite
+use Rattle.std.proofs.lemmas.Map.Keys.{sorted_head, sorted_tail}
+use Rattle.chat_change.specs.Buffer.{Buffer}
+use Rattle.chat_change.specs.Record.{Record}
+use Rattle.chat_change.specs.Order.{text_cmp, buffer_cmp}
+use Rattle.chat_change.specs.declared.change.Change.{Change}
+use Rattle.chat_change.specs.declared.change.Change.TheVariants.{Post, Redact, Mark, Floor}
+use Rattle.chat_change.proofs.CallerLemmas.{buffer_total, buffer_exact, text_total, text_exact}
+use Rattle.chat_history.specs.Buffers.{is_of_network, buffer_where}
+use Rattle.chat_history.specs.Choice.{Among, IsFirst}
+use Rattle.chat_history.specs.History.{History, changes_of}
+use Rattle.chat_history.specs.Visible.{by_spot}
+use Rattle.chat_history.proofs.CallerLemmas.{le_self, among-filter, among_passing, among-filter_map, among_made, got, get_entry}
+use Rattle.ordered_maps.specs.MapView.{held_by}
+use Rattle.ordered_maps.proofs.CallerLemmas.{get-held_by, entries-from_ordered}
+use Rattle.buffer_messages.specs.Messages.{Messages}
+use Rattle.buffer_messages.specs.Nearest.{IsKept, IsFirstKept}
+use Rattle.chat_buffers.specs.Store.{IsKeyedStore, history_in}
+use Rattle.chat_buffers.specs.Sought.{is_sought, is_past, sought_in, sought_past, all_past}
+use Rattle.chat_buffers.specs.Ahead.{HasSought, HasNoneSought, IsOfOneBuffer, is_behind}
+use Rattle.chat_buffers.specs.declared.sought.Sought.{Sought}
+use Rattle.chat_buffers.specs.declared.sought.Sought.TheVariants.{Outdated, OfNetwork}
+use Rattle.chat_buffers.specs.declared.held.Held.{Held}
+use Rattle.chat_buffers.proofs.SettleLemmas.{Tree, seen}
+use Rattle.chat_buffers.proofs.KeptLemmas.{none_posted, posted_kept, kept_posted}
+use Rattle.chat_buffers.proofs.NearestLemmas.{kept_passes, passes_kept, no_first}
+
+-- ---- the first record tells whether one is sought
+
+first_oldest : (a b : ℕ) (o : Ordering) → is_gt (ordering_then (nat_cmp a b) o) ≡ false → a ≤ b
+first_oldest a b o e = grind (arith, e)
+
+not_older : (a b t : ℕ) → a ≤ b → nat_lt a t ≡ false → nat_lt b t ≡ false
+not_older a b t l e = grind (arith, l, e)
+
+pub none_sought : (s : Sought) (ms : Messages) (r : Record) → IsFirstKept by_spot (λ _. true) ms (Some r) → is_sought s r ≡ false → IsOfOneBuffer ms → HasNoneSought s ms
+none_sought (Outdated t) ms r first e one q kept = not_older r.at q.at t (first_oldest r.at q.at (text_cmp r.id q.id) (first.2 q kept refl)) e
+none_sought (OfNetwork a n) ms r first e one q kept = ap (is_of_network a.now n.now) (one q r kept first.0) ∙ e
+
+pub none_kept : (s : Sought) (ms : Messages) → IsFirstKept by_spot (λ _. true) ms None → HasNoneSought s ms
+none_kept s ms none q kept = absurd (false≢true (sym (none q kept)))
+
+-- ---- the buffers that are sought
+
+made_post : (p : Record → Bool) (c : Change) (b : Buffer) → buffer_where p c ≡ Some b → (r : Record) × (c ≡ Post r) × (p r ≡ true) × (r.buffer ≡ b)
+made_post p (Post r) b e =
+    elim (p r) as (λ t. p r ≡ t → cond t (Some r.buffer) None ≡ Some b → (q : Record) × (Post r ≡ Post q) × (p q ≡ true) × (q.buffer ≡ b)) [
+      | true ↦ λ t f. (r, refl, t, same_Some r.buffer b f)
+      | false ↦ λ t f. cc f
+    ] refl e
+made_post p (Redact d m t) b e = cc e
+made_post p (Mark d t) b e = cc e
+made_post p (Floor d t) b e = cc e
+
+module _ (s : Sought) (last : Option Buffer) (h : History) where
+  sought_post : (b : Buffer) → Among b (all_past s last h) → (r : Record) × Among (Post r) (changes_of h) × (is_sought s r ≡ true) × (r.buffer ≡ b) × (is_past last b ≡ true)
+  sought_post b m =
+      let made = among-filter_map (sought_past s last) (changes_of h) b m in
+      let passes = kept_passes (is_past last) (sought_in s made.0) b made.2 in
+      let post = made_post (is_sought s) made.0 b passes.0 in
+      (post.0, subst (λ (c : Change). Among c (changes_of h)) post.1 made.1, post.2, post.3, passes.1)
+
+  post_sought : (r : Record) → Among (Post r) (changes_of h) → is_sought s r ≡ true → is_past last r.buffer ≡ true → Among r.buffer (all_past s last h)
+  post_sought r m t past =
+      among_made (sought_past s last) (changes_of h) (Post r) r.buffer m
+      (passes_kept (is_past last) (sought_in s (Post r)) r.buffer (ap (λ b. cond b (Some r.buffer) None) t) past)
+
+-- ---- what is left of a walk
+
+abbrev pub Entries : Type 0
+Entries = List (Buffer × Held)
+
+-- each buffer is less than those after it
+abbrev pub IsRising : Entries → Type 0
+IsRising [] = Unit {0}
+IsRising (e ∷ es) = ((x : Buffer × Held) → Among x es → buffer_cmp e.0 x.0 ≡ Less) × IsRising es
+
+-- entries of the store that come after the last buffer, in their order, and all of which a record is sought
+pub record IsLeft (h : History) (s : Sought) (last : Option Buffer) (es : Entries) : Type 0 where
+  pub rising : IsRising es
+  pub past : (b : Buffer) (d : Held) → Among (b, d) es → is_past last b ≡ true
+  pub posted : (b : Buffer) (d : Held) → Among (b, d) es → (r : Record) → IsKept d.messages r → (r.buffer ≡ b) × Among (Post r) (changes_of h)
+  pub all : (r : Record) → Among (Post r) (changes_of h) → is_sought s r ≡ true → is_past last r.buffer ≡ true → (d : Held) × Among (r.buffer, d) es × IsKept d.messages r
+
+less_than_all : (k : Buffer) (es : Entries) → AllByRecursion (λ y. buffer_cmp k y ≡ Less) (keys_of es) → (x : Buffer × Held) → Among x es → buffer_cmp k x.0 ≡ Less
+less_than_all k [] h x m = absurd m
+less_than_all k (e ∷ es) h x m = ⊎_elim (λ s. subst (λ (y : Buffer × Held). buffer_cmp k y.0 ≡ Less) s h.0) (λ a. less_than_all k es h.1 x a) m
+
+rising_from : (es : Entries) → IsStrictlySortedBy buffer_cmp (keys_of es) → IsRising es
+rising_from [] s = tt
+rising_from (e ∷ es) s = (less_than_all e.0 es (sorted_head buffer_cmp e.0 (keys_of es) s), rising_from es (sorted_tail buffer_cmp e.0 (keys_of es) s))
+
+rising_passing : (p : Buffer × Held → Bool) (es : Entries) → IsRising es → IsRising (filter p es)
+rising_passing p [] h = tt
+rising_passing p (e ∷ es) h =
+    elim (p e) as (λ b. IsRising (cond b (e ∷ filter p es) (filter p es))) [
+      | true ↦ (λ x m. h.0 x (among-filter p es x m).0, rising_passing p es h.1)
+      | false ↦ rising_passing p es h.1
+    ]
+
+same_held : (b d : Buffer) (h g : Held) → ◌≡◌ {A = Buffer × Held} (b, h) (d, g) → (b ≡ d) × (h ≡ g)
+same_held b d h g e = (ap (λ (x : Buffer × Held). x.0) e, ap (λ (x : Buffer × Held). x.1) e)
+
+something : (o : Option Held) → (o ≡ None → ⊥) → (h : Held) × (o ≡ Some h)
+something None n = absurd (n refl)
+something (Some h) n = (h, refl)
+
+-- the buffers after the last one
+module _ (bs : Tree) (keyed : IsKeyedStore (seen bs)) (ordered : tree.IsOrdered buffer_cmp bs) (s : Sought) (last : Option Buffer) (p : Buffer → Bool) (is : (b : Buffer) → p b ≡ is_past last b) where
+  abbrev from : Entries
+  from = filter (λ e. p e.0 && true) bs.entries
+
+  abbrev entries_are : finite.entries (held_by {R = buffer_cmp} bs) ≡ bs.entries
+  entries_are = entries-from_ordered buffer_total bs.entries ordered
+
+  truth : (b : Bool) → (b && true) ≡ true → b ≡ true
+  truth true e = refl
+  truth false e = e
+
+  its_entry : (b : Buffer) (h : Held) → Among (b, h) from → (tree.get buffer_cmp bs b ≡ Some h) × (is_past last b ≡ true)
+  its_entry b h m =
+      let both = among-filter (λ (e : Buffer × Held). p e.0 && true) bs.entries (b, h) m in (
+        sym (get-held_by buffer_total bs b) ∙ get_entry buffer_total buffer_exact (held_by bs) b h (subst (Among (b, h)) (sym entries_are) both.0),
+        sym (is b) ∙ truth (p b) both.1,
+      )
+
+  entry_of : (b : Buffer) (h : Held) → tree.get buffer_cmp bs b ≡ Some h → is_past last b ≡ true → Among (b, h) from
+  entry_of b h here past =
+      among_passing (λ (e : Buffer × Held). p e.0 && true) bs.entries (b, h)
+      (subst (Among (b, h)) entries_are (got buffer_total buffer_exact (held_by bs) b h (get-held_by buffer_total bs b ∙ here)))
+      (ap (λ t. t && true) (is b ∙ past))
+
+  pub all_left : IsLeft (history_in (seen bs)) s last from
+  all_left = record {
+    rising = rising_passing (λ (e : Buffer × Held). p e.0 && true) bs.entries (rising_from bs.entries ordered);
+    past = λ b h m. (its_entry b h m).1;
+    posted = λ b h m r kept. kept_posted bs keyed b h (its_entry b h m).0 r kept;
+    all = λ r m t past.
+        let here = something (tree.get buffer_cmp bs r.buffer) (λ none. none_posted bs keyed r none m) in
+        (here.0, entry_of r.buffer here.0 here.1 past, posted_kept bs keyed r.buffer here.0 here.1 r refl m);
+  }
+
+-- ---- a network's buffers stand together
+
+behind : (x y z : Ordering) → ordering_then x (ordering_then y z) ≡ Less → is_gt (ordering_then x y) ≡ false
+behind Less y z e = refl
+behind Equal Less z e = refl
+behind Equal Equal z e = refl
+behind Equal Greater z e = cc e
+behind Greater y z e = cc e
+
+and_both : (a b : Bool) → (a && b) ≡ true → (a ≡ true) × (b ≡ true)
+and_both true b e = (refl, e)
+and_both false b e = absurd (false≢true e)
+
+its_names : (a n : List ℕ) (b : Buffer) → is_of_network a n b ≡ true → (b.account ≡ a) × (b.network ≡ n)
+its_names a n b e =
+    let both = and_both (is_eq (text_cmp b.account a)) (is_eq (text_cmp b.network n)) e in
+    (text_exact b.account a ((Equal-is (text_cmp b.account a)).0 both.0), text_exact b.network n ((Equal-is (text_cmp b.network n)).0 both.1))
+
+-- no record after a buffer that lies behind is sought
+pub not_behind : (s : Sought) (b : Buffer) (r : Record) → is_sought s r ≡ true → (b ≡ r.buffer) ⊎ (buffer_cmp b r.buffer ≡ Less) → is_behind s b ≡ false
+not_behind (Outdated t) b r e at = refl
+not_behind (OfNetwork a n) b r e at =
+    let names = its_names a.now n.now r.buffer e in
+    ap (λ x. is_gt (ordering_then (text_cmp b.account x) (text_cmp b.network n.now))) (sym names.0)
+    ∙ ap (λ x. is_gt (ordering_then (text_cmp b.account r.buffer.account) (text_cmp b.network x))) (sym names.1)
+    ∙ ⊎_elim
+    (λ same. ap (λ (d : Buffer). is_gt (ordering_then (text_cmp d.account r.buffer.account) (text_cmp d.network r.buffer.network))) same ∙ itself r.buffer)
+    (λ less. behind (text_cmp b.account r.buffer.account) (text_cmp b.network r.buffer.network) _ less) at
+  where
+    itself : (d : Buffer) → is_gt (ordering_then (text_cmp d.account d.account) (text_cmp d.network d.network)) ≡ false
+    itself d = ap (λ o. is_gt (ordering_then o (text_cmp d.network d.network))) (tied_itself text_total d.account) ∙ ap is_gt (tied_itself text_total d.network)
+
+-- ---- a step of the walk
+
+module _ (h : History) (s : Sought) (last : Option Buffer) where
+  pub nothing_left : IsLeft h s last [] → IsFirst buffer_cmp (all_past s last h) None
+  nothing_left left = no_first buffer_cmp (all_past s last h) (λ b m.
+      let post = sought_post s last h b m in
+      (left.all post.0 post.1 post.2 (ap (is_past last) post.3 ∙ post.4)).1)
+
+  module _ (b : Buffer) (d : Held) (rest : Entries) (left : IsLeft h s last ((b, d) ∷ rest)) where
+    -- where it stands at, or after, the first
+    stands : (r : Record) (g : Held) → Among (r.buffer, g) ((b, d) ∷ rest) → (b ≡ r.buffer) ⊎ (buffer_cmp b r.buffer ≡ Less)
+    stands r g m = ⊎_elim (λ e. inl (same_held b r.buffer d g e).0) (λ a. inr (left.rising.0 (r.buffer, g) a)) m
+
+    pub all_behind : is_behind s b ≡ true → IsFirst buffer_cmp (all_past s last h) None
+    all_behind e = no_first buffer_cmp (all_past s last h) (λ x m.
+        let post = sought_post s last h x m in
+        let at = left.all post.0 post.1 post.2 (ap (is_past last) post.3 ∙ post.4) in
+        false≢true (sym (not_behind s b post.0 post.2 (stands post.0 at.0 at.1)) ∙ e))
+
+    pub of_one_buffer : IsOfOneBuffer d.messages
+    of_one_buffer q r kq kr = (left.posted b d (inl refl) q kq).0 ∙ sym (left.posted b d (inl refl) r kr).0
+
+    pub passed_over : HasNoneSought s d.messages → IsLeft h s last rest
+    passed_over none = record {
+      rising = left.rising.1;
+      past = λ x g m. left.past x g (inr m);
+      posted = λ x g m. left.posted x g (inr m);
+      all = λ r m t past.
+          let at = left.all r m t past in
+          ⊎_elim
+          (λ e. absurd (false≢true (sym (none r (subst (λ (g : Held). IsKept g.messages r) (sym (same_held b r.buffer d at.0 e).1) at.2)) ∙ t)))
+          (λ a. (at.0, a, at.2))
+          at.1;
+    }
+
+    pub found_first : HasSought s d.messages → IsFirst buffer_cmp (all_past s last h) (Some b)
+    found_first some =
+        let posted = left.posted b d (inl refl) some.0 some.1 in (
+          subst (λ x. Among x (all_past s last h)) posted.0
+              (post_sought s last h some.0 posted.1 some.2 (ap (is_past last) posted.0 ∙ left.past b d (inl refl))),
+          λ x m.
+              let post = sought_post s last h x m in
+              let at = left.all post.0 post.1 post.2 (ap (is_past last) post.3 ∙ post.4) in
+              subst (λ y. is_gt (buffer_cmp b y) ≡ false) post.3
+              (⊎_elim
+              (λ e. subst (λ y. is_gt (buffer_cmp b y) ≡ false) e (le_self buffer_total b))
+              (λ less. ap is_gt less)
+              (stands post.0 at.0 at.1)),
+        )

@@ -1,0 +1,64 @@
+//! What is looked up in the maps, and searched in them.
+
+ghost use Rattle.std.specs.Prelude.{◌≡◌, IfSome};
+ghost use Rattle.std.specs.Map.Iter.{deref};
+ghost use Rattle.std.specs.Option.{option_map};
+ghost use Rattle.chat_change.specs.Key as key;
+ghost use Rattle.chat_change.specs.Order.{buffer_cmp};
+ghost use Rattle.chat_change.specs.declared.change.Change.TheVariants as value;
+ghost use Rattle.chat_history.specs.Choice.{IsFirst};
+ghost use Rattle.chat_buffers.specs.Fate.{message_change, IsMessageOf};
+ghost use Rattle.chat_buffers.specs.Nearest.{nearer_cmp, candidates};
+ghost use Rattle.chat_buffers.specs.Sought.{all_past};
+ghost use Rattle.chat_buffers.specs.Store as spec;
+
+use crate::indexed::Indexed;
+use chat_buffers::{Edge, Fate, Sought};
+use chat_change::{Buffer, Moment, MsgId, Record};
+
+impl Indexed {
+    /// The floor that was set for a buffer, if one was.
+    pub fn floor(&self, buffer: &Buffer) -> Option<Moment>
+        ensures { spec.change_at self.now (key.FloorOf buffer.now) ≡
+            option_map (value.Floor buffer.now) result }
+    {
+        self.buffers.floor(buffer)
+    }
+
+    /// The read marker of a buffer, if one was set.
+    pub fn marker(&self, buffer: &Buffer) -> Option<Moment>
+        ensures { spec.change_at self.now (key.MarkerOf buffer.now) ≡
+            option_map (value.Mark buffer.now) result }
+    {
+        self.buffers.marker(buffer)
+    }
+
+    /// What is held of a message, if anything.
+    pub fn message(&self, buffer: &Buffer, id: &MsgId) -> Option<Fate<'_>>
+        ensures held { spec.change_at self.now (key.MessageOf buffer.now id.now) ≡
+            option_map (message_change buffer.now id.now) result }
+        ensures bears { IfSome result (IsMessageOf buffer.now id.now) }
+    {
+        self.buffers.message(buffer, id)
+    }
+
+    /// The record of a buffer that lies nearest to an edge on the side that is searched. It takes no memory.
+    pub fn nearest<'a>(&'a self, buffer: &Buffer, edge: &Edge<'_>) -> Option<&'a Record>
+        ensures { IsFirst (nearer_cmp edge.now) (candidates edge.now buffer.now
+            (spec.history_in self.now)) (option_map deref result) }
+    {
+        self.buffers.nearest(buffer, edge)
+    }
+
+    /// The lowest buffer after the last one of which a record is sought. It takes no memory.
+    pub fn next_buffer<'a>(
+        &'a self,
+        sought: &Sought<'_>,
+        last: &Option<&Buffer>,
+    ) -> Option<&'a Buffer>
+        ensures { IsFirst buffer_cmp (all_past sought.now (option_map deref last.now)
+            (spec.history_in self.now)) (option_map deref result) }
+    {
+        self.buffers.next_buffer(sought, last)
+    }
+}
