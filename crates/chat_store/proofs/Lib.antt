@@ -1,5 +1,1 @@
-mod DistinctLemmas
-mod VectorLemmas
-mod VectorStoreLemmas
-mod NearestLemmas
 pub mod CallerLemmas

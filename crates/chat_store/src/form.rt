@@ -5,13 +5,14 @@ ghost use Rattle.std.specs.Option.{option_map};
 ghost use Rattle.chat_change.specs.declared.change.Change.TheVariants as value;
 ghost use Rattle.chat_history.specs.Choice as choice;
 ghost use Rattle.chat_history.specs.Form.{raises};
+ghost use Rattle.chat_history.specs.Retention as retention;
 ghost use Rattle.chat_store.specs.Form as spec;
+ghost use Rattle.chat_store.specs.Piece.{change_of};
 ghost use Rattle.chat_store.specs.Store.{floor_in};
 
-use crate::retention::at_or_above;
-use crate::store::Store;
 use chat_buffers::Fate;
 use chat_change::{Buffer, Change, Moment, MsgId, Record, goes_before};
+use chat_index::{ChangeRef, Indexed as Store};
 use std::alloc::AllocError;
 
 /// The form of the piece that a change makes.
@@ -21,6 +22,14 @@ pub enum Form {
     AsItIs,
     /// A redaction of its message, which stood at that moment.
     Gone(Option<Moment>),
+}
+
+// The moment where it is at or above the floor.
+fn at_or_above(floor: u64, at: Option<Moment>) -> Option<Moment>
+    ensures { result ≡ retention.at_or_above floor at }
+{
+    let at = at?;
+    if floor <= at.ms() { Some(at) } else { None }
 }
 
 // The later of two moments.
@@ -132,14 +141,15 @@ fn form_of_floor(store: &Store, buffer: &Buffer, at: Moment) -> Option<Form>
 }
 
 /// The form of the piece that a change makes, where it counts. It takes no memory.
-pub fn form_of(store: &Store, change: &Change) -> Option<Form>
-    ensures { option_map (spec.piece_in change.now) result ≡ spec.form store.now change.now }
+pub fn form_of(store: &Store, change: &ChangeRef<'_>) -> Option<Form>
+    ensures { option_map (spec.piece_in (change_of change.now)) result ≡
+        spec.form store.now (change_of change.now) }
 {
     match change {
-        Change::Post(post) => form_of_post(store, post),
-        Change::Redact { buffer, id, at } => form_of_redaction(store, buffer, id, at),
-        Change::Mark { buffer, at } => form_of_marker(store, buffer, *at),
-        Change::Floor { buffer, at } => form_of_floor(store, buffer, *at),
+        ChangeRef::Post(post) => form_of_post(store, post),
+        ChangeRef::Redact { buffer, id, at } => form_of_redaction(store, buffer, id, at),
+        ChangeRef::Mark { buffer, at } => form_of_marker(store, buffer, *at),
+        ChangeRef::Floor { buffer, at } => form_of_floor(store, buffer, *at),
     }
 }
 
@@ -152,15 +162,15 @@ fn redaction(buffer: &Buffer, id: &MsgId, at: Option<Moment>) -> Result<Change, 
 }
 
 /// The piece that a change makes in that form, which shares the texts of the change.
-pub fn piece_in(change: &Change, form: Form) -> Result<Change, AllocError>
-    ensures { IfOk result (λ piece. piece ≡ spec.piece_in change.now form) }
+pub fn piece_in(change: &ChangeRef<'_>, form: Form) -> Result<Change, AllocError>
+    ensures { IfOk result (λ piece. piece ≡ spec.piece_in (change_of change.now) form) }
 {
     let Form::Gone(at) = form else {
-        return change.try_clone();
+        return change.to_change();
     };
     match change {
-        Change::Post(post) => redaction(post.buffer(), post.id(), at),
-        Change::Redact { buffer, id, .. } => redaction(buffer, id, at),
-        Change::Mark { .. } | Change::Floor { .. } => change.try_clone(),
+        ChangeRef::Post(post) => redaction(post.buffer(), post.id(), at),
+        ChangeRef::Redact { buffer, id, .. } => redaction(buffer, id, at),
+        ChangeRef::Mark { .. } | ChangeRef::Floor { .. } => change.to_change(),
     }
 }

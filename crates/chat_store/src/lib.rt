@@ -1,15 +1,9 @@
-//! The store below a state: numbered changes, one for each key, with what is looked up and searched among them.
+//! The store below a state: numbered changes, one for each key, with what is looked up and searched among them, and the
+//! form in which a change counts.
 #![tactic(auto)]
 
-mod buffers;
 mod form;
-mod nearest;
-mod numbers;
-mod retention;
-mod store;
 
-pub use buffers::Sought;
-pub use chat_buffers::Fate;
+pub use chat_buffers::{Edge, Fate, Sought};
+pub use chat_index::{ChangeRef, Indexed as Store, Piece};
 pub use form::{Form, form_of, piece_in};
-pub use nearest::Edge;
-pub use store::{Piece, Store};
