@@ -15,8 +15,8 @@ use Rattle.chat_change.specs.Buffer.{Buffer}
 use Rattle.chat_change.specs.Record.{Record}
 use Rattle.chat_change.specs.Order.{text_cmp}
 use Rattle.chat_change.specs.declared.change.Change.TheVariants.{Post}
-use Rattle.chat_store.specs.declared.nearest.Edge.{Edge}
-use Rattle.chat_store.specs.declared.nearest.Edge.TheVariants.{AfterCut, BeforeCut, AfterRecord, BeforeRecord}
+use Rattle.chat_store.specs.Nearest.{Edge}
+use Rattle.chat_store.specs.Nearest.{AfterCut, BeforeCut, AfterRecord, BeforeRecord}
 use Rattle.chat_history.specs.declared.cut.Cut.{Cut}
 use Rattle.chat_history.specs.declared.cut.Cut.TheVariants.{Bottom, UnderTime, OverTime, UnderMsg, OverMsg, Top}
 use Rattle.chat_change.specs.Key.{MessageOf, key_of}

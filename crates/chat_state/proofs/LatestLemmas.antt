@@ -13,10 +13,10 @@ use Rattle.chat_change.specs.declared.change.Change.{Change}
 use Rattle.chat_change.specs.declared.change.Change.TheVariants.{Post, Redact, Mark, Floor}
 use Rattle.chat_change.proofs.CallerLemmas.{text_exact, buffer_total}
 use Rattle.chat_history.specs.Choice.{Among, IsFirst}
-use Rattle.chat_store.specs.declared.nearest.Edge.TheVariants.{BeforeCut}
+use Rattle.chat_store.specs.Nearest.{BeforeCut}
 use Rattle.chat_history.specs.declared.cut.Cut.{Cut}
 use Rattle.chat_history.specs.declared.cut.Cut.TheVariants.{Top}
-use Rattle.chat_store.specs.declared.buffers.Sought.TheVariants.{OfNetwork}
+use Rattle.chat_store.specs.Sought.{OfNetwork}
 use Rattle.chat_history.specs.Cut.{is_after}
 use Rattle.chat_history.specs.History.{History, changes_of, IsKeyed}
 use Rattle.chat_history.specs.Latest.{latest_moment, with_moment, network_buffers, latest_in}
@@ -24,7 +24,7 @@ use Rattle.chat_state.specs.Latest.{latest_from, IsAtBuffer}
 use Rattle.chat_store.specs.Nearest.{nearer_cmp, candidates}
 use Rattle.chat_history.specs.Visible.{records_in}
 use Rattle.chat_history.specs.Buffers.{is_of_network, buffer_where}
-use Rattle.chat_store.specs.Buffers.{is_past, all_past}
+use Rattle.chat_store.specs.Sought.{is_past, all_past}
 use Rattle.chat_history.proofs.CallerLemmas.{among-filter_map, none_first, mapped, image}
 use Rattle.chat_history.proofs.CallerLemmas.{most_greatest}
 use Rattle.chat_history.proofs.CallerLemmas.{latest_total, latest_exact}

@@ -1,4 +1,5 @@
 mod StateLemmas
+mod FitsLemmas
 mod TakeLemmas
 mod LookupLemmas
 mod MergeLemmas

@@ -1,7 +1,7 @@
 -- The pieces above a number, by rising number, are the newer pieces of what a state holds.
-use Rattle.std.proofs.Common.{◌≡◌, ℕ, ◌<◌, Bool, true, Some, List, [], ◌∷◌, ◌++◌, map, length, refl, sym, ◌∙◌, ap, subst, arith, Bor, append_assoc}
+use Rattle.std.proofs.Common.{◌≡◌, ℕ, ◌<◌, ◌≤◌, zero, suc, Bool, true, Some, List, [], ◌∷◌, ◌++◌, map, length, take, refl, sym, ◌∙◌, ap, subst, arith, append_assoc}
 use Rattle.std.proofs.lemmas.Bool.Decides.{nat_tests}
-use Rattle.std.proofs.lemmas.List.{append-nil, get_or-map, length-map}
+use Rattle.std.proofs.lemmas.List.{append-nil, get_or-map, length-map, take-map, take_all}
 use Rattle.std.proofs.lemmas.List.Kept.{IsStrictlySortedBy-filter}
 use Rattle.std.specs.FinMap as finite
 use Rattle.std.specs.List.{IsDistinct}
@@ -12,12 +12,11 @@ use Rattle.chat_change.specs.Key.{key_of, same_key}
 use Rattle.chat_change.specs.declared.change.Change.{Change}
 use Rattle.chat_change.proofs.CallerLemmas.{key_total, key_exact}
 use Rattle.chat_history.specs.Choice.{Among}
-use Rattle.chat_store.specs.Pieces.{entry_of}
-use Rattle.chat_history.specs.Newer.{HasPiece, IsNewer}
-use Rattle.chat_store.specs.Pieces.{numbered_at}
+use Rattle.chat_history.specs.Newer.{HasPiece, IsNewer, AreFirstNewer}
+use Rattle.chat_store.specs.Piece.{numbered_of, entry_of}
 use Rattle.chat_store.specs.Store.{Store, Numbered, by_number}
 use Rattle.chat_state.specs.State.{value_of, IsSound}
-use Rattle.chat_store.specs.declared.store.Piece.{Piece}
+use Rattle.chat_store.specs.Piece.{Piece}
 use Rattle.chat_history.proofs.CallerLemmas.{value_among, got}
 use Rattle.chat_history.proofs.CallerLemmas.{among, contained, among-filter, among_passing, mapped, image}
 use Rattle.chat_state.proofs.MergeLemmas.{change, number, turn, left, held_at, number_of, in_turn, turn_sorted, once_in, rising_at, some_of}
@@ -71,22 +70,37 @@ module _ (s : Store) (front from : ℕ) (sound : IsSound s front) where
         omega arith;
   }
 
--- ---- references
+-- ---- lent pieces
 
-entries_of : (ps : List (Bor Piece)) → map entry (map numbered_at ps) ≡ map entry_of ps
+entries_of : (ps : List Piece) → map entry (map numbered_of ps) ≡ map entry_of ps
 entries_of [] = refl
 entries_of (p ∷ ps) = ap (λ es. entry_of p ∷ es) (entries_of ps)
 
-lent_more : (ps : List (Bor Piece)) (p : Bor Piece) → map numbered_at (ps ++ p ∷ []) ≡ map numbered_at ps ++ numbered_at p ∷ []
+lent_more : (ps : List Piece) (p : Piece) → map numbered_of (ps ++ p ∷ []) ≡ map numbered_of ps ++ numbered_of p ∷ []
 lent_more [] p = refl
-lent_more (q ∷ ps) p = ap (λ qs. numbered_at q ∷ qs) (lent_more ps p)
+lent_more (q ∷ ps) p = ap (λ qs. numbered_of q ∷ qs) (lent_more ps p)
 
--- one more reference
-pub lent_next : (all rest now : List Numbered) (ps : List (Bor Piece)) (p : Bor Piece) → now ≡ numbered_at p ∷ rest → map numbered_at ps ++ now ≡ all → map numbered_at (ps ++ p ∷ []) ++ rest ≡ all
+-- one more piece
+pub lent_next : (all rest now : List Numbered) (ps : List Piece) (p : Piece) → now ≡ numbered_of p ∷ rest → map numbered_of ps ++ now ≡ all → map numbered_of (ps ++ p ∷ []) ++ rest ≡ all
 lent_next all rest now ps p e h =
-    ap (λ qs. qs ++ rest) (lent_more ps p) ∙ append_assoc (map numbered_at ps) (numbered_at p ∷ []) rest ∙ ap (λ qs. map numbered_at ps ++ qs) (sym e) ∙ h
+    ap (λ qs. qs ++ rest) (lent_more ps p) ∙ append_assoc (map numbered_of ps) (numbered_of p ∷ []) rest ∙ ap (λ qs. map numbered_of ps ++ qs) (sym e) ∙ h
 
-pub newer_all : (s : Store) (front from : ℕ) → IsSound s front → (now : List Numbered) (ps : List (Bor Piece)) → now ≡ [] → map numbered_at ps ++ now ≡ left s from → IsNewer (value_of s front) from (map entry_of ps)
-newer_all s front from sound now ps e h =
-    let is : map numbered_at ps ≡ left s from = sym (append-nil (map numbered_at ps)) ∙ ap (λ qs. map numbered_at ps ++ qs) (sym e) ∙ h in
-    subst (IsNewer (value_of s front) from) (ap (map entry) (sym is) ∙ entries_of ps) (newer_is s front from sound)
+first_of : (xs ys : List Numbered) (n : ℕ) → length xs ≡ n → take n (xs ++ ys) ≡ xs
+first_of [] ys zero e = refl
+first_of [] ys (suc n) e = absurd (omega (arith, e))
+first_of (x ∷ xs) ys zero e = absurd (omega (arith, e))
+first_of (x ∷ xs) ys (suc n) e = ap (λ zs. x ∷ zs) (first_of xs ys n (omega (arith, e)))
+
+module _ (s : Store) (front from limit : ℕ) (sound : IsSound s front) (ps : List Piece) (now : List Numbered) (h : map numbered_of ps ++ now ≡ left s from) where
+  first_are : map numbered_of ps ≡ take limit (left s from) → AreFirstNewer (value_of s front) from limit (map entry_of ps)
+  first_are e = (map entry (left s from), newer_is s front from sound, sym (entries_of ps) ∙ ap (map entry) e ∙ sym (take-map entry limit (left s from)))
+
+  -- no piece is left
+  pub newer_all : length ps ≤ limit → now ≡ [] → AreFirstNewer (value_of s front) from limit (map entry_of ps)
+  newer_all few e =
+      let is : map numbered_of ps ≡ left s from = sym (append-nil (map numbered_of ps)) ∙ ap (λ qs. map numbered_of ps ++ qs) (sym e) ∙ h in
+      first_are (is ∙ sym (take_all limit (left s from) (omega (arith, few, length-map ps numbered_of, ap length is))))
+
+  -- the limit is reached
+  pub newer_first : length ps ≡ limit → AreFirstNewer (value_of s front) from limit (map entry_of ps)
+  newer_first e = first_are (sym (first_of (map numbered_of ps) now limit (length-map ps numbered_of ∙ e)) ∙ ap (take limit) h)

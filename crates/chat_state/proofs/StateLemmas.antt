@@ -73,7 +73,7 @@ form-plain s (Redact b m t) p = refl
 form-plain s (Mark b t) p = refl
 form-plain s (Floor b t) p = absurd p
 
-no_floor_either : (c d : Change) → IsNoFloor c → key_of c ≡ key_of d → IsNoFloor d
+pub no_floor_either : (c d : Change) → IsNoFloor c → key_of c ≡ key_of d → IsNoFloor d
 no_floor_either c (Post r) p e = tt
 no_floor_either c (Redact b m t) p e = tt
 no_floor_either c (Mark b t) p e = tt

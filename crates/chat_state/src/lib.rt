@@ -12,7 +12,7 @@ mod retention;
 mod state;
 
 pub use chat_history::{Cut, Spot, laws};
-pub use chat_store::Piece;
+pub use chat_store::{ChangeRef, Piece};
 pub use cursor::{Down, Up};
 pub use faults::{NoEntry, StateFault, TakeFault};
 pub use latest::Latest;

@@ -70,8 +70,8 @@ impl State {
         }
     }
 
-    // Whether a visible record has that id.
-    pub(crate) fn is_shown(&self, buffer: &Buffer, id: &MsgId) -> bool
+    /// Whether a visible record of the buffer has that id.
+    pub fn is_shown(&self, buffer: &Buffer, id: &MsgId) -> bool
         ensures { IsTrue result ↔ IsShown self.now.history buffer.now id.now }
     {
         match self.store.message(buffer, id) {

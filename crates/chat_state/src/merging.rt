@@ -19,7 +19,7 @@ impl State {
         let mut taken: usize = 0;
         let mut last: u64 = 0;
         while let Some(piece) = other.store.next_above(last) {
-            if let Err(cause) = self.absorb_copy(piece.change()) {
+            if let Err(cause) = self.absorb_copy(&piece.change) {
                 return Err(TakeFault { taken, cause });
             }
             last = piece.number();

@@ -4,11 +4,12 @@ ghost use Rattle.std.specs.Prelude.{◌≡◌, ◌≢◌, ◌↔◌, ◌∷◌, 
 ghost use Rattle.chat_history.specs.Deltas.{all_changes};
 ghost use Rattle.chat_state.specs.Run.{IsStoppedRun};
 ghost use Rattle.chat_history.specs.StateValue as spec;
+ghost use Rattle.chat_store.specs.Piece.{change_of};
 ghost use Rattle.chat_state.specs.declared.faults.StateFault.TheVariants as fault;
 
 use crate::faults::{StateFault, TakeFault};
 use chat_change::Change;
-use chat_store::{Store, form_of, piece_in};
+use chat_store::{ChangeRef, Store, form_of, piece_in};
 use memory::NoMemory;
 use std::alloc::Global;
 use std::marker::Model;
@@ -66,20 +67,21 @@ impl State {
         ensures exhausted { (result ≡ Err fault.Exhausted) ↔ IsPastTheLast self.old change }
         ensures err { OnErr result (self.new ≡ self.old) }
     {
-        let taken = self.absorb_copy(&change);
+        let taken = self.absorb_copy(&ChangeRef::of(&change));
         discard(change);
         taken
     }
 
-    // Takes a copy of a change, which shares its texts.
-    pub(crate) fn absorb_copy(&mut self, change: &Change) -> Result<bool, StateFault>
-        ensures ok { OnOk result (self.new.history ≡ history_with self.old (change.now ∷ [])) }
+    // Takes a change that is lent, and shares its texts.
+    pub(crate) fn absorb_copy(&mut self, change: &ChangeRef<'_>) -> Result<bool, StateFault>
+        ensures ok { OnOk result (self.new.history ≡ history_with self.old (change_of change.now ∷ [])) }
         ensures changed { IfOk result (λ b. IsTrue b ↔ (self.new.history ≢ self.old.history)) }
         ensures front { IfOk result (λ b. self.new.front ≡
             (if b then self.old.front + 1 else self.old.front)) }
-        ensures numbers { IfOk result (λ b. AreNumbersWith b self.old change.now self.new) }
-        ensures held { OnOk result (HasTaken self.old (change.now ∷ []) self.new) }
-        ensures exhausted { (result ≡ Err fault.Exhausted) ↔ IsPastTheLast self.old change.now }
+        ensures numbers { IfOk result (λ b. AreNumbersWith b self.old (change_of change.now) self.new) }
+        ensures held { OnOk result (HasTaken self.old (change_of change.now ∷ []) self.new) }
+        ensures exhausted { (result ≡ Err fault.Exhausted) ↔
+            IsPastTheLast self.old (change_of change.now) }
         ensures err { OnErr result (self.new ≡ self.old) }
     {
         let Some(form) = form_of(&self.store, change) else {
@@ -111,7 +113,7 @@ impl State {
     {
         let _ = &self.store;
         for (i, change) in changes.iter().enumerate() {
-            if let Err(cause) = self.absorb_copy(change) {
+            if let Err(cause) = self.absorb_copy(&ChangeRef::of(change)) {
                 return Err(TakeFault { taken: i, cause });
             }
         }

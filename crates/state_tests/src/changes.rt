@@ -77,5 +77,5 @@ pub fn absorb(state: &mut State, change: Change) -> Result<bool, Fail> {
 
 /// How many pieces a state has.
 pub fn count_of(alloc: Global, state: &State) -> Result<usize, Fail> {
-    Ok(state.newer(alloc, 0)?.len())
+    Ok(state.newer(alloc, 0, usize::MAX)?.len())
 }

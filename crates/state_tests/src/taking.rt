@@ -2,7 +2,7 @@
 
 use crate::changes::{absorb, count_of, floor, mark, post_of_m1, redaction};
 use chat_change::{Change, Kind};
-use chat_state::{State, StateFault, run};
+use chat_state::{ChangeRef, State, StateFault, run};
 use std::alloc::Global;
 use std::test::Fail;
 
@@ -116,10 +116,10 @@ fn states_merge_to_the_same_either_way(rt: HostRuntime) -> Result<(), Fail> {
 fn pieces_come_by_number(rt: HostRuntime) -> Result<(), Fail> {
     let alloc = rt.alloc();
     let state = state_of(alloc, b"abm")?;
-    let pieces = state.newer(alloc, 1)?;
+    let pieces = state.newer(alloc, 1, 3)?;
     assert_eq!(rt; pieces.len(), 2);
     assert_eq!(rt; pieces[0].number(), 2);
     assert_eq!(rt; pieces[1].number(), 3);
-    assert!(rt; matches!(pieces[1].change(), Change::Mark { .. }));
+    assert!(rt; matches!(pieces[1].change, ChangeRef::Mark { .. }));
     Ok(())
 }

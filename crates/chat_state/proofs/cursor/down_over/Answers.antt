@@ -1,4 +1,4 @@
-use Rattle.chat_store.specs.declared.nearest.Edge.TheVariants.{BeforeCut}
+use Rattle.chat_store.specs.Nearest.{BeforeCut}
 use Rattle.chat_store.specs.Store.{history_in}
 use Rattle.chat_state.proofs.CursorLemmas.{at_record, down_is_before}
 use Rattle.chat_state.proofs.cursor.down_over.Goals as goal

@@ -1,4 +1,4 @@
-use Rattle.chat_store.specs.declared.nearest.Edge.TheVariants.{AfterCut}
+use Rattle.chat_store.specs.Nearest.{AfterCut}
 use Rattle.chat_store.specs.Store.{history_in}
 use Rattle.chat_state.proofs.CursorLemmas.{at_record, up_is_after}
 use Rattle.chat_state.proofs.cursor.up_over.Goals as goal

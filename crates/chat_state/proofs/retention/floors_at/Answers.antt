@@ -5,10 +5,10 @@ use Rattle.chat_change.specs.Buffer.{Buffer}
 use Rattle.chat_change.specs.Order.{buffer_cmp}
 use Rattle.chat_change.specs.declared.change.Change.{Change}
 use Rattle.chat_change.specs.declared.change.Change.TheVariants.{Floor}
-use Rattle.chat_store.specs.declared.buffers.Sought.TheVariants.{Outdated}
+use Rattle.chat_store.specs.Sought.{Outdated}
 use Rattle.chat_store.specs.Store.{history_in}
 use Rattle.chat_history.specs.Choice.{IsFirst}
-use Rattle.chat_store.specs.Buffers.{sought_buffers, all_past}
+use Rattle.chat_store.specs.Sought.{sought_buffers, all_past}
 use Rattle.chat_state.proofs.BuffersLemmas.{IsMade, made_none, made_more, made_all, walk_step, walk_end}
 use Rattle.chat_state.proofs.retention.floors_at.Goals as goal
 

@@ -4,9 +4,9 @@ use Rattle.std.specs.Option.{option_map}
 use Rattle.std.specs.Map.Iter.{deref}
 use Rattle.chat_change.specs.Buffer.{Buffer}
 use Rattle.chat_change.specs.declared.change.Change.TheVariants.{Floor}
-use Rattle.chat_store.specs.declared.buffers.Sought.TheVariants.{Outdated}
+use Rattle.chat_store.specs.Sought.{Outdated}
 use Rattle.chat_store.specs.Store.{history_in}
-use Rattle.chat_store.specs.Buffers.{sought_buffers, is_past}
+use Rattle.chat_store.specs.Sought.{sought_buffers, is_past}
 use Rattle.chat_state.proofs.BuffersLemmas.{IsMade}
 use Rattle.chat_state.proofs.retention.floors_at.Given as goal
 

@@ -1,7 +1,7 @@
 use Rattle.std.proofs.Common.{◌∙◌, sym, ◌<◌, length, ap, subst, arith}
 use Rattle.std.specs.Option.{option_map}
 use Rattle.std.specs.Map.Iter.{deref}
-use Rattle.chat_store.specs.declared.nearest.Edge.TheVariants.{AfterRecord}
+use Rattle.chat_store.specs.Nearest.{AfterRecord}
 use Rattle.chat_state.specs.Cursor.{up_from}
 use Rattle.chat_history.specs.Choice.{IsFirst}
 use Rattle.chat_history.specs.Visible.{by_spot}
