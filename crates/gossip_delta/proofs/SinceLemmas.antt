@@ -1,9 +1,10 @@
 -- The delta that is made of the pieces of a state by rising number is the delta of the list that it took.
-use Rattle.std.proofs.Common.{◌≡◌, ℕ, suc, ◌-◌, ◌≤◌, ◌<◌, max, Bool, true, false, cond, ◌&&◌, Option, Some, None, List, [], ◌∷◌, map, take, length, get_or, refl, sym, ◌∙◌, ap, subst, arith, T, Bor}
+use Rattle.std.proofs.Common.{◌≡◌, ℕ, suc, ◌+◌, ◌-◌, ◌≤◌, ◌<◌, max, Bool, true, false, cond, ◌&&◌, Option, Some, None, List, [], ◌∷◌, map, take, length, get_or, refl, sym, ◌∙◌, ap, subst, arith, T}
 use Rattle.std.proofs.lemmas.Bool.{false≢true}
 use Rattle.std.proofs.lemmas.Bool.Decides.{nat_tests}
 use Rattle.std.proofs.lemmas.Cmp.{nat_cmp_total}
-use Rattle.std.proofs.lemmas.List.{length-map, take-map, get_or-map}
+use Rattle.std.proofs.lemmas.List.{length-map, length-take, take-map, take-take, get_or-map}
+use Rattle.std.proofs.lemmas.List.Sorted.{IsNonDecreasingBy-take}
 use Rattle.std.proofs.lemmas.List.Elements.{Contains-get_or, recursion_from_All, All-from_recursion}
 use Rattle.std.proofs.lemmas.Map.Keys.{IsDistinct-head, IsDistinct-tail}
 use Rattle.std.proofs.lemmas.Map.Lookups.{exact_unsigned}
@@ -19,11 +20,10 @@ use Rattle.chat_history.specs.Choice.{earlier, greatest}
 use Rattle.chat_change.specs.Key.{Key, key_of, same_key}
 use Rattle.chat_history.specs.History.{norm}
 use Rattle.chat_history.specs.StateValue.{StateValue, state_after}
-use Rattle.chat_history.specs.Newer.{HasPiece, IsNewer}
-use Rattle.chat_store.specs.Pieces.{entry_of}
+use Rattle.chat_history.specs.Newer.{HasPiece, IsNewer, AreFirstNewer}
 use Rattle.chat_history.specs.Numbering as numbering
 use Rattle.chat_history.specs.Numbering.{number, numbers, newer, delta, delta_from, delta_limit}
-use Rattle.chat_store.specs.declared.store.Piece.{Piece}
+use Rattle.chat_store.specs.Piece.{Piece, entry_of}
 use Rattle.chat_change.proofs.CallerLemmas.{same_key_itself}
 use Rattle.chat_history.proofs.CallerLemmas.{get-numbers, Bears, get-norm, piece_bears, number_tells}
 use Rattle.gossip_delta.specs.Turn.{number_at, change_at}
@@ -181,17 +181,17 @@ delta_of_newer h from es newest start changes is =
     ap (λ (g : StateValue). delta_from from g.front es) is
     ∙ ap (delta_from from (numbering.front start changes)) (newer_unique start from changes es (subst (λ g. IsNewer g from es) is newest))
 
--- ---- references to pieces
+-- ---- lent pieces
 
 map_pairs : {X Y Z : Type 0} (f : X → Y) (g : Y → Z) (xs : List X) → map g (map f xs) ≡ map (λ x. g (f x)) xs
 map_pairs f g [] = refl
 map_pairs f g (x ∷ xs) = ap (λ ys. g (f x) ∷ ys) (map_pairs f g xs)
 
-first_of : {Z : Type 0} (g : ℕ × Change → Z) (turn : List (Bor Piece)) → map g (take delta_limit (map entry_of turn)) ≡ map (λ p. g (entry_of p)) (take delta_limit turn)
+first_of : {Z : Type 0} (g : ℕ × Change → Z) (turn : List Piece) → map g (take delta_limit (map entry_of turn)) ≡ map (λ p. g (entry_of p)) (take delta_limit turn)
 first_of g turn = ap (map g) (take-map entry_of delta_limit turn) ∙ map_pairs entry_of g (take delta_limit turn)
 
 -- the delta of what was listed
-pub delta_listed : (from front to : ℕ) (turn sent : List (Bor Piece)) (changes : List Change) → sent ≡ take delta_limit turn → to ≡ cond (nat_lt delta_limit (length turn)) (unwrap_or (greatest (map number_at sent)) from) (max from front) → changes ≡ map change_at sent → record { from = from; to = to; changes = changes } ≡ delta_from from front (map entry_of turn)
+pub delta_listed : (from front to : ℕ) (turn sent : List Piece) (changes : List Change) → sent ≡ take delta_limit turn → to ≡ cond (nat_lt delta_limit (length turn)) (unwrap_or (greatest (map number_at sent)) from) (max from front) → changes ≡ map change_at sent → record { from = from; to = to; changes = changes } ≡ delta_from from front (map entry_of turn)
 delta_listed from front to turn sent changes cut reached copied =
     let p : to ≡ (delta_from from front (map entry_of turn)).to =
     reached
@@ -202,8 +202,8 @@ delta_listed from front to turn sent changes cut reached copied =
     copied ∙ ap (map change_at) cut ∙ sym (first_of (λ (e : ℕ × Change). e.1) turn) in
     λ i. record { from = from; to = p i; changes = q i }
 
--- references in order of the numbers
-pub in_order : (turn : List (Bor Piece)) → IsNonDecreasingBy (λ (e : ℕ × Change). e.0) (map entry_of turn) → IsNonDecreasingBy number_at turn
+-- lent pieces in order of the numbers
+pub in_order : (turn : List Piece) → IsNonDecreasingBy (λ (e : ℕ × Change). e.0) (map entry_of turn) → IsNonDecreasingBy number_at turn
 in_order turn h = λ i j d le l.
     let inside : j < length (map entry_of turn) = omega (arith, length-map turn entry_of) in
     let a = ap (λ (e : ℕ × Change). e.0) (get_or-map entry_of turn i d (entry_of d) (omega arith)) in
@@ -211,13 +211,38 @@ in_order turn h = λ i j d le l.
     let c = h i j (entry_of d) le inside in
     omega arith
 
-pub given_in_order : (h : StateValue) (from : ℕ) (turn given : List (Bor Piece)) → given ≡ turn → IsNewer h from (map entry_of turn) → IsNonDecreasingBy number_at given
-given_in_order h from turn given same newest = subst (IsNonDecreasingBy number_at) (sym same) (in_order turn newest.rising)
+-- ---- the first pieces, one more than a delta has
 
-pub delta_sent : {E : Type 0} (r : Result numbering.Delta E) (h : StateValue) (from front : ℕ) (turn given : List (Bor Piece)) → given ≡ turn → front ≡ h.front → IsNewer h from (map entry_of turn) → IfOk r (λ d. d ≡ delta_from from front (map entry_of given)) → IfOk r (λ d. (start : ℕ) (list : List Change) → h ≡ state_after start list → d ≡ delta start list from)
+abbrev enough : ℕ
+enough = delta_limit + 1
+
+takes_first : {X : Type 0} (xs : List X) → take delta_limit (take enough xs) ≡ take delta_limit xs
+takes_first xs = take-take delta_limit enough xs (omega arith)
+
+tells_more : {X : Type 0} (xs : List X) → nat_lt delta_limit (length (take enough xs)) ≡ nat_lt delta_limit (length xs)
+tells_more xs = (let l = length-take enough xs in grind (arith, nat_tests))
+
+-- they make the same delta as all
+delta_of_first : (from front : ℕ) (all : List (ℕ × Change)) → delta_from from front (take enough all) ≡ delta_from from front all
+delta_of_first from front all =
+    let p : (delta_from from front (take enough all)).to ≡ (delta_from from front all).to =
+    (λ i. cond (tells_more all i) (unwrap_or (greatest (map (λ (e : ℕ × Change). e.0) (takes_first all i))) from) (max from front)) in
+    let q : (delta_from from front (take enough all)).changes ≡ (delta_from from front all).changes =
+    ap (map (λ (e : ℕ × Change). e.1)) (takes_first all) in
+    λ i. record { from = from; to = p i; changes = q i }
+
+first_rising : (turn first : List (ℕ × Change)) → first ≡ take enough turn → IsNonDecreasingBy (λ (e : ℕ × Change). e.0) turn → IsNonDecreasingBy (λ (e : ℕ × Change). e.0) first
+first_rising turn first is rising = subst (IsNonDecreasingBy (λ (e : ℕ × Change). e.0)) (sym is) (IsNonDecreasingBy-take (λ (e : ℕ × Change). e.0) enough turn rising)
+
+pub given_in_order : (h : StateValue) (from : ℕ) (turn given : List Piece) → given ≡ turn → AreFirstNewer h from enough (map entry_of turn) → IsNonDecreasingBy number_at given
+given_in_order h from turn given same newest = subst (IsNonDecreasingBy number_at) (sym same) (in_order turn (first_rising newest.0 (map entry_of turn) newest.2 newest.1.rising))
+
+pub delta_sent : {E : Type 0} (r : Result numbering.Delta E) (h : StateValue) (from front : ℕ) (turn given : List Piece) → given ≡ turn → front ≡ h.front → AreFirstNewer h from enough (map entry_of turn) → IfOk r (λ d. d ≡ delta_from from front (map entry_of given)) → IfOk r (λ d. (start : ℕ) (list : List Change) → h ≡ state_after start list → d ≡ delta start list from)
 delta_sent (Ok d) h from front turn given same at_front newest made = λ start list is.
     made
     ∙ ap (λ qs. delta_from from front (map entry_of qs)) same
     ∙ ap (λ n. delta_from from n (map entry_of turn)) at_front
-    ∙ delta_of_newer h from (map entry_of turn) newest start list is
+    ∙ ap (delta_from from h.front) newest.2
+    ∙ delta_of_first from h.front newest.0
+    ∙ delta_of_newer h from newest.0 newest.1 start list is
 delta_sent (Err e) h from front turn given same at_front newest made = tt

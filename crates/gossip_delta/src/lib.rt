@@ -19,8 +19,6 @@ mod number;
 mod reading;
 mod since;
 mod state;
-#[cfg(test)]
-mod tests;
 mod words;
 
 pub use change_line::{read_change, read_change_in};

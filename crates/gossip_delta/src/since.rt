@@ -4,7 +4,7 @@ ghost use Rattle.std.specs.Prelude.{if◌then◌else◌};
 ghost use Rattle.std.specs.List.Sorted.{IsNonDecreasingBy};
 ghost use Rattle.chat_change.specs.declared.change.Change as value;
 ghost use Rattle.chat_history.specs.StateValue.{state_after};
-ghost use Rattle.chat_store.specs.Pieces.{entry_of};
+ghost use Rattle.chat_store.specs.Piece.{entry_of};
 ghost use Rattle.chat_history.specs.Numbering.{delta, delta_from, delta_limit};
 ghost use Rattle.gossip_delta.specs.Turn.{number_at, change_at, greatest_number};
 
@@ -16,18 +16,18 @@ use std::alloc::{AllocError, Global};
 /// The most changes of one delta.
 pub const DELTA_LIMIT: usize = 256;
 
-fn changes_of(alloc: Global, turn: &[&Piece]) -> Result<Vec<Change>, AllocError>
+fn changes_of(alloc: Global, turn: &[Piece<'_>]) -> Result<Vec<Change>, AllocError>
     ensures { IfOk result (λ changes. changes.items ≡ map change_at turn.now) }
 {
     let mut changes = Vec::with_capacity(alloc, turn.len())?;
     for piece in turn {
-        let change = piece.change().try_clone()?;
+        let change = piece.change.to_change()?;
         changes.push(change)?;
     }
     Ok(changes)
 }
 
-fn first_pieces<'a, 'p>(turn: &'a [&'p Piece]) -> &'a [&'p Piece]
+fn first_pieces<'a, 'p>(turn: &'a [Piece<'p>]) -> &'a [Piece<'p>]
     ensures { result.now ≡ take delta_limit turn.now }
 {
     if DELTA_LIMIT < turn.len() {
@@ -38,7 +38,7 @@ fn first_pieces<'a, 'p>(turn: &'a [&'p Piece]) -> &'a [&'p Piece]
 }
 
 // The greatest number of pieces by rising number, or `from` of none.
-fn last_number(turn: &[&Piece], from: u64) -> u64
+fn last_number(turn: &[Piece<'_>], from: u64) -> u64
     requires { IsNonDecreasingBy number_at turn.now }
     ensures { result ≡ greatest_number turn.now from }
 {
@@ -49,7 +49,7 @@ fn last_number(turn: &[&Piece], from: u64) -> u64
 }
 
 // How far whoever takes the first pieces has come.
-fn delta_end(turn: &[&Piece], sent: &[&Piece], from: u64, front: u64) -> u64
+fn delta_end(turn: &[Piece<'_>], sent: &[Piece<'_>], from: u64, front: u64) -> u64
     requires { IsNonDecreasingBy number_at sent.now }
     ensures { result ≡ (if nat_lt delta_limit (length turn.now)
         then greatest_number sent.now from else max from front) }
@@ -62,7 +62,7 @@ fn delta_end(turn: &[&Piece], sent: &[&Piece], from: u64, front: u64) -> u64
 }
 
 // The delta of the pieces that are newer.
-fn delta_of(alloc: Global, turn: &[&Piece], from: u64, front: u64) -> Result<Delta, NoMemory>
+fn delta_of(alloc: Global, turn: &[Piece<'_>], from: u64, front: u64) -> Result<Delta, NoMemory>
     requires { IsNonDecreasingBy number_at turn.now }
     ensures { IfOk result (λ d. d ≡ delta_from from front (map entry_of turn.now)) }
 {
@@ -81,7 +81,8 @@ pub fn delta_since(alloc: Global, state: &State, from: u64) -> Result<Delta, NoM
     ensures { IfOk result (λ d. (start : ℕ) (list : List value.Change) →
         state.now ≡ state_after start list → d ≡ delta start list from) }
 {
-    match state.newer(alloc, from) {
+    // one more than a delta has tells that some are left out
+    match state.newer(alloc, from, DELTA_LIMIT + 1) {
         Ok(turn) => delta_of(alloc, &turn, from, state.front()),
         Err(fault) => Err(fault),
     }
