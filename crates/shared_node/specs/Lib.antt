@@ -8,7 +8,3 @@ pub mod Passes
 pub mod Puts
 -- which node it is
 pub mod Names
--- ---- what only the proofs use of the code
-
-pub mod Rules
-pub mod Versions

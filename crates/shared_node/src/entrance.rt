@@ -1,7 +1,5 @@
 //! Who looks at the published version.
-use crate::history::Naming;
-use crate::prefix::Prefix;
-use crate::version::{Published, Version};
+use change_log::{Naming, Prefix, Published, Version};
 use chat_state::State;
 use left_right::reader::{Reader, Reading};
 
@@ -22,7 +20,7 @@ pub struct Visit<'a, J: Naming> {
 
 impl<J: Naming> Entrance<J> {
     ghost use Rattle.std.specs.Prelude.{IfSome};
-    ghost use Rattle.shared_node.specs.Versions.{IsMade};
+    ghost use Rattle.change_log.specs.Versions.{IsMade};
 
     pub fn new(reader: VersionReader<J>) -> Entrance<J> {
         Entrance { home: Some(reader) }
@@ -44,7 +42,7 @@ impl<J: Naming> Entrance<J> {
 
 impl<'a, J: Naming> Visit<'a, J> {
     ghost use Rattle.std.specs.Prelude.{◌≡◌};
-    ghost use Rattle.shared_node.specs.Versions.{IsMade};
+    ghost use Rattle.change_log.specs.Versions.{IsMade};
 
     pub fn list(&self) -> Prefix<J>
         requires { IsMade J.book self.now.reading.part.value }

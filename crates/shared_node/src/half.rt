@@ -3,14 +3,11 @@ ghost use Rattle.std.specs.Prelude.{◌≡◌, ◌+◌, ◌<◌, ◌≤◌, ◌^
 ghost use Rattle.shared_node.specs.Lists.{entry, under};
 ghost use Rattle.shared_node.specs.Passes.{FollowsAll};
 ghost use Rattle.shared_node.specs.Puts.{all_put, half_value, total, Leaves};
-ghost use Rattle.shared_node.specs.Versions.{held, stepped, IsMade};
+ghost use Rattle.change_log.specs.Versions.{held, stepped, IsMade};
 
-use crate::entry::Entry;
 use crate::faults::PutFault;
-use crate::history::{History, Naming};
 use crate::pass::{Pass, Receipt};
-use crate::prefix::Prefix;
-use crate::version::{Operation, Published, Version};
+use change_log::{Entry, History, Naming, Operation, Prefix, Published, Version};
 use chat_change::Change;
 use core::mem::replace_with;
 use left_right::writer::Writer;
@@ -39,7 +36,7 @@ pub struct WritingHalf<J: Naming, R: Wait + Drop> {
 impl<J: Naming, R: Wait + Drop> Model for WritingHalf<J, R> {
     ghost use Rattle.std.specs.Prelude.{◌≡◌, ◌++◌, length, drop};
     ghost use Rattle.shared_node.specs.Puts.{HalfValue, half_value};
-    ghost use Rattle.shared_node.specs.Versions.{entries_of, held, IsMade, Chained};
+    ghost use Rattle.change_log.specs.Versions.{entries_of, held, IsMade, Chained};
 
     ghost Value = { HalfValue };
 

@@ -11,24 +11,17 @@
 #![tactic(auto)]
 
 mod entrance;
-mod entry;
 mod faults;
 mod half;
-mod history;
 pub mod laws;
 mod node;
 mod node_taker;
 mod pass;
-mod prefix;
 mod reads;
 mod seats;
-mod unnamed;
-mod version;
 
-pub use entry::Entry;
+pub use change_log::{Entry, Naming, Unnamed};
 pub use faults::{AskFault, NodeFault, PutFault};
-pub use history::Naming;
 pub use node::{MOST_PASSES, SharedNode};
 pub use node_taker::NodeTaker;
 pub use pass::{Pass, Receipt};
-pub use unnamed::Unnamed;

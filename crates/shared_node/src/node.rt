@@ -8,11 +8,8 @@ ghost use Rattle.shared_node.specs.Puts.{total, appended_of};
 
 use crate::faults::{NodeFault, PutFault};
 use crate::half::{VersionWriter, WritingHalf};
-use crate::history::Naming;
 use crate::pass::{Pass, Receipt};
-use crate::prefix::AnyPrefix;
-use crate::unnamed::Unnamed;
-use crate::version::Version;
+use change_log::{AnyPrefix, Naming, Unnamed, Version};
 use chat_change::Change;
 use chat_state::State;
 use std::alloc::Global;

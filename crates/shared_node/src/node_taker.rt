@@ -5,9 +5,9 @@ ghost use Rattle.shared_node.specs.Passes.{FollowsAll};
 ghost use Rattle.shared_node.specs.Puts.{appended_of};
 
 use crate::faults::PutFault;
-use crate::history::Naming;
 use crate::node::SharedNode;
 use crate::pass::{Pass, Receipt};
+use change_log::Naming;
 use chat_change::Change;
 use gossip_delta::{NotTaken, Taker};
 use std::alloc::Global;

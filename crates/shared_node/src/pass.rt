@@ -4,8 +4,7 @@ ghost use mathlib.Core.List.{IsPrefix};
 ghost use Rattle.shared_node.specs.Passes.{IsSamePut};
 
 use crate::entrance::Entrance;
-use crate::history::Naming;
-use crate::prefix::Prefix;
+use change_log::{Naming, Prefix};
 use std::marker::Model;
 use std::sync::ledger::Share;
 
@@ -42,7 +41,7 @@ pub struct Receipt<J: Naming> {
 
 impl<J: Naming> Model for Receipt<J> {
     ghost use Rattle.std.specs.Prelude.{List};
-    ghost use Rattle.shared_node.specs.declared.entry.Entry.{Entry};
+    ghost use Rattle.change_log.specs.declared.entry.Entry.{Entry};
 
     ghost Value = { List Entry };
 

@@ -13,9 +13,8 @@ ghost use Rattle.shared_node.specs.Passes.{Reads};
 
 use crate::entrance::{Entrance, Visit};
 use crate::faults::AskFault;
-use crate::history::Naming;
 use crate::pass::Pass;
-use crate::prefix::Prefix;
+use change_log::{Naming, Prefix};
 use chat_batch::{AnswerFault, Answered, Facts, answer};
 use chat_change::{Buffer, Change, Moment, MsgId};
 use chat_state::{NoEntry, Peek, State};

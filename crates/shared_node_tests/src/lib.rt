@@ -1,8 +1,6 @@
-//! Tests of a shared node: what its passes see of one another's changes, in one thread, in two and in four.
+//! Tests of a shared node in two threads and in four. What its passes see in one thread is played by `node_cases`.
 #![tactic(auto)]
 
-#[cfg(test)]
-mod one_thread;
 #[cfg(test)]
 mod parts;
 #[cfg(test)]

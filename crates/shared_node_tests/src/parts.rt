@@ -1,54 +1,25 @@
 //! What the tests put and ask.
 use chat_batch::Facts;
-use chat_change::{Buffer, Change, Kind, Message, Moment, MsgId, Record};
+use chat_change::{Buffer, Change, Moment};
 use irc_caps::CapSet;
 use irc_line::{TagLimit, read_line};
 use memory::Text;
 use shared_node::laws::WritingHalf;
-use shared_node::{Naming, Pass, Receipt, SharedNode};
+use shared_node::{AskFault, Naming, Pass, Receipt, SharedNode};
 use std::alloc::{AllocError, Global};
 use std::sync::Wait;
 
-pub fn buffer(alloc: Global) -> Option<Buffer> {
-    Buffer::new(alloc, b"demo", b"net", b"#a").ok()
-}
-
-/// A marker of `#a`. None for want of memory.
-pub fn mark(alloc: Global, ms: u64) -> Option<Vec<Change>> {
-    let buffer = buffer(alloc)?;
-    let at = Moment::from_ms(ms)?;
-    let mut changes = Vec::new(alloc);
-    changes.push(Change::Mark { buffer, at }).ok()?;
-    Some(changes)
-}
-
-/// A post of `#a`. None for want of memory.
-pub fn post(alloc: Global, id: &[u8], ms: u64) -> Option<Change> {
-    let message = Message {
-        kind: Kind::Privmsg,
-        source: b"bob!b@h",
-        target: b"#a",
-        body: b"hi",
-    };
-    let id = MsgId::new(alloc, id).ok()?;
-    let at = Moment::from_ms(ms)?;
-    let record = Record::new(alloc, buffer(alloc)?, id, at, message).ok()?;
-    Some(Change::Post(record))
-}
-
-// The id of a number.
-fn id_of(alloc: Global, number: u64) -> Option<String> {
-    format!(in alloc; "m{number}").ok()
-}
-
-/// As many posts of `#a` as a packet may carry. None for want of memory.
-pub fn packet(alloc: Global) -> Option<Vec<Change>> {
-    let mut changes = Vec::new(alloc);
-    for ms in 0..256 {
-        let id = id_of(alloc, ms)?;
-        changes.push(post(alloc, id.as_bytes(), ms)?).ok()?;
-    }
-    Some(changes)
+/// Why a test ends before its time.
+#[derive(Clone, Copy, Debug, PartialEq)]
+pub enum Fault {
+    /// There was no memory.
+    NoMemory,
+    /// An ask was refused.
+    NoEntry,
+    /// An answer went back behind what the pass saw or was told of.
+    WentBack,
+    /// A pass of the node is missing.
+    NotClosed,
 }
 
 /// The session of `al`, which holds every capability.
@@ -68,60 +39,67 @@ pub fn facts(alloc: Global) -> Result<Facts, AllocError> {
     })
 }
 
-/// What the pass is answered to a question on the marker of `#a`. None where the ask was refused.
-pub fn marker<J: Naming>(alloc: Global, pass: &mut Pass<J>) -> Option<Vec<u8>> {
-    let facts = facts(alloc).ok()?;
-    let line = read_line(b"MARKREAD #a", TagLimit::Client).ok()?;
-    let mut output = Vec::new(alloc);
-    pass.ask(alloc, &facts, &line, &mut output).ok()?;
-    Some(output)
+// A marker of `#a`.
+fn mark(alloc: Global, ms: u64) -> Option<Change> {
+    let buffer = Buffer::new(alloc, b"demo", b"net", b"#a").ok()?;
+    let at = Moment::from_ms(ms)?;
+    Some(Change::Mark { buffer, at })
 }
 
-/// Whether that is what the pass is answered to a question on the marker of `#a`.
-pub fn is_marked<J: Naming>(alloc: Global, pass: &mut Pass<J>, text: &[u8]) -> bool {
-    let Some(seen) = marker(alloc, pass) else {
-        return false;
-    };
-    seen.as_slice() == text
-}
-
-/// Puts a marker of `#a`. None where the put was refused.
+/// Puts a marker of `#a`.
 pub fn put_mark<J: Naming, R: Wait + Drop, W: Wait>(
     rt: &W,
     alloc: Global,
     node: &SharedNode<J, R>,
     pass: &mut Pass<J>,
     ms: u64,
-) -> Option<Receipt<J>> {
-    let changes = mark(alloc, ms)?;
-    node.put(rt, pass, changes.as_slice()).ok()
+) -> Result<Receipt<J>, Fault> {
+    let change = mark(alloc, ms).ok_or(Fault::NoMemory)?;
+    node.put(rt, pass, &[change]).map_err(|_| Fault::NoMemory)
 }
 
-// Whether a put of nothing is answered Ok for each pass.
+// The milliseconds of the second that an answer to a question on the marker of `#a` tells. None where it tells no marker
+// of the first second.
+fn ms_in(answer: &[u8]) -> Option<u64> {
+    let text = str::from_utf8(answer).ok()?;
+    let rest = text.strip_prefix(":~ MARKREAD #a timestamp=1970-01-01T00:00:00.")?;
+    rest.strip_suffix("Z\r\n")?.parse::<u64>().ok()
+}
+
+/// The moment of the marker of `#a`: 0 where the pass sees none.
+pub fn marker<J: Naming>(alloc: Global, facts: &Facts, pass: &mut Pass<J>) -> Result<u64, Fault> {
+    let Ok(line) = read_line(b"MARKREAD #a", TagLimit::Client) else {
+        return Ok(0);
+    };
+    let mut output = Vec::new(alloc);
+    match pass.ask(alloc, facts, &line, &mut output) {
+        Ok(_) => Ok(ms_in(&output).unwrap_or(0)),
+        Err(AskFault::NoEntry) => Err(Fault::NoEntry),
+        Err(_) => Err(Fault::NoMemory),
+    }
+}
+
+// Puts nothing by each pass.
 fn puts_nothing<J: Naming, R: Wait + Drop>(
     half: &mut WritingHalf<J, R>,
     passes: &mut [Pass<J>],
-) -> bool {
-    let mut all = true;
+) -> Result<(), Fault> {
     for pass in passes {
-        all = all && half.put_now(pass, &[]).is_ok();
+        if half.put_now(pass, &[]).is_err() {
+            return Err(Fault::NoMemory);
+        }
     }
-    all
+    Ok(())
 }
 
 /// How many changes the passes put, where they are all those of the node.
 pub fn closed_total<J: Naming, R: Wait + Drop>(
     node: SharedNode<J, R>,
     passes: Vec<Pass<J>>,
-) -> Option<u64> {
-    match node.close(passes) {
-        Ok((mut half, mut passes)) => {
-            if puts_nothing(&mut half, passes.as_mut_slice()) {
-                Some(half.total())
-            } else {
-                None
-            }
-        }
-        Err(_) => None,
-    }
+) -> Result<u64, Fault> {
+    let Ok((mut half, mut passes)) = node.close(passes) else {
+        return Err(Fault::NotClosed);
+    };
+    puts_nothing(&mut half, passes.as_mut_slice())?;
+    Ok(half.total())
 }

@@ -1,8 +1,8 @@
 use Rattle.std.proofs.Common.{◌≡◌, List, [], ◌∷◌, ◌++◌, length, drop, None, ap, sym, ◌∙◌, arith, length-append}
 use Rattle.std.proofs.lemmas.List.{append-nil}
-use Rattle.shared_node.specs.declared.version.Operation.{Operation}
-use Rattle.shared_node.specs.Versions.{entries_of, held}
-use Rattle.shared_node.proofs.ChainLemmas.{one_more, entries_of-append}
+use Rattle.change_log.specs.declared.version.Operation.{Operation}
+use Rattle.change_log.specs.Versions.{entries_of, held}
+use Rattle.change_log.proofs.CallerLemmas.{one_more, entries_of-append}
 use Rattle.shared_node.proofs.half.WritingHalf.append.Goals as goal
 
 -- where nothing is stuck, what waits is what was pending, and then the change

@@ -1,10 +1,10 @@
 use Rattle.std.proofs.Common.{◌≡◌, List, [], ◌++◌, drop, fold, None, refl, ap, sym, ◌∙◌}
 use Rattle.std.proofs.lemmas.List.{append-nil}
-use Rattle.shared_node.specs.declared.version.Version.{Version}
-use Rattle.shared_node.specs.declared.version.Operation.{Operation}
+use Rattle.change_log.specs.declared.version.Version.{Version}
+use Rattle.change_log.specs.declared.version.Operation.{Operation}
 use Rattle.shared_node.specs.Puts.{all_put, half_value}
-use Rattle.shared_node.specs.Versions.{entries_of, held, stepped}
-use Rattle.shared_node.proofs.ChainLemmas.{all_made}
+use Rattle.change_log.specs.Versions.{entries_of, held, stepped}
+use Rattle.change_log.proofs.CallerLemmas.{all_made}
 use Rattle.shared_node.proofs.half.WritingHalf.publish_all.Goals as goal
 
 -- where nothing is stuck, all that waits is pending

@@ -1,0 +1,5 @@
+mod PrefixLemmas
+mod AddLemmas
+mod StateLemmas
+mod ChainLemmas
+pub mod CallerLemmas

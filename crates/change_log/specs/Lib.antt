@@ -1,0 +1,10 @@
+-- ---- what a reader must believe
+
+-- lists of entries, and the state that they make
+pub mod Lists
+-- which node it is
+pub mod Names
+-- ---- what only the proofs use of the code
+
+pub mod Rules
+pub mod Versions

@@ -1,0 +1,64 @@
+//! What is published, and what takes it further.
+use crate::entry::Entry;
+use crate::history::Naming;
+use crate::prefix::AnyPrefix;
+use chat_state::State;
+use crossbeam_utils::rule::{Outcome, Protocol};
+use left_right::Absorb;
+use std::alloc::AllocError;
+use std::marker::PhantomData;
+
+/// A state, and the list that it is made of.
+#[derive(Drop)]
+pub struct Version {
+    pub state: State,
+    pub list: AnyPrefix,
+}
+
+/// An entry to be published, and the list that has it last.
+#[derive(Drop)]
+pub struct Operation {
+    pub entry: Entry,
+    pub after: AnyPrefix,
+}
+
+impl Absorb<Operation> for Version {
+    ghost use Rattle.change_log.specs.Versions.{stepped};
+
+    type State = Version;
+
+    ghost state = { λ v. v };
+
+    ghost applied = { stepped };
+
+    // The copy of the change shares its texts with it, so both versions do.
+    fn absorb_first(&mut self, operation: &Operation, _other: &Version) -> Result<(), AllocError> {
+        let change = operation.entry.change.try_clone()?;
+        match self.state.absorb(change) {
+            Ok(_) => {
+                self.list = operation.after.again();
+                Ok(())
+            }
+            Err(_) => Err(AllocError),
+        }
+    }
+}
+
+/// Each version that is published is made of a list of the node `J`.
+pub struct Published<J> {
+    of: PhantomData<J>,
+}
+
+impl<J: Naming> Protocol<Version, ()> for Published<J> {
+    ghost use Rattle.change_log.specs.Versions.{IsMade};
+
+    ghost holds = { λ x views. IsMade J.book x };
+
+    ghost first = { tt };
+}
+
+impl<J: Naming> Outcome<Version, ()> for Published<J> {
+    ghost use Rattle.change_log.specs.Versions.{IsMade};
+
+    ghost then = { λ v x y w. IsMade J.book y };
+}
