@@ -1,0 +1,66 @@
+//! What is allowed at a key.
+
+use std::fmt::{Display, Error, Formatter, Write};
+
+/// What is allowed at a key, or in an entry of a list.
+#[derive(Clone, Copy, Debug, PartialEq, Eq)]
+pub enum Allowed {
+    /// The key has to be there.
+    Present,
+    /// No keys but those that are known.
+    KnownKeys,
+    /// A number in this range, both ends among it.
+    Number(u32, u32),
+    /// An IP address and a port.
+    Address,
+    /// The name of a cluster.
+    ClusterName,
+    /// The name of a node.
+    NodeName,
+    /// The name of an account or of a network.
+    Name,
+    /// A nick or a user name.
+    Target,
+    /// A list of channels.
+    Channels,
+    /// The word that the nodes share.
+    SharedWord,
+    /// A text.
+    Text,
+    /// A table.
+    Table,
+    /// A list of tables.
+    Tables,
+    /// The name of another node than this one.
+    OtherNode,
+    /// A name that no entry before has.
+    NewName,
+    /// The name of an account of the configuration.
+    KnownAccount,
+}
+
+impl Display for Allowed {
+    fn fmt<W: Write>(&self, f: &mut Formatter<W>) -> Result<(), Error> {
+        match *self {
+            Allowed::Present => f.write_str("missing"),
+            Allowed::KnownKeys => f.write_str("a key that isn't known"),
+            Allowed::Number(least, most) => write!(f, "a number from {least} to {most}"),
+            Allowed::Address => f.write_str("an IP address and a port"),
+            Allowed::ClusterName => f.write_str("1 to 63 letters, digits, '.' and '-'"),
+            Allowed::NodeName => f.write_str("1 to 32 bytes of a-z and 0-9"),
+            Allowed::Name => f.write_str("1 to 32 bytes of a-z, 0-9, '-' and '_'"),
+            Allowed::Target => f.write_str(TARGET),
+            Allowed::Channels => write!(f, "a list of texts, each {TARGET}"),
+            Allowed::SharedWord => f.write_str("1 to 64 bytes without NUL, CR, LF and space"),
+            Allowed::Text => f.write_str("a text"),
+            Allowed::Table => f.write_str("a table"),
+            Allowed::Tables => f.write_str("a list of tables"),
+            Allowed::OtherNode => f.write_str("not the name of this node"),
+            Allowed::NewName => f.write_str("a name that no entry before has"),
+            Allowed::KnownAccount => f.write_str("the name of an account"),
+        }
+    }
+}
+
+const TARGET: &str =
+    "1 to 200 bytes without NUL, CR, LF, space and ',', not '*', and no ':' in front";

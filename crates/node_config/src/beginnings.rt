@@ -1,0 +1,118 @@
+//! What a node begins with.
+ghost use Rattle.std.specs.Prelude.{◌≡◌, IfOk};
+ghost use Rattle.node_config.specs.Beginnings as spec;
+
+use crate::config::Config;
+use crate::entries::{Account, Network, Peer};
+use client_directory as directory;
+use client_directory::{Directory, Entry};
+use memory::{NoMemory, Text};
+use peer_lines::NodeName;
+use std::alloc::{AllocError, Global};
+
+fn copies_of(alloc: Global, texts: &[Text]) -> Result<Vec<Text>, AllocError>
+    ensures { IfOk result (λ copies. copies.items ≡ texts.now) }
+{
+    let mut copies = Vec::new(alloc);
+    for text in texts {
+        let copy = text.try_clone(alloc)?;
+        copies.push(copy)?;
+    }
+    Ok(copies)
+}
+
+impl Network {
+    ghost use Rattle.node_config.specs.Beginnings.{IsCopy};
+
+    /// A copy of a network, for a session with its server.
+    pub fn try_clone(&self, alloc: Global) -> Result<Network, NoMemory>
+        ensures { IfOk result (IsCopy self.now) }
+    {
+        let account = self.account.try_clone(alloc)?;
+        let name = self.name.try_clone(alloc)?;
+        let nick = self.nick.try_clone(alloc)?;
+        let user = self.user.try_clone(alloc)?;
+        let channels = copies_of(alloc, &self.channels)?;
+        Ok(Network {
+            account,
+            name,
+            address: self.address,
+            nick,
+            user,
+            channels,
+        })
+    }
+}
+
+// A network of the directory, which isn't up.
+fn network_of(alloc: Global, network: &Network) -> Result<directory::Network, NoMemory>
+    ensures { IfOk result (λ made. made ≡ spec.network_of network.now) }
+{
+    let name = network.name.try_clone(alloc)?;
+    let nick = network.nick.try_clone(alloc)?;
+    let entry = Entry::new(false, nick, Vec::new(alloc), false);
+    Ok(directory::Network::new(name, entry))
+}
+
+// An account of the directory, with its networks.
+fn account_of(
+    alloc: Global,
+    networks: &[Network],
+    account: &Account,
+) -> Result<directory::Account, NoMemory>
+    ensures { IfOk result (λ made. made ≡ spec.account_of networks.now account.now) }
+{
+    let name = account.name.try_clone(alloc)?;
+    let secret = account.secret.try_clone(alloc)?;
+    let mut made = directory::Account::new(alloc, name, secret);
+    for network in networks {
+        if network.account.as_bytes() == account.name.as_bytes() {
+            made.add(network_of(alloc, network)?)?;
+        }
+    }
+    Ok(made)
+}
+
+fn directory_of(
+    alloc: Global,
+    accounts: &[Account],
+    networks: &[Network],
+) -> Result<Directory, NoMemory>
+    ensures { IfOk result (λ made. made ≡ spec.directory_of accounts.now networks.now) }
+{
+    let mut made = Directory::new(alloc);
+    for account in accounts {
+        made.add(account_of(alloc, networks, account)?)?;
+    }
+    Ok(made)
+}
+
+fn names_of(alloc: Global, peers: &[Peer]) -> Result<Vec<NodeName>, NoMemory>
+    ensures { IfOk result (λ names. names.items ≡ spec.names_of peers.now) }
+{
+    let mut names = Vec::new(alloc);
+    for peer in peers {
+        let name = peer.name.try_clone(alloc)?;
+        if names.push(name).is_err() {
+            return Err(NoMemory);
+        }
+    }
+    Ok(names)
+}
+
+impl Config {
+    /// The accounts with their secrets and networks, none of which is up yet; the nick of each is the configured one.
+    pub fn directory(&self, alloc: Global) -> Result<Directory, NoMemory>
+        ensures { IfOk result (λ directory.
+            directory ≡ spec.directory_of self.now.accounts.items self.now.networks.items) }
+    {
+        directory_of(alloc, &self.accounts, &self.networks)
+    }
+
+    /// The names of the peers, for the terms of connections with them.
+    pub fn peer_names(&self, alloc: Global) -> Result<Vec<NodeName>, NoMemory>
+        ensures { IfOk result (λ names. names.items ≡ spec.names_of self.now.peers.items) }
+    {
+        names_of(alloc, &self.peers)
+    }
+}

@@ -1,0 +1,118 @@
+//! Why a configuration is refused.
+
+use crate::allowed::Allowed;
+use crate::keys::keys_of;
+use std::alloc::AllocError;
+use std::fmt;
+use thiserror::Error;
+
+/// A list of the configuration.
+#[derive(Clone, Copy, Debug, PartialEq, Eq)]
+pub enum ListName {
+    /// `peer`, the other nodes.
+    Peers,
+    /// `account`.
+    Accounts,
+    /// `network`.
+    Networks,
+}
+
+impl ListName {
+    /// The key of the list.
+    pub fn as_str(self) -> &'static str {
+        match self {
+            ListName::Peers => "peer",
+            ListName::Accounts => "account",
+            ListName::Networks => "network",
+        }
+    }
+}
+
+/// A table of the configuration.
+#[derive(Clone, Copy, Debug, PartialEq, Eq)]
+pub enum Place {
+    /// The whole.
+    Top,
+    /// An entry of a list. Entries are counted from 1.
+    Entry(ListName, usize),
+}
+
+/// What is wrong: where, at which key, and what is allowed there. Where no key is named, the table itself is wrong.
+#[derive(Clone, Copy, Debug, PartialEq, Eq)]
+pub struct Wrong {
+    /// The table.
+    pub place: Place,
+    /// The key in it.
+    pub key: Option<&'static str>,
+    /// What is allowed there.
+    pub allowed: Allowed,
+}
+
+/// Why a configuration is refused. Each is looked for in the whole before the next.
+#[derive(Clone, Copy, Debug, PartialEq, Eq, Error)]
+pub enum ConfigFault {
+    /// It isn't UTF-8, or isn't TOML; the line is counted from 1.
+    #[error("line {0}: not a TOML text")]
+    BadText(usize),
+    /// A key is missing, or isn't known.
+    #[error("{0}")]
+    BadKey(Wrong),
+    /// A value is of another type, or isn't allowed.
+    #[error("{0}")]
+    BadValue(Wrong),
+    /// There was no memory.
+    #[error("no memory")]
+    NoMemory,
+}
+
+/// Why a value isn't read.
+#[derive(Clone, Copy)]
+pub(crate) enum ValueFault {
+    Wrong(Wrong),
+    NoMemory,
+}
+
+impl From<AllocError> for ValueFault {
+    fn from(_: AllocError) -> ValueFault {
+        ValueFault::NoMemory
+    }
+}
+
+impl fmt::Display for Place {
+    fn fmt<W: fmt::Write>(&self, f: &mut fmt::Formatter<W>) -> Result<(), fmt::Error> {
+        match *self {
+            Place::Top => f.write_str("top level"),
+            Place::Entry(list, entry) => write!(f, "{} {entry}", list.as_str()),
+        }
+    }
+}
+
+impl fmt::Display for Wrong {
+    fn fmt<W: fmt::Write>(&self, f: &mut fmt::Formatter<W>) -> Result<(), fmt::Error> {
+        match (self.place, self.key) {
+            (Place::Top, Some(key)) => write!(f, "{key}: ")?,
+            (place, Some(key)) => write!(f, "{place}, {key}: ")?,
+            (place, None) => write!(f, "{place}: ")?,
+        }
+        if self.allowed == Allowed::KnownKeys {
+            return write_known(f, self.place);
+        }
+        write!(f, "{}", self.allowed)
+    }
+}
+
+// Which keys a table may have.
+fn write_known<W: fmt::Write>(f: &mut fmt::Formatter<W>, place: Place) -> Result<(), fmt::Error> {
+    let keys = keys_of(place);
+    f.write_str("no keys but ")?;
+    for (i, key) in keys.wanted.iter().enumerate() {
+        if i > 0 {
+            f.write_str(", ")?;
+        }
+        f.write_str(key)?;
+    }
+    for key in keys.allowed {
+        write!(f, ", {key}")?;
+    }
+    Ok(())
+}

@@ -1,0 +1,107 @@
+//! Reading the lists of accounts and networks.
+ghost use Rattle.std.specs.Prelude.{◌≡◌, true, false, IfOk};
+ghost use Rattle.std.specs.List.{list_any};
+ghost use Rattle.std.specs.Str.{bytes_eq};
+ghost use Rattle.node_config.specs.Differing as spec;
+
+use crate::allowed::Allowed;
+use crate::entries::{Account, Network};
+use crate::fault::{ListName, ValueFault};
+use crate::section::{Section, entry_of};
+use std::alloc::{AllocError, Global};
+
+fn has_account(accounts: &[Account], name: &[u8]) -> bool
+    ensures { result ≡ spec.has_account accounts.now name.now }
+{
+    accounts
+        .iter()
+        .any(|account| account.name.as_bytes() == name)
+}
+
+/// The accounts, no two of which have one name.
+pub(crate) fn read_accounts(alloc: Global, top: Section<'_>) -> Result<Vec<Account>, ValueFault>
+    ensures { IfOk result (λ accounts. spec.all_differ spec.same_account accounts.items ≡ true) }
+{
+    let mut accounts = Vec::new(alloc);
+    for (i, item) in top.list(ListName::Accounts)?.iter().enumerate() {
+        let entry = entry_of(item, ListName::Accounts, i)?;
+        let account = read_account(alloc, entry, accounts.as_slice())?;
+        accounts.push(account).map_err(AllocError::from)?;
+    }
+    Ok(accounts)
+}
+
+// An account that isn't one of those before.
+fn read_account(
+    alloc: Global,
+    entry: Section<'_>,
+    before: &[Account],
+) -> Result<Account, ValueFault>
+    ensures { IfOk result (λ account. spec.has_account before.now account.name ≡ false) }
+{
+    let name = entry.name(alloc, "name")?;
+    let secret = entry.any_text(alloc, "secret")?;
+    if has_account(before, name.as_bytes()) {
+        return Err(entry.wrong("name", Allowed::NewName));
+    }
+    Ok(Account { name, secret })
+}
+
+fn has_network(networks: &[Network], account: &[u8], name: &[u8]) -> bool
+    ensures { result ≡ spec.has_network networks.now account.now name.now }
+{
+    networks.iter().any(|network| network.account.as_bytes() == account
+        && network.name.as_bytes() == name)
+}
+
+/// The networks, no two of which are one network of one account, each with its account among those given.
+pub(crate) fn read_networks(
+    alloc: Global,
+    top: Section<'_>,
+    accounts: &[Account],
+) -> Result<Vec<Network>, ValueFault>
+    ensures differ { IfOk result (λ networks.
+        spec.all_differ spec.same_network networks.items ≡ true) }
+    ensures known { IfOk result (λ networks.
+        spec.have_accounts accounts.now networks.items ≡ true) }
+{
+    let mut networks = Vec::new(alloc);
+    for (i, item) in top.list(ListName::Networks)?.iter().enumerate() {
+        let entry = entry_of(item, ListName::Networks, i)?;
+        let network = read_network(alloc, entry, accounts, networks.as_slice())?;
+        networks.push(network).map_err(AllocError::from)?;
+    }
+    Ok(networks)
+}
+
+// A network of one of the accounts that isn't one of those before.
+fn read_network(
+    alloc: Global,
+    entry: Section<'_>,
+    accounts: &[Account],
+    before: &[Network],
+) -> Result<Network, ValueFault>
+    ensures known { IfOk result (λ n. spec.has_account accounts.now n.account ≡ true) }
+    ensures new { IfOk result (λ n. spec.has_network before.now n.account n.name ≡ false) }
+{
+    let account = entry.name(alloc, "account")?;
+    let name = entry.name(alloc, "name")?;
+    let address = entry.address("address")?;
+    let nick = entry.target(alloc, "nick")?;
+    let user = entry.target(alloc, "user")?;
+    let channels = entry.channels(alloc, "channels")?;
+    if !has_account(accounts, account.as_bytes()) {
+        return Err(entry.wrong("account", Allowed::KnownAccount));
+    }
+    if has_network(before, account.as_bytes(), name.as_bytes()) {
+        return Err(entry.wrong("name", Allowed::NewName));
+    }
+    Ok(Network {
+        account,
+        name,
+        address,
+        nick,
+        user,
+        channels,
+    })
+}

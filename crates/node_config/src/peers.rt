@@ -1,0 +1,60 @@
+//! Reading the list of peers.
+ghost use Rattle.std.specs.Prelude.{◌≡◌, true, false, IfOk, OnOk};
+ghost use Rattle.node_config.specs.Differing as spec;
+ghost use Rattle.peer_lines.specs.Names.{same_name};
+
+use crate::allowed::Allowed;
+use crate::entries::Peer;
+use crate::fault::{ListName, ValueFault};
+use crate::section::{Section, entry_of};
+use peer_lines::NodeName;
+use std::alloc::{AllocError, Global};
+
+fn has_peer(peers: &[Peer], name: &NodeName) -> bool
+    ensures { result ≡ spec.has_peer peers.now name.now }
+{
+    peers.iter().any(|peer| peer.name.is_same(name))
+}
+
+/// The peers, none of which is the node itself, and no two of which have one name.
+pub(crate) fn read_peers(
+    alloc: Global,
+    top: Section<'_>,
+    node: &NodeName,
+) -> Result<Vec<Peer>, ValueFault>
+    ensures differ { IfOk result (λ peers. spec.all_differ spec.same_peer peers.items ≡ true) }
+    ensures others { IfOk result (λ peers. spec.has_peer peers.items node.now ≡ false) }
+{
+    let mut peers = Vec::new(alloc);
+    for (i, item) in top.list(ListName::Peers)?.iter().enumerate() {
+        let peer = read_peer(
+            alloc,
+            entry_of(item, ListName::Peers, i)?,
+            node,
+            peers.as_slice(),
+        )?;
+        peers.push(peer).map_err(AllocError::from)?;
+    }
+    Ok(peers)
+}
+
+// A peer that isn't the node itself, nor one of those before.
+fn read_peer(
+    alloc: Global,
+    entry: Section<'_>,
+    node: &NodeName,
+    before: &[Peer],
+) -> Result<Peer, ValueFault>
+    ensures other { IfOk result (λ peer. same_name peer.name node.now ≡ false) }
+    ensures new { IfOk result (λ peer. spec.has_peer before.now peer.name ≡ false) }
+{
+    let name = entry.node_name(alloc, "name")?;
+    let address = entry.address("address")?;
+    if name.is_same(node) {
+        return Err(entry.wrong("name", Allowed::OtherNode));
+    }
+    if has_peer(before, &name) {
+        return Err(entry.wrong("name", Allowed::NewName));
+    }
+    Ok(Peer { name, address })
+}

@@ -1,0 +1,170 @@
+//! Values of one table.
+ghost use Rattle.std.specs.Prelude.{◌≡◌, ◌≤◌, true, IfOk, IfSome};
+ghost use Rattle.std.specs.List.{list_all};
+ghost use Rattle.chat_change.specs.Words.{is_name, is_target};
+ghost use Rattle.node_config.specs.Names as spec;
+
+use crate::allowed::Allowed;
+use crate::fault::{ListName, Place, ValueFault, Wrong};
+use crate::names::is_cluster_name;
+use memory::Text;
+use peer_lines::{LinkFault, NodeName, SharedWord};
+use std::alloc::{AllocError, Global};
+use std::net::SocketAddr;
+use toml::{Table, Value};
+
+/// A table of the text, and where it stands.
+#[derive(Clone, Copy)]
+pub(crate) struct Section<'a> {
+    pub table: &'a Table,
+    pub place: Place,
+}
+
+impl<'a> Section<'a> {
+    /// That the value at a key isn't what is allowed.
+    pub fn wrong(self, key: &'static str, allowed: Allowed) -> ValueFault {
+        ValueFault::Wrong(Wrong {
+            place: self.place,
+            key: Some(key),
+            allowed,
+        })
+    }
+
+    pub fn number(self, key: &'static str, least: u32, most: u32) -> Result<u32, ValueFault>
+        ensures low { IfOk result (λ n. least ≤ n) }
+        ensures high { IfOk result (λ n. n ≤ most) }
+    {
+        let wrong = self.wrong(key, Allowed::Number(least, most));
+        let Some(Value::Integer(number)) = self.table.get(key) else {
+            return Err(wrong);
+        };
+        match u32::try_from(*number) {
+            Ok(number) if least <= number && number <= most => Ok(number),
+            _ => Err(wrong),
+        }
+    }
+
+    fn text(self, key: &'static str, allowed: Allowed) -> Result<&'a str, ValueFault> {
+        match self.table.get(key) {
+            Some(Value::String(text)) => Ok(text.as_str()),
+            _ => Err(self.wrong(key, allowed)),
+        }
+    }
+
+    pub fn address(self, key: &'static str) -> Result<SocketAddr, ValueFault> {
+        match self.text(key, Allowed::Address)?.parse::<SocketAddr>() {
+            Ok(address) => Ok(address),
+            Err(_) => Err(self.wrong(key, Allowed::Address)),
+        }
+    }
+
+    pub fn any_text(self, alloc: Global, key: &'static str) -> Result<Text, ValueFault> {
+        let text = self.text(key, Allowed::Text)?;
+        Ok(Text::new(alloc, text.as_bytes())?)
+    }
+
+    pub fn cluster_name(self, alloc: Global, key: &'static str) -> Result<Text, ValueFault>
+        ensures { IfOk result (λ text. spec.is_cluster_name text ≡ true) }
+    {
+        let text = self.text(key, Allowed::ClusterName)?;
+        if !is_cluster_name(text.as_bytes()) {
+            return Err(self.wrong(key, Allowed::ClusterName));
+        }
+        Ok(Text::new(alloc, text.as_bytes())?)
+    }
+
+    /// The name of an account or of a network.
+    pub fn name(self, alloc: Global, key: &'static str) -> Result<Text, ValueFault>
+        ensures { IfOk result (λ text. is_name text ≡ true) }
+    {
+        let text = self.text(key, Allowed::Name)?;
+        if !chat_change::is_name(text.as_bytes()) {
+            return Err(self.wrong(key, Allowed::Name));
+        }
+        Ok(Text::new(alloc, text.as_bytes())?)
+    }
+
+    /// A nick, or a user name.
+    pub fn target(self, alloc: Global, key: &'static str) -> Result<Text, ValueFault>
+        ensures { IfOk result (λ text. is_target text ≡ true) }
+    {
+        let text = self.text(key, Allowed::Target)?;
+        if !chat_change::is_target(text.as_bytes()) {
+            return Err(self.wrong(key, Allowed::Target));
+        }
+        Ok(Text::new(alloc, text.as_bytes())?)
+    }
+
+    pub fn node_name(self, alloc: Global, key: &'static str) -> Result<NodeName, ValueFault> {
+        let text = self.text(key, Allowed::NodeName)?;
+        match NodeName::new(alloc, text.as_bytes()) {
+            Ok(name) => Ok(name),
+            Err(LinkFault::NoMemory) => Err(ValueFault::NoMemory),
+            Err(_) => Err(self.wrong(key, Allowed::NodeName)),
+        }
+    }
+
+    pub fn shared_word(self, alloc: Global, key: &'static str) -> Result<SharedWord, ValueFault> {
+        let text = self.text(key, Allowed::SharedWord)?;
+        match SharedWord::new(alloc, text.as_bytes()) {
+            Ok(word) => Ok(word),
+            Err(LinkFault::NoMemory) => Err(ValueFault::NoMemory),
+            Err(_) => Err(self.wrong(key, Allowed::SharedWord)),
+        }
+    }
+
+    pub fn channels(self, alloc: Global, key: &'static str) -> Result<Vec<Text>, ValueFault>
+        ensures { IfOk result (λ channels. list_all is_target channels.items ≡ true) }
+    {
+        let Some(Value::Array(items)) = self.table.get(key) else {
+            return Err(self.wrong(key, Allowed::Channels));
+        };
+        let mut names = Vec::new(alloc);
+        for item in items.iter() {
+            let Some(name) = target_in(alloc, item)? else {
+                return Err(self.wrong(key, Allowed::Channels));
+            };
+            names.push(name).map_err(AllocError::from)?;
+        }
+        Ok(names)
+    }
+
+    /// The entries of a list, which may be missing.
+    pub fn list(self, list: ListName) -> Result<&'a [Value], ValueFault> {
+        match self.table.get(list.as_str()) {
+            None => Ok(&[]),
+            Some(Value::Array(items)) => Ok(items.as_slice()),
+            Some(_) => Err(self.wrong(list.as_str(), Allowed::Tables)),
+        }
+    }
+}
+
+// The target that a value is, if it is one.
+fn target_in(alloc: Global, item: &Value) -> Result<Option<Text>, ValueFault>
+    ensures { IfOk result (λ o. IfSome o (λ text. is_target text ≡ true)) }
+{
+    let Value::String(text) = item else {
+        return Ok(None);
+    };
+    if !chat_change::is_target(text.as_bytes()) {
+        return Ok(None);
+    }
+    Ok(Some(Text::new(alloc, text.as_bytes())?))
+}
+
+/// The entry of a list that a value is.
+pub(crate) fn entry_of<'a>(
+    item: &'a Value,
+    list: ListName,
+    index: usize,
+) -> Result<Section<'a>, ValueFault> {
+    let place = Place::Entry(list, index.saturating_add(1));
+    match item {
+        Value::Table(table) => Ok(Section { table, place }),
+        _ => Err(ValueFault::Wrong(Wrong {
+            place,
+            key: None,
+            allowed: Allowed::Table,
+        })),
+    }
+}
