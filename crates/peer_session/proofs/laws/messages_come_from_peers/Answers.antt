@@ -1,0 +1,16 @@
+use Rattle.std.proofs.Common.{[], ◌∷◌, ◌++◌, inl, inr, ⊎_elim}
+use Rattle.peer_session.proofs.LineLemmas.{handed, sends, nothing_follows}
+use Rattle.peer_session.proofs.laws.messages_come_from_peers.Goals as goal
+
+pub returns-clause-arrives : goal.returns-clause-arrives
+returns-clause-arrives c = λ t side before line place arrived e.
+    let up = handed t side before line place arrived e in
+    let are = (c.handshake.ensures.handed_up t side (before ++ line ∷ [])).0 (place, up) in
+    (are, c.handshake.ensures.placed t side (before ++ line ∷ []) place up are)
+
+pub returns-clause-sent : goal.returns-clause-sent
+returns-clause-sent c = λ t side before line.
+    ⊎_elim (λ e. inl e) (λ e. inr ((c.handshake.ensures.greets t side (before ++ line ∷ [])).0 e)) (sends t side before line)
+
+pub returns-clause-closed : goal.returns-clause-closed
+returns-clause-closed c = nothing_follows

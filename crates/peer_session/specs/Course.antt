@@ -1,0 +1,54 @@
+-- What happens on one connection, in turn, and when packets are made meanwhile.
+use Rattle.std.specs.Prelude.{ℕ, ◌-◌, Bool, true, false, Option, Some, List, [], ◌∷◌, nat_le}
+use Rattle.peer_session.specs.declared.pace.Pace.{Pace}
+use Rattle.peer_session.specs.declared.pace.TheConstants.{ACK_WAIT_MS}
+use Rattle.peer_session.specs.Pace as pace
+
+-- What may happen next.
+--   Greeted       the peer says hello
+--   Published     something is published
+--   Acknowledged  the peer acknowledges a number
+--   Ticked        it is that moment
+--   Made          a packet up to a number is made at a moment, or none since nothing is new
+pub data Event : Type 0 where
+  Greeted : Event
+  Published : Event
+  Acknowledged : (upto : ℕ) → Event
+  Ticked : (now : ℕ) → Event
+  Made : (to : Option ℕ) (now : ℕ) → Event
+
+abbrev pub after : Event → Pace → Pace
+after Greeted p = pace.greeted p
+after Published p = pace.published p
+after (Acknowledged upto) p = pace.acknowledged upto p
+after (Ticked now) p = pace.ticked now p
+after (Made to now) p = pace.made to now p
+
+abbrev pub after_all : List Event → Pace → Pace
+after_all [] p = p
+after_all (e ∷ es) p = after_all es (after e p)
+
+-- ---- what happens, and what doesn't
+
+abbrev pub is_hello : Event → Bool
+is_hello Greeted = true
+is_hello _ = false
+
+abbrev pub is_acknowledgement : Event → Bool
+is_acknowledgement (Acknowledged upto) = true
+is_acknowledgement _ = false
+
+-- a packet was to be made, whether or not anything was new
+abbrev pub is_making : Event → Bool
+is_making (Made to now) = true
+is_making _ = false
+
+abbrev pub is_packet : Event → Bool
+is_packet (Made (Some to) now) = true
+is_packet _ = false
+
+-- of a packet up to a number that was made at a moment: it is acknowledged, or has waited long enough
+abbrev pub ends_wait : ℕ → ℕ → Event → Bool
+ends_wait to since (Acknowledged upto) = nat_le to upto
+ends_wait to since (Ticked now) = nat_le ACK_WAIT_MS (now - since)
+ends_wait to since _ = false

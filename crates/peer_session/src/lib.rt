@@ -1,0 +1,29 @@
+//! One connection between two nodes.
+//!
+//! A [`PeerSession`] is one connection with a peer, opened by this node or by the other. It is a value and reads nothing:
+//! whoever owns the socket hands it the lines that come ([`hear`](PeerSession::hear)), carries out what arrives with them on
+//! the link of that peer ([`arrive`](PeerSession::arrive)), tells it what is published
+//! ([`publish`](PeerSession::publish)) and of the time ([`tick`](PeerSession::tick)), lets it make the next packet after
+//! each of these ([`send_next`](PeerSession::send_next)), and sends the bytes that these calls append. The link is kept over
+//! connections, and a session is new with each.
+//!
+//! At most one packet is under way. It is made after the peer's hello, after an acknowledgement, after a publish, and after
+//! 60 seconds without an acknowledgement; where three in a row got none, the connection is to be closed ([`laws`]).
+#![tactic(auto)]
+
+mod arrival;
+mod greeting;
+mod heard;
+pub mod laws;
+mod outcome;
+mod pace;
+mod packets;
+mod session;
+
+pub use arrival::changes_of;
+pub use gossip_link::{Arrived, Life, Link, LinkFault, NodeName, SharedWord, Side, Terms};
+pub use heard::Heard;
+pub use memory::NoMemory;
+pub use outcome::Outcome;
+pub use pace::{ACK_WAIT_MS, MOST_UNANSWERED};
+pub use session::PeerSession;
