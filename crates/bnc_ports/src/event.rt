@@ -1,0 +1,251 @@
+//! What the operator is told.
+use bstr::BStr;
+use irc_time::{Moment, write_time};
+use std::fmt;
+use std::net::SocketAddr;
+
+/// Why a connection ended, or wasn't accepted.
+#[derive(Clone, Copy, Debug, PartialEq, Eq)]
+pub enum Reason {
+    /// The other end closed it.
+    Closed,
+    /// It could not be made.
+    Unreachable,
+    /// It was closed as the protocol says: after QUIT, ERROR or a refused registration.
+    Ended,
+    /// It was silent for too long, or didn't register in time.
+    Silent,
+    /// It sent what a line may not be.
+    BadLine,
+    /// It doesn't know the shared word.
+    WrongWord,
+    /// It is no configured peer, or said that it is another one.
+    UnknownNode,
+    /// It acknowledged nothing for too long.
+    Unacknowledged,
+    /// A newer connection took its place.
+    Replaced,
+    /// It didn't read what was owed to it.
+    Overrun,
+    /// Each place is taken.
+    NoPlace,
+    /// There was no memory.
+    NoMemory,
+    /// The node didn't let a question in.
+    NoEntry,
+}
+
+impl fmt::Display for Reason {
+    fn fmt<W: fmt::Write>(&self, f: &mut fmt::Formatter<W>) -> fmt::Result {
+        f.write_str(match self {
+            Reason::Closed => "the other end closed it",
+            Reason::Unreachable => "it could not be reached",
+            Reason::Ended => "it ended as the protocol says",
+            Reason::Silent => "it was silent for too long",
+            Reason::BadLine => "it sent a line that is refused",
+            Reason::WrongWord => "it sent another word than the shared one",
+            Reason::UnknownNode => "it is no configured peer",
+            Reason::Unacknowledged => "it acknowledged nothing for too long",
+            Reason::Replaced => "a newer connection took its place",
+            Reason::Overrun => "it did not read what was owed to it",
+            Reason::NoPlace => "each place is taken",
+            Reason::NoMemory => "no memory",
+            Reason::NoEntry => "the node let no question in",
+        })
+    }
+}
+
+/// What the operator is told. No secret, no shared word and no text of a message stands in it.
+#[derive(Clone, Copy)]
+pub enum Event<'a> {
+    /// The node accepts clients and peers at these addresses.
+    Listening {
+        clients: SocketAddr,
+        peers: SocketAddr,
+    },
+    /// The system gave no further connection, as where no descriptor is left. It is tried again.
+    AcceptFailed,
+    /// A client registered.
+    ClientIn {
+        account: &'a [u8],
+        network: &'a [u8],
+        address: Option<SocketAddr>,
+    },
+    /// A client that was registered is gone.
+    ClientOut {
+        account: &'a [u8],
+        network: &'a [u8],
+        address: Option<SocketAddr>,
+        reason: Reason,
+    },
+    /// A client that had not registered is gone.
+    ClientRefused {
+        address: Option<SocketAddr>,
+        reason: Reason,
+    },
+    /// The session with the network's server is up.
+    UpstreamUp {
+        account: &'a [u8],
+        network: &'a [u8],
+        nick: &'a [u8],
+    },
+    /// The session with the network's server ended, or could not begin.
+    UpstreamDown {
+        account: &'a [u8],
+        network: &'a [u8],
+        reason: Reason,
+    },
+    /// A peer and this node greeted each other.
+    PeerGreeted {
+        node: &'a [u8],
+        incarnation: u64,
+    },
+    /// The connection with a peer that was greeted ended.
+    PeerDown {
+        node: &'a [u8],
+        reason: Reason,
+    },
+    /// A connection of a peer ended before it was greeted, or could not be made.
+    PeerRefused {
+        address: Option<SocketAddr>,
+        reason: Reason,
+    },
+}
+
+impl<'a> Event<'a> {
+    // What kind of event it is.
+    fn title(&self) -> &'static str {
+        match self {
+            Event::Listening { .. } => "listening",
+            Event::AcceptFailed => "accept failed",
+            Event::ClientIn { .. } => "client in",
+            Event::ClientOut { .. } => "client out",
+            Event::ClientRefused { .. } => "client refused",
+            Event::UpstreamUp { .. } => "upstream up",
+            Event::UpstreamDown { .. } => "upstream down",
+            Event::PeerGreeted { .. } => "peer greeted",
+            Event::PeerDown { .. } => "peer down",
+            Event::PeerRefused { .. } => "peer refused",
+        }
+    }
+
+    // Why, where the event is an end.
+    fn reason(&self) -> Option<Reason> {
+        match *self {
+            Event::ClientOut { reason, .. }
+            | Event::ClientRefused { reason, .. }
+            | Event::UpstreamDown { reason, .. }
+            | Event::PeerDown { reason, .. }
+            | Event::PeerRefused { reason, .. } => Some(reason),
+            _ => None,
+        }
+    }
+
+    // The network of an account that the event is about.
+    fn network(&self) -> Option<Network<'a>> {
+        match *self {
+            Event::ClientIn {
+                account,
+                network,
+                ..
+            }
+            | Event::ClientOut {
+                account,
+                network,
+                ..
+            }
+            | Event::UpstreamUp {
+                account,
+                network,
+                ..
+            }
+            | Event::UpstreamDown {
+                account,
+                network,
+                ..
+            } => Some(Network { account, network }),
+            _ => None,
+        }
+    }
+}
+
+impl<'a> fmt::Display for Event<'a> {
+    fn fmt<W: fmt::Write>(&self, f: &mut fmt::Formatter<W>) -> fmt::Result {
+        write!(f, "{}: ", self.title())?;
+        if let Some(network) = self.network() {
+            write!(f, "{network}")?;
+        }
+        write!(f, "{}", Detail(self))?;
+        match self.reason() {
+            Some(reason) => write!(f, ": {reason}"),
+            None => Ok(()),
+        }
+    }
+}
+
+// What stands behind the network of an event, or in its place.
+#[derive(Clone, Copy)]
+struct Detail<'a, 'b>(&'b Event<'a>);
+
+impl<'a, 'b> fmt::Display for Detail<'a, 'b> {
+    fn fmt<W: fmt::Write>(&self, f: &mut fmt::Formatter<W>) -> fmt::Result {
+        match *self.0 {
+            Event::Listening { clients, peers } => {
+                write!(f, "clients on {clients}, peers on {peers}")
+            }
+            Event::AcceptFailed => f.write_str("tried again in a second"),
+            Event::ClientIn { address, .. } | Event::ClientOut { address, .. } => {
+                write!(f, " from {}", Address(address))
+            }
+            Event::ClientRefused { address, .. } | Event::PeerRefused { address, .. } => {
+                write!(f, "{}", Address(address))
+            }
+            Event::UpstreamUp { nick, .. } => write!(f, " as {}", BStr::new(nick)),
+            Event::UpstreamDown { .. } => Ok(()),
+            Event::PeerGreeted { node, incarnation } => {
+                write!(f, "{} (incarnation {incarnation})", BStr::new(node))
+            }
+            Event::PeerDown { node, .. } => write!(f, "{}", BStr::new(node)),
+        }
+    }
+}
+
+// The other end of a connection, where the system told it.
+#[derive(Clone, Copy)]
+struct Address(Option<SocketAddr>);
+
+impl fmt::Display for Address {
+    fn fmt<W: fmt::Write>(&self, f: &mut fmt::Formatter<W>) -> fmt::Result {
+        match self.0 {
+            Some(address) => write!(f, "{address}"),
+            None => f.write_str("an unknown address"),
+        }
+    }
+}
+
+// A network of an account.
+#[derive(Clone, Copy)]
+struct Network<'a> {
+    account: &'a [u8],
+    network: &'a [u8],
+}
+
+impl<'a> fmt::Display for Network<'a> {
+    fn fmt<W: fmt::Write>(&self, f: &mut fmt::Formatter<W>) -> fmt::Result {
+        write!(f, "{}/{}", BStr::new(self.account), BStr::new(self.network))
+    }
+}
+
+/// The line that tells the operator of an event, without its ending: the moment in UTC, and the event in words.
+#[derive(Clone, Copy)]
+pub struct EventLine<'a> {
+    pub moment: Moment,
+    pub event: Event<'a>,
+}
+
+impl<'a> fmt::Display for EventLine<'a> {
+    fn fmt<W: fmt::Write>(&self, f: &mut fmt::Formatter<W>) -> fmt::Result {
+        let time = write_time(self.moment);
+        write!(f, "{} {}", BStr::new(&time), self.event)
+    }
+}

@@ -1,0 +1,41 @@
+//! What workers tell each other.
+use chat_change::Record;
+use client_directory::Entry;
+use memory::Text;
+use upstream_session::Recipients;
+
+/// What a worker tells another. Networks are those of the configuration, counted from 0.
+#[derive(Drop)]
+pub enum Mail {
+    /// How the session with the network's server stands now, and whether the server's line that made it so is passed on
+    /// too.
+    Entry {
+        network: usize,
+        entry: Entry,
+        is_passed_on: bool,
+    },
+    /// A message as it comes from the network's server, whose present nick it is.
+    Live {
+        network: usize,
+        nick: Text,
+        message: Record,
+    },
+    /// A line that is passed on to sessions of the network. It ends with CR LF.
+    Relay {
+        network: usize,
+        to: Recipients,
+        line: Text,
+    },
+    /// A client's line for the network's server, with its CR LF or without.
+    Say {
+        network: usize,
+        line: Text,
+    },
+    /// A read marker of the network's account was put, which attached sessions are told of.
+    Marked {
+        network: usize,
+        target: Text,
+    },
+    /// Changes were put, which the peers are to have.
+    Published,
+}

@@ -1,0 +1,98 @@
+//! The connections of a worker, and what else comes to it.
+ghost use Rattle.std.specs.Prelude.{◌≤◌, length, IfOk};
+
+use crate::event::Event;
+use crate::mail::Mail;
+use std::net::SocketAddr;
+
+/// Whom a worker connects to. Networks and peers are those of the configuration, counted from 0.
+#[derive(Clone, Copy, Debug, PartialEq, Eq)]
+pub enum Dial {
+    Network(usize),
+    Peer(usize),
+}
+
+/// What comes next for a worker. Lines are its connections, by the numbers that the port gave them.
+#[derive(Drop)]
+pub enum Happening {
+    /// A client came. Its attachment was sent to the lobby under the ticket.
+    Client {
+        line: usize,
+        ticket: u64,
+    },
+    /// A node connected to this one.
+    Peer {
+        line: usize,
+    },
+    /// A connection that was asked for is there.
+    Opened {
+        line: usize,
+        what: Dial,
+    },
+    /// A connection that was asked for could not be made. The line is given up.
+    Refused {
+        line: usize,
+        what: Dial,
+    },
+    /// Bytes may be there, or room for bytes.
+    Ready {
+        line: usize,
+        readable: bool,
+        writable: bool,
+    },
+    /// Another worker tells something.
+    Mail(Mail),
+    /// Nothing, for now.
+    Nothing,
+    /// The port ended.
+    Ended,
+}
+
+/// Why no byte moved.
+#[derive(Clone, Copy, Debug, PartialEq, Eq)]
+pub enum Halt {
+    /// There is none, or no room, for now. `Ready` follows.
+    Blocked,
+    /// The connection is closed.
+    Closed,
+}
+
+/// The port failed, or could not do what it was asked.
+#[derive(Clone, Copy, Debug, PartialEq, Eq)]
+pub struct PortFault;
+
+/// The connections of one worker: sockets, or memory in tests.
+pub trait Port: Drop {
+    /// What comes next. Where nothing is there it waits, for so many milliseconds at most, or for less where the port has
+    /// less patience; with 0 it doesn't wait.
+    fn next(&mut self, patience: u64) -> Result<Happening, PortFault>;
+
+    /// Moves bytes that came over a line to the start of the buffer, and answers how many. It doesn't wait.
+    fn receive(&mut self, line: usize, buffer: &mut [u8]) -> Result<usize, Halt>
+        ensures count { IfOk result (λ n. n ≤ length buffer.new) };
+
+    /// Sends the first of these bytes over a line, and answers how many. It doesn't wait.
+    fn send(&mut self, line: usize, bytes: &[u8]) -> Result<usize, Halt>
+        ensures count { IfOk result (λ n. n ≤ length bytes.now) };
+
+    /// Gives a line up. A line that isn't there is left so.
+    fn close(&mut self, line: usize);
+
+    /// Begins a connection: `Opened` or `Refused` of that line follows.
+    fn dial(&mut self, what: Dial) -> Result<usize, PortFault>;
+
+    /// Who is at the other end of a line.
+    fn address(&self, line: usize) -> Option<SocketAddr>;
+
+    /// Hands mail to another worker.
+    fn post(&mut self, worker: usize, mail: Mail) -> Result<(), PortFault>;
+
+    /// How many workers there are.
+    fn workers(&self) -> usize;
+
+    /// Milliseconds since 1970 began.
+    fn now_ms(&mut self) -> Result<u64, PortFault>;
+
+    /// Tells the operator.
+    fn report(&mut self, event: &Event<'_>);
+}
