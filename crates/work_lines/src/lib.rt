@@ -1,0 +1,16 @@
+//! Connections of a worker, as streams of lines: what came and isn't read yet, and what is owed and isn't sent yet.
+//!
+//! A [`Pipe`] is any connection. A [`Guest`] is that of a client: what is owed to it lies in its attachment, up to the
+//! attachment's bound. What comes as it happens is offered at once ([`Guest::offer`]), and a client that doesn't take it
+//! overruns. What the client's own line called for waits ([`Guest::owe`]), and goes out line by line as there is room.
+#![tactic(auto)]
+
+mod guest;
+mod input;
+mod pending;
+mod pipe;
+
+pub use guest::Guest;
+pub use input::{Filled, Input};
+pub use pending::Pending;
+pub use pipe::{Pipe, Pumped};
