@@ -11,6 +11,3 @@ pub use line::{Line, LineFault, TagLimit, read_line, text_of};
 pub use memory::NoMemory;
 pub use stream::{Feeder, Next};
 pub use text::{OutLine, write_line};
-
-#[cfg(test)]
-mod tests;

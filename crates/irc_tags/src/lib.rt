@@ -9,6 +9,3 @@ mod value;
 pub use tag_list::{MAX_TAG_DATA, TagFault, Tags, read_tags};
 pub use text::{write_tag, write_tags};
 pub use value::{read_value, write_value};
-
-#[cfg(test)]
-mod tests;

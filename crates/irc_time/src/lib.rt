@@ -61,6 +61,3 @@ impl Moment {
         self.ms
     }
 }
-
-#[cfg(test)]
-mod tests;
