@@ -23,8 +23,3 @@ pub use hall::{Hall, HallFault};
 pub use places::{ClaimFault, Clerk, MOST_PLACES, Places, PlacesFault, Stand};
 pub use recorder::Recorder;
 pub use ring_client::{NoRing, RingClient};
-
-#[cfg(test)]
-mod limit_tests;
-#[cfg(test)]
-mod tests;

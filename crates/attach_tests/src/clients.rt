@@ -1,8 +1,12 @@
+//! Clients of each kind, the places that they hold, and halls.
 ghost use Rattle.std.specs.Prelude.{◌≡◌, OnOk, length};
 ghost use Rattle.attach.specs.Attachment.{with_line};
 ghost use Rattle.attach.specs.Hall.{Changes};
 
-use super::*;
+use attach::{
+    Attachment, Boxed, ClaimFault, Clerk, CountingClient, Hall, HallFault, NoRing, Overrun, Places,
+    PlacesFault, Recorder, RingClient,
+};
 use std::alloc::Global;
 use std::test::Fail;
 use std::thread;

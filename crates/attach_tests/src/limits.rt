@@ -1,4 +1,8 @@
-use super::*;
+//! The most places, the greatest bound, a full hall, and the words of faults.
+use attach::{
+    Attachment, ClaimFault, Clerk, Hall, HallFault, NoRing, Overrun, Places, PlacesFault,
+    RingClient,
+};
 use std::alloc::Global;
 use std::fmt;
 use std::test::Fail;
