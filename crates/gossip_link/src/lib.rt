@@ -13,8 +13,6 @@ mod handshake;
 pub mod laws;
 mod link;
 mod terms;
-#[cfg(test)]
-mod tests;
 
 pub use handshake::{Action, Handshake, Side, Stage};
 pub use link::Link;

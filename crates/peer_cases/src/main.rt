@@ -1,7 +1,7 @@
 //! Reads lines of peers, and gathers them, and compares what comes of each with what is to come of it. The words name
-//! files, of three kinds.
+//! files, each of a kind.
 //!
-//! `limits` has a line of a peer in each row, behind the letter of what is read of it: `W`, `H`, `D`, `C` or `A`, the first
+//! `limits` and `spellings` have a line of a peer in each row, behind the letter of what is read of it: `W`, `H`, `D`, `C` or `A`, the first
 //! word of a line, or `-` where it is refused with `BadForm`. `changed` has lines of peers, each with rows that change it:
 //!
 //!     == line
@@ -15,18 +15,31 @@
 //!     letter line
 //!
 //! The letter is that of what arrives with the line: `W`, `H`, `A`, `P` for a packet, `.` for nothing yet, or `-` where it
-//! is refused.
+//! is refused. `written` has lines of connections too, under such names, and what arrives is written as these lines.
+//!
+//! `links` has what comes to a link of n1 to n2, under such names: `new`, `same` or `wrong-life` before a hello, `taken`,
+//! `wrong-life` or `too-high` before an acknowledgement, and `exchanged` or `nothing` before `exchange`, which makes a
+//! packet, has n2 take it and takes the acknowledgement. `handshakes` has rows
+//!
+//!     opener|acceptor lines actions
+//!
+//! with a letter for each line, `w` for the shared word, `x` for another, `h` for the hello of n2 and `?` for a line that
+//! can't be read, and for each action: `-` waits, `G` greets, `U` hands up and `C` closes.
 #![tactic(auto)]
 
 mod change;
 mod letters;
+mod links;
+mod written;
 
 use anyhow::Error;
 use change::{ByteChange, letters_of_changes};
 use letters::{arrival_of, letter_of};
+use links::{is_answer, is_handshake, new_link};
 use peer_lines::Gather;
 use std::alloc::{AllocError, Global};
 use std::{env, fs};
+use written::is_written_again;
 
 /// How many rows there were, and how many of them came to something else.
 #[derive(Clone, Copy)]
@@ -116,14 +129,43 @@ fn check_gathers(rt: &HostRuntime, text: &str) -> Result<(), Error> {
     tally.tell(rt, "gathers")
 }
 
+fn check_written(rt: &HostRuntime, text: &str) -> Result<(), Error> {
+    let mut tally = Tally::new();
+    for part in text.split("== ").skip(1) {
+        let (name, lines) = part.split_once("\n").unwrap_or((part, ""));
+        tally.count(rt, name, is_written_again(rt.alloc(), lines)?)?;
+    }
+    tally.tell(rt, "written")
+}
+
+fn check_links(rt: &HostRuntime, text: &str) -> Result<(), Error> {
+    let mut tally = Tally::new();
+    for part in text.split("== ").skip(1) {
+        let mut link = new_link(rt.alloc())?;
+        for row in part.lines().skip(1) {
+            tally.count(rt, row, is_answer(rt.alloc(), &mut link, row)?)?;
+        }
+    }
+    tally.tell(rt, "links")
+}
+
+fn check_handshakes(rt: &HostRuntime, text: &str) -> Result<(), Error> {
+    let mut tally = Tally::new();
+    for row in text.lines() {
+        tally.count(rt, row, is_handshake(rt.alloc(), row)?)?;
+    }
+    tally.tell(rt, "handshakes")
+}
+
 fn check_file(rt: &HostRuntime, path: &str) -> Result<(), Error> {
     let text = fs::read_to_string(rt, path)?;
-    if path.ends_with("limits") {
-        check_limits(rt, text.as_str())
-    } else if path.ends_with("changed") {
-        check_changed(rt, text.as_str())
-    } else {
-        check_gathers(rt, text.as_str())
+    match path {
+        "limits" | "spellings" => check_limits(rt, text.as_str()),
+        "changed" => check_changed(rt, text.as_str()),
+        "written" => check_written(rt, text.as_str()),
+        "links" => check_links(rt, text.as_str()),
+        "handshakes" => check_handshakes(rt, text.as_str()),
+        _ => check_gathers(rt, text.as_str()),
     }
 }
 

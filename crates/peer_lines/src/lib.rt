@@ -16,8 +16,6 @@ mod names;
 mod packet;
 mod peer_line;
 mod shared_word;
-#[cfg(test)]
-mod tests;
 mod writing;
 
 pub use fault::LinkFault;

@@ -50,7 +50,8 @@ impl NodeName {
     pub fn new(alloc: Global, text: &[u8]) -> Result<NodeName, LinkFault>
         ensures made { IfOk result (λ name. name ≡ text.now) }
         ensures refused { IfErr result (λ fault.
-            fault ≡ (if spec.is_node_name text.now then LinkFault.NoMemory else LinkFault.BadForm)) }
+            fault ≡ (if spec.is_node_name text.now
+            then LinkFault.NoMemory else LinkFault.BadForm)) }
     {
         if !is_node_name(text) {
             return Err(LinkFault::BadForm);

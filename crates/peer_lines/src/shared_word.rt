@@ -53,7 +53,8 @@ impl SharedWord {
     pub fn new(alloc: Global, text: &[u8]) -> Result<SharedWord, LinkFault>
         ensures made { IfOk result (λ word. word ≡ text.now) }
         ensures refused { IfErr result (λ fault.
-            fault ≡ (if spec.is_shared_word text.now then LinkFault.NoMemory else LinkFault.BadForm)) }
+            fault ≡ (if spec.is_shared_word text.now
+            then LinkFault.NoMemory else LinkFault.BadForm)) }
     {
         if !is_shared_word(text) {
             return Err(LinkFault::BadForm);
