@@ -1,9 +1,10 @@
 //! Tells, for each set of capabilities, what a session that holds it is answered to a question on a target with one record,
-//! to one on its marker, and to a line that is no question.
+//! to one on the targets, to one on its marker, and to a line that is no question; and how a record is told it as it comes.
+//! Then it tells the answers and the next batch's number of a session that has come to the last number.
 #![tactic(auto)]
 
 use anyhow::Error;
-use chat_batch::{Facts, answer};
+use chat_batch::{Answered, Facts, answer, next_reference, write_live};
 use chat_change::{Buffer, Change, Kind, Message, Moment, MsgId, Record};
 use chat_state::State;
 use irc_caps::CapSet;
@@ -24,7 +25,7 @@ fn set_of(bits: u32) -> CapSet {
     }
 }
 
-fn facts_of(alloc: Global, caps: CapSet) -> Result<Facts, Error> {
+fn facts_of(alloc: Global, caps: CapSet, reference: u32) -> Result<Facts, Error> {
     let account = Text::new(alloc, b"demo")?;
     let network = Text::new(alloc, b"net")?;
     let nick = Text::new(alloc, b"al")?;
@@ -34,13 +35,13 @@ fn facts_of(alloc: Global, caps: CapSet) -> Result<Facts, Error> {
         network,
         nick,
         caps,
-        reference: 1,
+        reference,
         cluster,
         maximum: 100,
     })
 }
 
-fn post(alloc: Global) -> Result<Change, Error> {
+fn record_of(alloc: Global) -> Result<Record, Error> {
     let buffer = Buffer::new(alloc, b"demo", b"net", b"#a")?;
     let id = MsgId::new(alloc, b"m1")?;
     let at = Moment::from_ms(1000).ok_or(AllocError)?;
@@ -50,35 +51,72 @@ fn post(alloc: Global) -> Result<Change, Error> {
         target: b"#a",
         body: b"hi",
     };
-    Ok(Change::Post(Record::new(alloc, buffer, id, at, message)?))
+    Ok(Record::new(alloc, buffer, id, at, message)?)
 }
 
 fn state_of(alloc: Global) -> Result<State, Error> {
     let mut state = State::new(alloc);
-    state.absorb(post(alloc)?)?;
+    let _ = state.absorb(Change::Post(record_of(alloc)?))?;
     Ok(state)
 }
 
-/// Tells what a line is answered, and what the answer was.
-fn tell(rt: &HostRuntime, state: &State, facts: &Facts, text: &str) -> Result<(), Error> {
-    let line = read_line(text.as_bytes(), TagLimit::Client)?;
-    let mut output = Vec::new(rt.alloc());
-    let answered = answer(rt.alloc(), state, facts, &line, &mut output)?;
-    let written = String::from_utf8_lossy(rt.alloc(), &output)?;
+/// Tells lines, each on a line of its own.
+fn tell_lines(rt: &HostRuntime, output: &[u8]) -> Result<(), Error> {
+    let written = String::from_utf8_lossy(rt.alloc(), output)?;
     for line in written.lines() {
         println!(rt; "{line}")?;
     }
-    println!(rt; "{answered:?}")?;
     Ok(())
 }
 
-/// Tells what a session with the set of a number is answered.
+/// Tells what a line is answered, and what the answer was.
+fn tell(rt: &HostRuntime, state: &State, facts: &Facts, text: &str) -> Result<Answered, Error> {
+    let line = read_line(text.as_bytes(), TagLimit::Client)?;
+    let mut output = Vec::new(rt.alloc());
+    let answered = answer(rt.alloc(), state, facts, &line, &mut output)?;
+    tell_lines(rt, &output)?;
+    println!(rt; "{answered:?}")?;
+    Ok(answered)
+}
+
+fn tell_live(rt: &HostRuntime, caps: &CapSet) -> Result<(), Error> {
+    let record = record_of(rt.alloc())?;
+    let mut output = Vec::new(rt.alloc());
+    write_live(&record, caps, &mut output)?;
+    tell_lines(rt, &output)
+}
+
+const ON_TARGETS: &str =
+    "CHATHISTORY TARGETS timestamp=1970-01-01T00:00:00.000Z timestamp=1970-01-01T00:00:09.000Z 5";
+
+const QUESTIONS: [&str; 4] = [
+    "CHATHISTORY LATEST #a * 5",
+    ON_TARGETS,
+    "MARKREAD #a",
+    "PRIVMSG #a :x",
+];
+
+/// Tells what a session with the set of a number is answered and told.
 fn tell_set(rt: &HostRuntime, state: &State, bits: u32) -> Result<(), Error> {
-    let facts = facts_of(rt.alloc(), set_of(bits))?;
+    let caps = set_of(bits);
+    let facts = facts_of(rt.alloc(), caps, 1)?;
     println!(rt; "set {bits}")?;
-    tell(rt, state, &facts, "CHATHISTORY LATEST #a * 5")?;
-    tell(rt, state, &facts, "MARKREAD #a")?;
-    tell(rt, state, &facts, "PRIVMSG #a :x")
+    for text in QUESTIONS {
+        let _ = tell(rt, state, &facts, text)?;
+    }
+    tell_live(rt, &caps)
+}
+
+/// The last number of a batch.
+const LAST_REFERENCE: u32 = 4_294_967_295;
+
+fn tell_last(rt: &HostRuntime, state: &State) -> Result<(), Error> {
+    let facts = facts_of(rt.alloc(), CapSet::all(), LAST_REFERENCE)?;
+    for text in QUESTIONS {
+        let answered = tell(rt, state, &facts, text)?;
+        println!(rt; "next {}", next_reference(LAST_REFERENCE, answered))?;
+    }
+    Ok(())
 }
 
 fn main(rt: HostRuntime) -> Result<(), Error> {
@@ -86,5 +124,5 @@ fn main(rt: HostRuntime) -> Result<(), Error> {
     for bits in 0..128 {
         tell_set(&rt, &state, bits)?;
     }
-    Ok(())
+    tell_last(&rt, &state)
 }

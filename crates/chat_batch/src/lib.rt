@@ -27,6 +27,3 @@ pub use facts::{Answered, Facts};
 pub use irc_reply::{Context, write_fail, write_mark, write_too_long, write_unknown};
 pub use message::write_live;
 pub use reference::next_reference;
-
-#[cfg(test)]
-mod tests;
