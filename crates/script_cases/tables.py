@@ -2,7 +2,8 @@
 """Writes the tables of queries in data/, each with the answers of a plain program: filter, sort and cut over a list of
 changes, as the IRCv3 specification draft/chathistory words them. The gate doesn't run it; it runs what it wrote.
 
-    ./tables.py          writes data/pages, data/between, data/targets, data/refusals, data/lengths, data/orders
+    ./tables.py          writes data/pages, data/between, data/targets, data/refusals, data/lengths, data/orders,
+                         data/limits
 """
 
 import os
@@ -375,6 +376,65 @@ def orders():
     yield asked_of_all("nodes begin again with nothing and are filled by others", lines)
 
 
+# A change line up to a text, the most bytes that the text may have, and what stands behind it. `:bob PRIVMSG #a :` has 17
+# bytes and `:bob NOTICE #a :` 16, and a line has at most 510 of them.
+FIELDS = [
+    ("C MARK ", 32, " net #a 0"),
+    ("C MARK demo ", 32, " #a 0"),
+    ("C MARK demo net ", 200, " 0"),
+    ("C POST demo net #a ", 255, " 0 P #a bob :"),
+    ("C POST demo net #a m 0 P ", 200, " bob :"),
+    ("C POST demo net #a m 0 P #a ", 255, " :"),
+    ("C POST demo net #a m 0 P #a bob :", 493, ""),
+    ("C POST demo net #a m 0 N #a bob :", 494, ""),
+]
+
+MOMENTS = [0, 253402300799999, 253402300800000, 18446744073709551616]
+
+
+def fields():
+    """Each field at its limit, and with a byte more; and moments at both ends."""
+    for number, (before, most, behind) in enumerate(FIELDS):
+        for count in (most, most + 1):
+            wanted = ["% BadField"] if count > most else []
+            title = f"== field {number} of {count} bytes"
+            yield "\n".join([title, before + "a" * count + behind, "--"] + wanted) + "\n"
+    for ms in MOMENTS:
+        wanted = []
+        if ms < 253402300800000:
+            wanted.append(f"{CLUSTER} MARKREAD #a timestamp={time_text(ms)}")
+        else:
+            wanted += ["% BadField", f"{CLUSTER} MARKREAD #a *"]
+        yield "\n".join([f"== moment {ms}", f"C MARK demo net #a {ms}", "MARKREAD #a", "--"] + wanted) + "\n"
+
+
+def largest_pages():
+    """A dozen pages of the most messages, then smaller ones; and pages of two messages."""
+    history = History()
+    for i in range(150):
+        history.post("#a", f"m{i}", i, f"text {i}")
+    session = Session(history)
+    for number in range(1, 13):
+        session.ask("LATEST", "#a", [], 100 if number % 2 == 0 else 101)
+    for limit in (99, 1):
+        session.ask("LATEST", "#a", [], limit)
+    yield session.case("a dozen pages of the most messages, and smaller ones of the last")
+    history = History()
+    history.post("#a", "m1", 1000, "x")
+    history.post("#a", "m2", 2000, "x")
+    session = Session(history)
+    session.ask("LATEST", "#a", [], 10)
+    session.ask("AFTER", "#a", [("msgid", "m1")], 9)
+    session.ask("BETWEEN", "#a", [("msgid", "m2"), ("msgid", "m1")], 2)
+    session.ask("AROUND", "#a", [("msgid", "m2")], 4)
+    yield session.case("pages of two messages")
+
+
+def limits():
+    yield from fields()
+    yield from largest_pages()
+
+
 def write(name, cases):
     path = os.path.join(os.path.dirname(os.path.abspath(__file__)), "data", name)
     with open(path, "w", encoding="utf-8", newline="\n") as file:
@@ -388,3 +448,4 @@ if __name__ == "__main__":
     write("refusals", refusals())
     write("lengths", lengths())
     write("orders", orders())
+    write("limits", limits())

@@ -23,6 +23,3 @@ pub use pages::{Page, PageFault};
 pub use parameters::{QueryFault, read_moment, read_query};
 pub use query::{GivenId, Query, Selector, Target};
 pub use scope::Scope;
-
-#[cfg(test)]
-mod tests;

@@ -16,6 +16,3 @@ pub use numerics::{
 };
 pub use plain::{closing_link, join_line, marker_question, nick_line, passed_line, redact_line};
 pub use redact::{redact_bad_target, redact_forbidden, redact_needs_more, redact_unknown_id};
-
-#[cfg(test)]
-mod tests;

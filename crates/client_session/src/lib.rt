@@ -24,6 +24,3 @@ pub use client_directory::{Account, Directory, Entry, Network};
 pub use effect::Effect;
 pub use memory::{NoMemory, Text};
 pub use session::{Session, StepFault};
-
-#[cfg(test)]
-mod tests;

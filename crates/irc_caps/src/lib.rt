@@ -17,9 +17,6 @@ pub use memory::{NoMemory, Text};
 pub use negotiation::{CapReply, Negotiation};
 pub use registration::Registration;
 
-#[cfg(test)]
-mod tests;
-
 /// A set of capabilities: for each of the seven names whether it is held. The fields stand in the byte order of the
 /// names.
 #[derive(Clone, Copy, Debug, PartialEq, Eq)]

@@ -15,6 +15,3 @@ pub use echo::echoed;
 pub use memory::{NoMemory, Text};
 pub use reply::{Context, write_fail, write_mark, write_reply, write_too_long, write_unknown};
 pub use text::{need_more_params, reply_text};
-
-#[cfg(test)]
-mod tests;

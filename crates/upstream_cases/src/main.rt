@@ -4,6 +4,7 @@
 //!     == new|up|echo|redact|last|odd: name of the case
 //!     < line of the server
 //!     > line of a client
+//!     + line of a client, which comes with CR LF
 //!     ? tells how the session stands
 //!     ! starts the session
 //!     --
@@ -13,11 +14,21 @@
 //! #a and #b, of the node n1 in its incarnation 7. It is new, or the server has welcomed it (`up`), having acknowledged
 //! `echo-message` (`echo`) or `draft/message-redaction` (`redact`); one has used up its serial numbers (`last`), and one is
 //! of a node whose name can't stand in an id (`odd`). A NUL is spelled `␀`, and a CR `␍`.
+//!
+//! The file `hearers` has rows that say who hears, of sessions of the network `net` as `al`:
+//!
+//!     message source account capability yes|no
+//!     line account network all|capability yes|no
+//!
+//! The first is of a message of that source, and a session of that account that holds that capability or none; the second
+//! of a line for all or for those that hold a capability, and a session of `demo` that holds `echo-message`.
 #![tactic(auto)]
 
+mod hearers;
 mod play;
 
 use anyhow::Error;
+use hearers::is_hearing;
 use play::{Setting, play, session_of};
 use std::alloc::{AllocError, Global};
 use std::{env, fs};
@@ -80,6 +91,14 @@ fn is_right(rt: &HostRuntime, case: Case<'_>) -> Result<bool, Error> {
     Ok(false)
 }
 
+/// Plays a part of a file, and says whether it came to what it is to come to.
+fn is_case_right(rt: &HostRuntime, part: &str) -> Result<bool, Error> {
+    match case_in(part) {
+        Some(case) => is_right(rt, case),
+        None => Ok(false),
+    }
+}
+
 /// Plays the cases of a file, and says how many there were and how many came to something else.
 fn play_file(rt: &HostRuntime, path: &str) -> Result<(), Error> {
     let text = fs::read_to_string(rt, path)?;
@@ -87,11 +106,7 @@ fn play_file(rt: &HostRuntime, path: &str) -> Result<(), Error> {
     let mut wrong: u64 = 0;
     for part in text.split("== ").skip(1) {
         count = count.saturating_add(1);
-        let right = match case_in(part) {
-            Some(case) => is_right(rt, case)?,
-            None => false,
-        };
-        if !right {
+        if !is_case_right(rt, part)? {
             wrong = wrong.saturating_add(1);
         }
     }
@@ -99,9 +114,28 @@ fn play_file(rt: &HostRuntime, path: &str) -> Result<(), Error> {
     Ok(())
 }
 
+/// Plays the rows of a file that say who hears.
+fn play_hearers(rt: &HostRuntime, path: &str) -> Result<(), Error> {
+    let text = fs::read_to_string(rt, path)?;
+    let mut count: u64 = 0;
+    let mut wrong: u64 = 0;
+    for row in text.lines() {
+        count = count.saturating_add(1);
+        if !is_hearing(rt.alloc(), row)? {
+            wrong = wrong.saturating_add(1);
+            println!(rt; "wrong: {row}")?;
+        }
+    }
+    println!(rt; "{path}: {count} rows, {wrong} wrong")?;
+    Ok(())
+}
+
 fn main(rt: HostRuntime) -> Result<(), Error> {
     for path in env::args(&rt)?.skip(1) {
-        play_file(&rt, path.as_str())?;
+        match path.as_str() {
+            "hearers" => play_hearers(&rt, path.as_str())?,
+            _ => play_file(&rt, path.as_str())?,
+        }
     }
     Ok(())
 }

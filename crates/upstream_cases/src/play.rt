@@ -166,12 +166,23 @@ fn play_line(
     }
 }
 
+fn with_ending(alloc: Global, line: &[u8]) -> Result<Vec<u8>, AllocError> {
+    let mut whole = Vec::from_slice(alloc, line)?;
+    whole.extend_from_slice(b"\r\n")?;
+    Ok(whole)
+}
+
 /// What the lines of a script come to, one after the other. LF stands between each two.
 pub fn play(alloc: Global, session: &mut Upstream, script: &[u8]) -> Result<Vec<u8>, Error> {
     let mut out = Vec::new(alloc);
     for text in script.split(|b| *b == b'\n') {
         match text {
             [b'?', ..] => tell_session(alloc, &mut out, session)?,
+            [b'+', b' ', line @ ..] => {
+                let whole = with_ending(alloc, line)?;
+                let effects = play_line(alloc, session, b'>', &whole, now()?)?;
+                tell_all(alloc, &mut out, &effects)?;
+            }
             [mark, b' ', line @ ..] => {
                 let effects = play_line(alloc, session, *mark, line, now()?)?;
                 tell_all(alloc, &mut out, &effects)?;

@@ -28,6 +28,3 @@ pub use hearers::{hears_line, hears_message};
 pub use irc_caps::Capability;
 pub use memory::{NoMemory, Text};
 pub use upstream::Upstream;
-
-#[cfg(test)]
-mod tests;
