@@ -123,7 +123,8 @@ after_command w (exchange sender receiver) =
     taking_ack (after_packet_of w sender receiver) sender receiver (ack_of w sender receiver)
 after_command w (lose sender receiver) = printing (after_sending w sender receiver) []
 after_command w (hold_back sender receiver) =
-    printing (holding_back (after_packet_of w sender receiver) sender receiver (ack_of w sender receiver)) []
+    printing (holding_back (after_packet_of w sender receiver) sender receiver
+    (ack_of w sender receiver)) []
 after_command w (hand_over sender receiver) =
     taking_ack w sender receiver (late_ack (node_at w sender) receiver)
 after_command w (restart node) =

@@ -7,8 +7,6 @@ pub mod laws;
 mod node;
 mod reply;
 mod script;
-#[cfg(test)]
-mod tests;
 mod world;
 
 pub use fault::ReplayFault;

@@ -112,7 +112,8 @@ pub(crate) fn replay_within<In: Read, Out: Write>(
     most_reads: u64,
 ) -> Result<(), ReplayFault>
     ensures { IfSome (In.remaining reader.old) (λ input.
-        Writes Out.contents writer.old writer.new result (script input account.now network.now nick.now)) }
+        Writes Out.contents writer.old writer.new result
+        (script input account.now network.now nick.now)) }
 {
     let Ok(mut feeder) = Feeder::new(alloc) else {
         return Err(ReplayFault::NoMemory);
@@ -171,7 +172,8 @@ pub fn replay<In: Read, Out: Write>(
 ) -> Result<(), ReplayFault>
     requires names { buffer_fault account.now network.now nick.now ≡ None }
     ensures script { IfSome (In.remaining reader.old) (λ input.
-        Writes Out.contents writer.old writer.new result (script input account.now network.now nick.now)) }
+        Writes Out.contents writer.old writer.new result
+        (script input account.now network.now nick.now)) }
 {
     replay_within(alloc, reader, writer, account, network, nick, MOST_READS)
 }

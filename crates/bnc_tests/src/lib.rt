@@ -14,8 +14,6 @@ mod history_random;
 #[cfg(test)]
 mod history_steps;
 #[cfg(test)]
-mod limits;
-#[cfg(test)]
 mod reads;
 #[cfg(test)]
 mod state_limits;

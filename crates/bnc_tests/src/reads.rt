@@ -5,6 +5,9 @@ use std::io;
 use std::io::Read;
 use test_devices::Sink;
 
+/// How many reads are made of a script at most.
+const MOST_READS: u64 = 16_777_216;
+
 /// Gives one LF a read, as many as it has, and counts the reads.
 #[derive(Drop)]
 struct EmptyLines {
@@ -24,24 +27,22 @@ impl Read for EmptyLines {
     }
 }
 
-// How a script of so many empty lines ends, and how many reads were made.
-fn read_lines(alloc: Global, lines: u64) -> (Result<(), ReplayFault>, u64) {
+// How a script of so many empty lines ends, how many reads were made, and whether nothing was printed.
+fn read_lines(alloc: Global, lines: u64) -> (Result<(), ReplayFault>, u64, bool) {
     let mut reader = EmptyLines {
         left: lines,
         reads: 0,
     };
     let mut writer = Sink::new(alloc);
     let answered = replay(alloc, &mut reader, &mut writer, b"demo", b"net", b"al");
-    (answered, reader.reads)
+    (answered, reader.reads, writer.bytes().is_empty())
 }
 
 // The last of 16,777,216 reads may be the one that finds the end.
 #[test]
 fn no_more_reads_are_made_than_the_most(rt: HostRuntime) {
-    let (answered, reads) = read_lines(rt.alloc(), 16_777_215);
-    assert!(rt; answered == Ok(()));
-    assert_eq!(rt; reads, 16_777_216);
-    let (answered, reads) = read_lines(rt.alloc(), 16_777_217);
-    assert!(rt; answered == Err(ReplayFault::Read));
-    assert_eq!(rt; reads, 16_777_216);
+    let (answered, reads, is_silent) = read_lines(rt.alloc(), MOST_READS - 1);
+    assert!(rt; answered == Ok(()) && reads == MOST_READS && is_silent);
+    let (answered, reads, is_silent) = read_lines(rt.alloc(), MOST_READS + 1);
+    assert!(rt; answered == Err(ReplayFault::Read) && reads == MOST_READS && is_silent);
 }

@@ -51,7 +51,7 @@ fn state_of(alloc: Global, from: u64, to: u64) -> Result<State, Fail> {
 }
 
 fn count_of(alloc: Global, state: &State) -> Result<usize, Fail> {
-    let pieces = state.newer(alloc, 0)?;
+    let pieces = state.newer(alloc, 0, usize::MAX)?;
     Ok(pieces.len())
 }
 

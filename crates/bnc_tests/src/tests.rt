@@ -123,16 +123,26 @@ const EACH_KIND: &[u8] =
 const EACH_ANSWER: &[u8] =
     b":bnc.example BATCH +r1 chathistory #a\r\n@batch=r1;msgid=m1;time=1970-01-01T00:00:01.000Z :bob!b@h PRIVMSG #a :hi\r\n:bnc.example BATCH -r1\r\n:bnc.example MARKREAD #a *\r\n:bnc.example MARKREAD #a timestamp=1970-01-01T00:00:05.000Z\r\n% BadForm\r\n% BadField\r\n:bnc.example 421 al * :Unknown command\r\n:bnc.example NOTICE al :Not connected to net\r\n";
 
+// Whether a script whose writer fails after so many bytes ends with that, having written these.
+fn is_told_after(alloc: Global, script: &[u8], answer: &[u8], bytes: usize) -> bool {
+    let mut writer = Sink::new(alloc).at_most(1).failing_after(bytes);
+    let answered = run(alloc, Source::new(script), &mut writer);
+    answered == Err(ReplayFault::Write) && answer.get(..bytes) == Some(writer.bytes())
+}
+
+// The first byte of an answer whose failure isn't told.
+fn first_untold(alloc: Global, script: &[u8], answer: &[u8]) -> Option<usize> {
+    for bytes in 0..answer.len() {
+        if !is_told_after(alloc, script, answer, bytes) {
+            return Some(bytes);
+        }
+    }
+    None
+}
+
 #[test]
 fn a_failing_writer_is_told(rt: HostRuntime) {
-    for k in 0..EACH_ANSWER.len() {
-        let mut writer = Sink::new(rt.alloc()).at_most(1).failing_after(k);
-        match run(rt.alloc(), Source::new(EACH_KIND), &mut writer) {
-            Ok(()) => assert!(rt; false, "at {k}"),
-            Err(fault) => assert!(rt; fault == ReplayFault::Write, "at {k}"),
-        }
-        assert!(rt; writer.bytes() == &EACH_ANSWER[..k], "at {k}");
-    }
+    assert_eq!(rt; first_untold(rt.alloc(), EACH_KIND, EACH_ANSWER), None);
     let mut writer = Sink::new(rt.alloc()).at_most(1);
     assert!(rt; run(rt.alloc(), Source::new(EACH_KIND), &mut writer).is_ok());
     assert!(rt; writer.bytes() == EACH_ANSWER);
@@ -141,14 +151,7 @@ fn a_failing_writer_is_told(rt: HostRuntime) {
 #[test]
 fn a_writer_that_fails_at_a_line_that_is_too_long_is_told(rt: HostRuntime) {
     let script = long_script(rt.alloc(), b"%", 8702, b"\n").expect(&rt, "memory");
-    for k in 0..TOO_LONG.len() {
-        let mut writer = Sink::new(rt.alloc()).at_most(1).failing_after(k);
-        match run(rt.alloc(), Source::new(&script), &mut writer) {
-            Ok(()) => assert!(rt; false, "at {k}"),
-            Err(fault) => assert!(rt; fault == ReplayFault::Write, "at {k}"),
-        }
-        assert!(rt; writer.bytes() == &TOO_LONG[..k], "at {k}");
-    }
+    assert_eq!(rt; first_untold(rt.alloc(), &script, TOO_LONG), None);
 }
 
 #[test]
