@@ -1,0 +1,121 @@
+//! The sockets on which a node accepts connections.
+use crate::fault::ServeFault;
+use bnc_ports::Event;
+use bnc_sockets::report;
+use mio::net::{TcpListener, TcpStream};
+use mio::{Events, Interest, Poll, Token};
+use std::io::{Eprint, ErrorKind};
+use std::net::{Net, SocketAddr};
+use std::time::{Clock, Duration};
+
+// How many events the system tells at once. There are two listeners.
+const EVENTS: usize = 4;
+
+// After how many milliseconds accepting is tried again where the system gave no connection.
+const RETRY: u64 = 1000;
+
+const CLIENTS: Token = Token(0);
+
+const PEERS: Token = Token(1);
+
+// Whom a listener is for.
+#[derive(Clone, Copy, Debug, PartialEq, Eq)]
+pub(crate) enum Entrance {
+    Clients,
+    Peers,
+}
+
+// The sockets on which a node accepts clients and peers.
+#[derive(Drop)]
+pub(crate) struct Listeners {
+    poll: Poll,
+    events: Events,
+    clients: TcpListener,
+    peers: TcpListener,
+    // Whether the system gave no connection since the last wait, and before it.
+    is_failing: bool,
+    was_failing: bool,
+}
+
+impl Listeners {
+    // Listens at both addresses.
+    pub(crate) fn open<R: Net + AllocGlobal>(
+        rt: &R,
+        clients: SocketAddr,
+        peers: SocketAddr,
+    ) -> Result<Listeners, ServeFault> {
+        let mut clients = TcpListener::bind(rt, clients)?;
+        let mut peers = TcpListener::bind(rt, peers)?;
+        let poll = Poll::new(rt)?;
+        let events = Events::with_capacity(rt.alloc(), EVENTS)?;
+        let registry = poll.registry();
+        registry.register(&mut clients, CLIENTS, Interest::READABLE)?;
+        registry.register(&mut peers, PEERS, Interest::READABLE)?;
+        Ok(Listeners {
+            poll,
+            events,
+            clients,
+            peers,
+            is_failing: false,
+            was_failing: false,
+        })
+    }
+
+    // Tells the operator where the node listens.
+    pub(crate) fn tell<R: Clock + Eprint>(&self, rt: &R) {
+        let Ok(clients) = self.clients.local_addr() else {
+            return;
+        };
+        let Ok(peers) = self.peers.local_addr() else {
+            return;
+        };
+        report(rt, &Event::Listening { clients, peers });
+    }
+
+    // Waits until somebody connects, or until it is time to try again. False where the system can't wait.
+    pub(crate) fn wait(&mut self) -> bool {
+        let patience = if self.is_failing {
+            Some(Duration::from_millis(RETRY))
+        } else {
+            None
+        };
+        self.was_failing = self.is_failing;
+        self.is_failing = false;
+        self.poll.poll(&mut self.events, patience).is_ok()
+    }
+
+    // The next connection, or none where nobody waits or the system gives none for now. The system tells of new
+    // connections only once all that wait were accepted.
+    pub(crate) fn accept<R: Clock + Eprint>(
+        &mut self,
+        rt: &R,
+        entrance: Entrance,
+    ) -> Option<(TcpStream, SocketAddr)> {
+        for _ in 0..u64::MAX {
+            let accepted = match entrance {
+                Entrance::Clients => self.clients.accept(),
+                Entrance::Peers => self.peers.accept(),
+            };
+            match accepted {
+                Ok(accepted) => return Some(accepted),
+                Err(error) => match error.kind() {
+                    ErrorKind::WouldBlock => return None,
+                    ErrorKind::ConnectionAborted | ErrorKind::Interrupted => {}
+                    _ => {
+                        self.fail(rt);
+                        return None;
+                    }
+                },
+            }
+        }
+        None
+    }
+
+    // Tells the operator once, and not again as long as it lasts.
+    fn fail<R: Clock + Eprint>(&mut self, rt: &R) {
+        if !self.is_failing && !self.was_failing {
+            report(rt, &Event::AcceptFailed);
+        }
+        self.is_failing = true;
+    }
+}
