@@ -1,7 +1,6 @@
 //! The words of the program, and how it ends.
 
 use super::{End, answer, chosen, end_of, end_without_words, words};
-use crate::serving::path_in;
 use bnc_server::ReplayFault;
 use std::alloc::{AllocError, Global};
 use std::io::ErrorKind;
@@ -37,21 +36,6 @@ fn other_words_are_refused(rt: HostRuntime) {
             Ok(_) => assert!(rt; false, "at {row}"),
             Err(end) => assert!(rt; end == End::Usage, "at {row}"),
         }
-    }
-}
-
-#[test]
-fn configurations_are_named(rt: HostRuntime) {
-    let rows: [(&str, bool); 5] = [
-        ("serve bnc.toml", true),
-        ("serve", false),
-        ("serve bnc.toml more", false),
-        ("Serve bnc.toml", false),
-        ("replay bnc.toml", false),
-    ];
-    for (row, is_named) in rows {
-        let words = words_of(rt.alloc(), row).expect(&rt, "memory");
-        assert!(rt; path_in(&words).is_some() == is_named, "at {row}");
     }
 }
 

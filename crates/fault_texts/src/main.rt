@@ -3,13 +3,20 @@
 
 use bnc_server::ReplayFault;
 use chat_batch::AnswerFault;
+use chat_change::ChangeFault;
 use chat_page::{PageFault, QueryFault};
 use chat_state::{NoEntry, StateFault, TakeFault};
 use client_session::StepFault;
 use gossip_delta::{ChangeLineFault, DeltaFault, NotTaken};
+use irc_tags::TagFault;
 use peer_lines::LinkFault;
 use shared_node::{AskFault, NodeFault, PutFault};
 use std::io;
+
+fn tell_faults_of_parts(rt: &HostRuntime) -> io::Result<()> {
+    println!(rt; "chat_change: {}", ChangeFault::NoMemory)?;
+    println!(rt; "irc_tags: {}", TagFault::NoMemory)
+}
 
 fn tell_faults_of_states(rt: &HostRuntime) -> io::Result<()> {
     for cause in [StateFault::Exhausted, StateFault::NoMemory] {
@@ -98,6 +105,7 @@ fn tell_faults_of_nodes(rt: &HostRuntime) -> io::Result<()> {
 }
 
 fn main(rt: HostRuntime) -> io::Result<()> {
+    tell_faults_of_parts(&rt)?;
     tell_faults_of_states(&rt)?;
     tell_faults_of_queries(&rt)?;
     tell_faults_of_deltas(&rt)?;
