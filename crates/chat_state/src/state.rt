@@ -74,11 +74,13 @@ impl State {
 
     // Takes a change that is lent, and shares its texts.
     pub(crate) fn absorb_copy(&mut self, change: &ChangeRef<'_>) -> Result<bool, StateFault>
-        ensures ok { OnOk result (self.new.history ≡ history_with self.old (change_of change.now ∷ [])) }
+        ensures ok { OnOk result (self.new.history
+            ≡ history_with self.old (change_of change.now ∷ [])) }
         ensures changed { IfOk result (λ b. IsTrue b ↔ (self.new.history ≢ self.old.history)) }
         ensures front { IfOk result (λ b. self.new.front ≡
             (if b then self.old.front + 1 else self.old.front)) }
-        ensures numbers { IfOk result (λ b. AreNumbersWith b self.old (change_of change.now) self.new) }
+        ensures numbers { IfOk result (λ b.
+            AreNumbersWith b self.old (change_of change.now) self.new) }
         ensures held { OnOk result (HasTaken self.old (change_of change.now ∷ []) self.new) }
         ensures exhausted { (result ≡ Err fault.Exhausted) ↔
             IsPastTheLast self.old (change_of change.now) }
