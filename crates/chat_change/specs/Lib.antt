@@ -10,3 +10,4 @@ pub mod Faults
 pub mod Lawful
 -- ---- what only the proofs use of the code: how texts lie in memory
 pub mod Texts
+pub mod IdText

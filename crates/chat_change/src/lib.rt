@@ -16,6 +16,7 @@
 mod buffer;
 mod change;
 mod faults;
+mod id_text;
 mod key;
 pub mod laws;
 mod message;

@@ -1,30 +1,31 @@
 //! Message ids (IRCv3 message-ids).
 ghost use Rattle.std.specs.Prelude.{◌≡◌, ◌↔◌, IsTrue, true, ℕ, List, IfOk, IfErr, None};
-ghost use Rattle.std.specs.Arc.{arc_slice_items};
 ghost use Rattle.chat_change.specs.Words as spec;
 ghost use Rattle.chat_change.specs.Faults.{id_fault, fault_or_no_memory};
+ghost use Rattle.chat_change.specs.IdText.{bytes_of};
 ghost use Rattle.chat_change.specs.Order.{text_cmp};
 
 use crate::faults::ChangeFault;
+use crate::id_text::IdText;
 use crate::words::is_id;
 use std::alloc::{AllocError, Global};
 use std::cmp::Ordering;
 use std::marker::Model;
-use std::sync::ArcSlice;
+use std::sync::Arc;
 
 /// The id of a message (IRCv3 message-ids), compared byte for byte. Contracts see it as the list of its bytes.
 #[derive(Drop)]
 pub struct MsgId {
     // shared with every clone
-    bytes: ArcSlice<u8>,
+    text: Arc<IdText>,
 }
 
 impl Model for MsgId {
     ghost Value = { List ℕ };
 
-    ghost view = { λ m. arc_slice_items m.bytes };
+    ghost view = { λ m. bytes_of m.text.value };
 
-    ghost invariant = { λ m. spec.is_id (arc_slice_items m.bytes) ≡ true };
+    ghost invariant = { λ m. spec.is_id (bytes_of m.text.value) ≡ true };
 }
 
 impl MsgId {
@@ -41,10 +42,19 @@ impl MsgId {
         if !is_id(text) {
             return Err(ChangeFault::BadId);
         }
-        match ArcSlice::from_slice(alloc, text) {
-            Ok(bytes) => Ok(MsgId { bytes }),
+        match MsgId::from_lawful(alloc, text) {
+            Ok(id) => Ok(id),
             Err(_) => Err(ChangeFault::NoMemory),
         }
+    }
+
+    fn from_lawful(alloc: Global, text: &[u8]) -> Result<MsgId, AllocError>
+        requires { spec.is_id text.now ≡ true }
+        ensures { IfOk result (λ id. id ≡ text.now) }
+    {
+        let text = IdText::new(alloc, text)?;
+        let text = Arc::new(alloc, text)?;
+        Ok(MsgId { text })
     }
 
     /// The bytes of the id.
@@ -52,15 +62,15 @@ impl MsgId {
         ensures value { result.now ≡ self.now }
         ensures lawful { spec.is_id result.now ≡ true }
     {
-        self.bytes.as_slice()
+        self.text.as_bytes()
     }
 
     /// An equal id, which shares its memory. It takes none, and fails only where the id has 2^63 - 1 owners.
     pub fn try_clone(&self) -> Result<MsgId, AllocError>
         ensures { IfOk result (λ copy. copy ≡ self.now) }
     {
-        let bytes = self.bytes.clone()?;
-        Ok(MsgId { bytes })
+        let text = Arc::try_clone(&self.text)?;
+        Ok(MsgId { text })
     }
 
     /// Whether both are one id.
