@@ -2,12 +2,12 @@
 
 -- the first of a list, members of lists and of maps, sorted lists
 pub use Rattle.chat_history.proofs.ChoiceLemmas.{le_self, min_is, min_left, min_right}
-pub use Rattle.chat_history.proofs.MemberLemmas.{among, contained, among_left, among_right, among_either, member}
+pub use Rattle.chat_history.proofs.MemberLemmas.{among, contained, member}
 pub use Rattle.chat_history.proofs.MemberLemmas.{among-filter, among_passing, among-filter_map, among_made, mapped, image}
 pub use Rattle.chat_history.proofs.MemberLemmas.{first_alike, none_first}
 pub use Rattle.chat_history.proofs.EntryLemmas.{valued, value_among, got, get_entry, ordered_member, member_ordered, ordered_by_key}
-pub use Rattle.chat_history.proofs.SortedLemmas.{filter_alike, less_upto, upto_less, from_member, passing_from, none_passing}
-pub use Rattle.chat_history.proofs.SortedLemmas.{filter-reverse, sorted_reverse, among-reverse, reverse_among}
+pub use Rattle.chat_history.proofs.SortedLemmas.{filter_alike, sorted_alike, less_upto, from_member, passing_from, none_passing}
+pub use Rattle.chat_history.proofs.SortedLemmas.{sorted_reverse, among-reverse, reverse_among}
 -- the normal form of a set of changes, and its pieces
 pub use Rattle.chat_history.proofs.PieceLemmas.{Bears, from_entries_keyed, norm_keyed, get-norm, piece_bears, piece_none}
 pub use Rattle.chat_history.proofs.PieceLemmas.{bearers_of-changes_of}
@@ -17,7 +17,7 @@ pub use Rattle.chat_history.proofs.NormReadLemmas.{gone-norm, position-norm, pos
 pub use Rattle.chat_history.proofs.StandingLemmas.{among-bearers_of, most_greatest}
 -- the visible records of a buffer
 pub use Rattle.chat_history.proofs.VisibleLemmas.{spot_total, rising_total, change_held, held_change}
-pub use Rattle.chat_history.proofs.VisibleLemmas.{IsRecordOf, posted_is, posted_here, record_of, of_record, records_sorted}
+pub use Rattle.chat_history.proofs.VisibleLemmas.{record_of, of_record, records_sorted}
 -- buffers in their order
 pub use Rattle.chat_history.proofs.BuffersLemmas.{in_order_member, member_in_order, buffers_sorted}
 -- no record of a normal form lies below the floor of its buffer

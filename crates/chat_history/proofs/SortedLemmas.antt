@@ -1,5 +1,5 @@
--- Sorted lists from one of their members on.
-use Rattle.std.proofs.Common.{◌≡◌, Bool, true, false, cond, not, List, [], ◌∷◌, ◌++◌, Some, None, reverse, refl, sym, ◌∙◌, ap, subst, ⊎_elim, inl, inr}
+-- Sorted lists: what determines them, and how they go on from one of their members.
+use Rattle.std.proofs.Common.{◌≡◌, Bool, true, false, cond, not, List, [], ◌∷◌, ◌++◌, Some, None, reverse, refl, sym, ◌∙◌, ap, subst, ◌⊎◌, ⊎_elim, inl, inr}
 use Rattle.std.proofs.lemmas.List.{reverse-append}
 use Rattle.std.specs.Prelude.{◌↔◌}
 use Rattle.std.specs.declared.cmp.Ordering.{Ordering}
@@ -21,24 +21,8 @@ filter_none : {A : Type 0} (xs : List A) → filter (λ x. false) xs ≡ []
 filter_none [] = refl
 filter_none (x ∷ xs) = filter_none xs
 
-filter-push : {A : Type 0} (p : A → Bool) (xs : List A) (x : A) → filter p (xs ++ x ∷ []) ≡ filter p xs ++ cond (p x) (x ∷ []) []
-filter-push p [] x = refl
-filter-push p (y ∷ ys) x =
-    ap (λ zs. cond (p y) (y ∷ zs) zs) (filter-push p ys x)
-    ∙ elim (p y) as (λ b. cond b (y ∷ (filter p ys ++ cond (p x) (x ∷ []) [])) (filter p ys ++ cond (p x) (x ∷ []) []) ≡ cond b (y ∷ filter p ys) (filter p ys) ++ cond (p x) (x ∷ []) []) [ true ↦ refl | false ↦ refl ]
-
 pub reverse-cons : {A : Type 0} (x : A) (xs : List A) → reverse (x ∷ xs) ≡ reverse xs ++ x ∷ []
 reverse-cons x xs = reverse-append (x ∷ []) xs
-
-append_nil : {A : Type 0} (xs : List A) → xs ≡ xs ++ []
-append_nil [] = refl
-append_nil (x ∷ xs) = ap (λ ys. x ∷ ys) (append_nil xs)
-
-pub filter-reverse : {A : Type 0} (p : A → Bool) (xs : List A) → filter p (reverse xs) ≡ reverse (filter p xs)
-filter-reverse p [] = refl
-filter-reverse p (x ∷ xs) =
-    ap (filter p) (reverse-cons x xs) ∙ filter-push p (reverse xs) x ∙ ap (λ ys. ys ++ cond (p x) (x ∷ []) []) (filter-reverse p xs)
-    ∙ elim (p x) as (λ b. reverse (filter p xs) ++ cond b (x ∷ []) [] ≡ reverse (cond b (x ∷ filter p xs) (filter p xs))) [ true ↦ sym (reverse-cons x (filter p xs)) | false ↦ sym (append_nil (reverse (filter p xs))) ]
 
 pub among-reverse : {A : Type 0} (xs : List A) (x : A) → Among x (reverse xs) → Among x xs
 among-reverse [] x m = m
@@ -79,13 +63,33 @@ module _ {A : Type 0} {R : A → A → Ordering} (o : IsTotalOrder R) where
         | Greater ↦ λ _ g. absurd (false≢true (sym g))
       ] refl h
 
-  pub upto_less : (x y z : A) → is_gt (R x y) ≡ false → R y z ≡ Less → R x z ≡ Less
-  upto_less x y z h l =
-      elim (R x y) as (λ w. R x y ≡ w → is_gt w ≡ false → R x z ≡ Less) [
-        | Less ↦ λ e _. o.trans x y z e l
-        | Equal ↦ λ e _. o.congr x y z e ∙ l
-        | Greater ↦ λ _ g. absurd (false≢true (sym g))
-      ] refl h
+  irreflexive : (x : A) → R x x ≡ Less → ⊥
+  irreflexive x l = let e = tied_itself o x in cc (sym l ∙ e)
+
+  same_head : (x y : A) (xs ys : List A) → IsStrictlySortedBy R (x ∷ xs) → IsStrictlySortedBy R (y ∷ ys) → (y ≡ x) ⊎ Among x ys → (x ≡ y) ⊎ Among y xs → x ≡ y
+  unfolding IsStrictlySortedBy
+  same_head x y xs ys s t a b =
+      ⊎_elim (λ e. sym e)
+      (λ m. ⊎_elim (λ e. e)
+      (λ n. absurd (irreflexive x (o.trans x y x (member (λ z. R x z ≡ Less) xs y s.0 n) (member (λ z. R y z ≡ Less) ys x t.0 m))))
+      b)
+      a
+
+  in_tail : (x y z : A) (xs ys : List A) → x ≡ y → IsStrictlySortedBy R (x ∷ xs) → Among z xs → Among z (y ∷ ys) → Among z ys
+  unfolding IsStrictlySortedBy
+  in_tail x y z xs ys is s m a =
+      ⊎_elim (λ e. absurd (irreflexive x (ap (R x) (is ∙ e) ∙ member (λ w. R x w ≡ Less) xs z s.0 m))) (λ n. n) a
+
+  -- a sorted list is determined by its members
+  pub sorted_alike : (xs ys : List A) → IsStrictlySortedBy R xs → IsStrictlySortedBy R ys → ((x : A) → Among x xs ↔ Among x ys) → xs ≡ ys
+  unfolding IsStrictlySortedBy
+  sorted_alike [] [] s t h = refl
+  sorted_alike [] (y ∷ ys) s t h = absurd ((h y).1 (inl refl))
+  sorted_alike (x ∷ xs) [] s t h = absurd ((h x).0 (inl refl))
+  sorted_alike (x ∷ xs) (y ∷ ys) s t h =
+      let is : x ≡ y = same_head x y xs ys s t ((h x).0 (inl refl)) ((h y).1 (inl refl)) in
+      let rest : xs ≡ ys = sorted_alike xs ys s.1 t.1 (λ z. (λ m. in_tail x y z xs ys is s m ((h z).0 (inr m)), λ m. in_tail y x z ys xs (sym is) t m ((h z).1 (inr m)))) in
+      λ i. is i ∷ rest i
 
   -- a sorted list from a member on is that member, and then what comes after it
   pub from_member : (xs : List A) (x : A) → IsStrictlySortedBy R xs → Among x xs → filter (λ y. not (is_lt (R y x))) xs ≡ x ∷ filter (λ y. is_lt (R x y)) xs

@@ -3,8 +3,7 @@
 ghost use Rattle.std.specs.Prelude.{◌≡◌};
 ghost use Rattle.std.proofs.Common.{rules};
 ghost use Rattle.std.specs.Cmp.Rules.{comparing};
-ghost use Rattle.std.specs.Ordering.{as_partial_cmp, eq_by_cmp, is_lt};
-ghost use Rattle.chat_history.specs.Visible.{spot_of, spot_cmp};
+ghost use Rattle.std.specs.Ordering.{as_partial_cmp, eq_by_cmp};
 ghost use Rattle.chat_history.specs.Cut.{cut_cmp, cut_total, of_record, is_after};
 
 use chat_change::{Moment, MsgId, Record};
@@ -128,12 +127,4 @@ pub fn is_after(cut: &Cut<'_>, post: &Record) -> bool
         Cut::OverMsg(spot) => spot.order_to(post).is_lt(),
         Cut::Top => false,
     }
-}
-
-/// Whether the first of two records stands before the second: by moment, and at equal moments by id, byte by byte.
-pub fn stands_before(one: &Record, other: &Record) -> bool
-    ensures { result ≡ is_lt (spot_cmp (spot_of one.now) (spot_of other.now)) }
-{
-    let id = one.id().cmp(other.id());
-    one.at().ms().cmp(&other.at().ms()).then(id).is_lt()
 }

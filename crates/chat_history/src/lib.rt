@@ -4,4 +4,4 @@
 mod cut;
 pub mod laws;
 
-pub use cut::{Cut, Spot, is_after, stands_before};
+pub use cut::{Cut, Spot, is_after};
