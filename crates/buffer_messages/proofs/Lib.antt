@@ -1,6 +1,4 @@
 mod SpotLemmas
 mod AgreementLemmas
 mod StepLemmas
-mod NearestLemmas
-mod WalkLemmas
-pub mod CallerLemmas
+mod KeptLemmas

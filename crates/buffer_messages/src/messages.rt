@@ -10,6 +10,7 @@ ghost use Rattle.chat_history.specs.Cut.{of_record};
 ghost use Rattle.buffer_messages.specs.Messages as spec;
 ghost use Rattle.buffer_messages.specs.declared.standing.Standing.TheVariants as standing;
 
+use crate::moment_if_known::MomentIfKnown;
 use crate::standing::Standing;
 use chat_change::{Moment, MsgId, Record};
 use chat_history::Spot;
@@ -213,7 +214,8 @@ impl Messages {
             self.new ≡ map.insert self.old id (standing.Gone at number) }
         ensures refused { result ≡ false → self.new ≡ self.old }
     {
-        put(&mut self.by_id, id, Standing::Gone(at, number))
+        let gone = Standing::Gone(MomentIfKnown::new(at), number);
+        put(&mut self.by_id, id, gone)
     }
 
     // Notes that a message was redacted whose record stands at `stood`, and lets that record go.
@@ -221,7 +223,8 @@ impl Messages {
         requires kept { spec.kept_moment (map.get self.old id) ≡ Some stood }
         ensures { self.new ≡ map.insert self.old id (standing.Gone at number) }
     {
-        overwrite(&mut self.by_id, &id, Standing::Gone(at, number));
+        let gone = Standing::Gone(MomentIfKnown::new(at), number);
+        overwrite(&mut self.by_id, &id, gone);
         let spot = Spot {
             at: stood,
             id: Some(id),

@@ -3,7 +3,8 @@
 ghost use Rattle.std.specs.Prelude.{◌≡◌};
 ghost use Rattle.buffer_messages.specs.Messages as spec;
 
-use chat_change::{Moment, Record};
+use crate::moment_if_known::MomentIfKnown;
+use chat_change::Record;
 use std::alloc::AllocError;
 
 /// What is held of a message, under the number of its piece.
@@ -12,7 +13,7 @@ pub enum Standing {
     /// Its kept record.
     Kept(Record, u64),
     /// It was redacted, and stood at that moment. None where its moment isn't known.
-    Gone(Option<Moment>, u64),
+    Gone(MomentIfKnown, u64),
 }
 
 impl Standing {
@@ -37,7 +38,10 @@ impl Clone for Standing {
                 let post = post.try_clone()?;
                 Ok(Standing::Kept(post, *number))
             }
-            Standing::Gone(at, number) => Ok(Standing::Gone(*at, *number)),
+            Standing::Gone(at, number) => {
+                let at = MomentIfKnown::new(at.get());
+                Ok(Standing::Gone(at, *number))
+            }
         }
     }
 }

@@ -74,12 +74,12 @@ fn records_come_and_go(rt: HostRuntime) -> Result<(), Fail> {
             "step {number}"
         );
         assert!(rt;
-            has_id(messages.first_after(&Cut::Bottom), first),
+            has_id(messages.up(&Cut::Bottom).next(), first),
             "step {number}"
         );
         assert!(rt; has_id(messages.clone()?.first(), first), "step {number}");
         assert!(rt;
-            has_id(messages.last_before(&Cut::Top), last),
+            has_id(messages.down(&Cut::Top).next(), last),
             "step {number}"
         );
     }
