@@ -2,5 +2,5 @@
 pub use Rattle.chat_buffers.proofs.StoreLemmas.{get-history, get-numbers_in, placed-plain, history_keyed, by_number_total}
 -- what is known of keys after a step
 pub use Rattle.chat_buffers.proofs.SettleLemmas.{not_same, entered_keyed, removed_keyed}
--- the order of the records on one side of an edge
-pub use Rattle.chat_buffers.proofs.NearestLemmas.{nearer_total}
+-- a value that is kept passes
+pub use Rattle.chat_buffers.proofs.SoughtLemmas.{kept_passes}

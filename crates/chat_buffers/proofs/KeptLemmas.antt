@@ -15,7 +15,7 @@ use Rattle.chat_history.specs.History.{IsKeyed, changes_of}
 use Rattle.chat_history.specs.Retention.{at_or_above}
 use Rattle.chat_history.proofs.CallerLemmas.{change_held, held_change}
 use Rattle.buffer_messages.specs.Messages.{kept_in}
-use Rattle.buffer_messages.specs.Nearest.{IsKept}
+use Rattle.buffer_messages.specs.Kept.{IsKept}
 use Rattle.buffer_messages.specs.declared.standing.Standing.{Standing}
 use Rattle.buffer_messages.specs.declared.standing.Standing.TheVariants.{Kept, Gone}
 use Rattle.chat_buffers.specs.Store.{Numbered, IsKeyedStore, change_at, history_in}

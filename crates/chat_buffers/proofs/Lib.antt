@@ -3,6 +3,6 @@ mod HeldLemmas
 mod SettleLemmas
 mod LookupLemmas
 mod KeptLemmas
-mod NearestLemmas
+mod CursorLemmas
 mod SoughtLemmas
 pub mod CallerLemmas

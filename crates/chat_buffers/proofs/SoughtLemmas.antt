@@ -20,14 +20,13 @@ use Rattle.chat_change.specs.declared.change.Change.{Change}
 use Rattle.chat_change.specs.declared.change.Change.TheVariants.{Post, Redact, Mark, Floor}
 use Rattle.chat_change.proofs.CallerLemmas.{buffer_total, buffer_exact, text_total, text_exact}
 use Rattle.chat_history.specs.Buffers.{is_of_network, buffer_where}
-use Rattle.chat_history.specs.Choice.{Among, IsFirst}
+use Rattle.chat_history.specs.Choice.{keep, Among, IsFirst}
 use Rattle.chat_history.specs.History.{History, changes_of}
-use Rattle.chat_history.specs.Visible.{by_spot}
-use Rattle.chat_history.proofs.CallerLemmas.{le_self, among-filter, among_passing, among-filter_map, among_made, got, get_entry}
+use Rattle.chat_history.proofs.CallerLemmas.{le_self, first_alike, among-filter, among_passing, among-filter_map, among_made, got, get_entry}
 use Rattle.ordered_maps.specs.MapView.{held_by}
 use Rattle.ordered_maps.proofs.CallerLemmas.{get-held_by, entries-from_ordered}
 use Rattle.buffer_messages.specs.Messages.{Messages}
-use Rattle.buffer_messages.specs.Nearest.{IsKept, IsFirstKept}
+use Rattle.buffer_messages.specs.Kept.{IsKept, IsFirstKept}
 use Rattle.chat_buffers.specs.Store.{IsKeyedStore, history_in}
 use Rattle.chat_buffers.specs.Sought.{is_sought, is_past, sought_in, sought_past, all_past}
 use Rattle.chat_buffers.specs.Ahead.{HasSought, HasNoneSought, IsOfOneBuffer, is_behind}
@@ -36,7 +35,6 @@ use Rattle.chat_buffers.specs.declared.sought.Sought.TheVariants.{Outdated, OfNe
 use Rattle.chat_buffers.specs.declared.held.Held.{Held}
 use Rattle.chat_buffers.proofs.SettleLemmas.{Tree, seen}
 use Rattle.chat_buffers.proofs.KeptLemmas.{none_posted, posted_kept, kept_posted}
-use Rattle.chat_buffers.proofs.NearestLemmas.{kept_passes, passes_kept, no_first}
 
 -- ---- the first record tells whether one is sought
 
@@ -46,12 +44,30 @@ first_oldest a b o e = grind (arith, e)
 not_older : (a b t : ℕ) → a ≤ b → nat_lt a t ≡ false → nat_lt b t ≡ false
 not_older a b t l e = grind (arith, l, e)
 
-pub none_sought : (s : Sought) (ms : Messages) (r : Record) → IsFirstKept by_spot (λ _. true) ms (Some r) → is_sought s r ≡ false → IsOfOneBuffer ms → HasNoneSought s ms
-none_sought (Outdated t) ms r first e one q kept = not_older r.at q.at t (first_oldest r.at q.at (text_cmp r.id q.id) (first.2 q kept refl)) e
+pub none_sought : (s : Sought) (ms : Messages) (r : Record) → IsFirstKept ms (Some r) → is_sought s r ≡ false → IsOfOneBuffer ms → HasNoneSought s ms
+none_sought (Outdated t) ms r first e one q kept = not_older r.at q.at t (first_oldest r.at q.at (text_cmp r.id q.id) (first.1 q kept)) e
 none_sought (OfNetwork a n) ms r first e one q kept = ap (is_of_network a.now n.now) (one q r kept first.0) ∙ e
 
-pub none_kept : (s : Sought) (ms : Messages) → IsFirstKept by_spot (λ _. true) ms None → HasNoneSought s ms
-none_kept s ms none q kept = absurd (false≢true (sym (none q kept)))
+pub none_kept : (s : Sought) (ms : Messages) → IsFirstKept ms None → HasNoneSought s ms
+none_kept s ms none q kept = absurd (none q kept)
+
+-- ---- values that are kept, and lists without members
+
+-- a value that is kept passes
+pub kept_passes : {A : Type 0} (p : A → Bool) (o : Option A) (x : A) → keep p o ≡ Some x → (o ≡ Some x) × (p x ≡ true)
+kept_passes p None x e = cc e
+kept_passes p (Some y) x e =
+    elim (p y) as (λ t. p y ≡ t → cond t (Some y) None ≡ Some x → (Some y ≡ Some x) × (p x ≡ true)) [
+      | true ↦ λ t f. let is : y ≡ x = same_Some y x f in (f, ap p (sym is) ∙ t)
+      | false ↦ λ t f. cc f
+    ] refl e
+
+passes_kept : {A : Type 0} (p : A → Bool) (o : Option A) (x : A) → o ≡ Some x → p x ≡ true → keep p o ≡ Some x
+passes_kept p o x e t = ap (keep p) e ∙ ap (λ b. cond b (Some x) None) t
+
+-- a list without members has no first
+no_first : {A : Type 0} (R : A → A → Ordering) (xs : List A) → ((x : A) → Among x xs → ⊥) → IsFirst R xs None
+no_first R xs h = first_alike R [] xs (λ x. (λ m. absurd m, λ m. absurd (h x m))) None refl
 
 -- ---- the buffers that are sought
 

@@ -5,7 +5,7 @@ use Rattle.chat_change.specs.Buffer.{Buffer}
 use Rattle.chat_change.specs.Record.{Record}
 use Rattle.chat_change.specs.Order.{text_cmp}
 use Rattle.buffer_messages.specs.Messages.{Messages}
-use Rattle.buffer_messages.specs.Nearest.{IsKept}
+use Rattle.buffer_messages.specs.Kept.{IsKept}
 use Rattle.chat_buffers.specs.declared.sought.Sought.{Sought}
 use Rattle.chat_buffers.specs.declared.sought.Sought.TheVariants.{Outdated, OfNetwork}
 use Rattle.chat_buffers.specs.Sought.{is_sought}

@@ -6,8 +6,7 @@ pub mod Store
 pub mod Fate
 -- how a piece enters it, and a floor takes records away one by one
 pub mod Entering
--- the search for the nearest record of a buffer, and for the next buffer
-pub mod Nearest
+-- the search for the next buffer
 pub mod Sought
 -- ---- what only the proofs use of the code
 

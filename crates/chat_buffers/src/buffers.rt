@@ -107,7 +107,7 @@ impl Buffers {
         let held = self.held.get(buffer)?;
         match held.messages.standing(id)? {
             Standing::Kept(post, _) => Some(Fate::Kept(post)),
-            Standing::Gone(at, _) => Some(Fate::Gone(at_or_above(&held.floor, *at))),
+            Standing::Gone(at, _) => Some(Fate::Gone(at_or_above(&held.floor, at.get()))),
         }
     }
 

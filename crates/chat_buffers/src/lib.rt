@@ -2,10 +2,10 @@
 #![tactic(auto)]
 
 mod buffers;
+mod cursor;
 mod held;
-mod nearest;
 mod sought;
 
+pub use buffer_messages::{Down, Up};
 pub use buffers::{Buffers, Fate};
-pub use nearest::Edge;
 pub use sought::Sought;

@@ -5,6 +5,7 @@ use Rattle.std.specs.Option.{option_map}
 use Rattle.chat_change.specs.Order.{buffer_cmp}
 use Rattle.chat_change.specs.Key.{MessageOf}
 use Rattle.chat_change.specs.declared.change.Change.TheVariants as value
+use Rattle.chat_history.specs.Retention.{at_or_above}
 use Rattle.chat_buffers.specs.Fate.{message_change}
 use Rattle.chat_buffers.specs.Held.{numbered, held_floor}
 use Rattle.chat_buffers.specs.Store.{Numbered}
@@ -55,4 +56,4 @@ returns-in-Gone-clause-held c =
     let there : map.get h.messages m ≡ Some c.in_ok-post.field-0.now = search rules in
     message_here c.self.inside.held c.args.self.now c.self.view_is b m h (Some c.in_ok-post.field-0.now) here there
     ∙ ap (λ x. option_map (λ (p : Numbered). p.change) (Some (numbered b m (held_floor h) x))) c.in-Gone.is
-    ∙ ap (λ t. Some (value.Redact b m t)) (sym c.at_or_above.ensures)
+    ∙ ap (λ t. Some (value.Redact b m t)) (sym (c.at_or_above.ensures ∙ ap (at_or_above (held_floor h)) c.get-in-Gone.ensures))
