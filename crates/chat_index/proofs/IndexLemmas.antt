@@ -17,7 +17,7 @@ use Rattle.ordered_maps.specs.MapView.{IsWith, IsWithout}
 use Rattle.chat_buffers.specs.Store.{Store, Numbered, number_at, IsFresh}
 use Rattle.chat_buffers.specs.Entering.{with_remainder, beside, IsEntered}
 use Rattle.chat_buffers.proofs.CallerLemmas.{get-numbers_in}
-use Rattle.chat_index.specs.declared.place.Place.{Place}
+use Rattle.chat_index.specs.Place.{Place}
 use Rattle.chat_index.specs.Index.{ByNumber, place_of, IsIndexed}
 
 abbrev pub same : ℕ → ℕ → Bool

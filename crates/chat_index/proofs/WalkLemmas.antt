@@ -1,10 +1,14 @@
 -- The piece of a number, and the least number above another.
-use Rattle.std.proofs.Common.{◌≡◌, ◌≢◌, refl, sym, ◌∙◌, ap, subst, ℕ, ◌<◌, ◌≤◌, List, [], ◌∷◌, Bool, true, false, ◌&&◌, nat_lt, Option, Some, None, ⊎_elim, inl, arith}
+use Rattle.std.proofs.Common.{◌≡◌, ◌≢◌, refl, sym, ◌∙◌, ap, subst, ℕ, ◌<◌, ◌≤◌, List, [], ◌∷◌, Bool, true, false, cond, ◌&&◌, nat_lt, Option, Some, None, ⊎_elim, inl, arith}
 use Rattle.std.proofs.lemmas.Option.{same_Some}
+use Rattle.std.specs.declared.cmp.Ordering.{Ordering}
 use Rattle.std.specs.declared.cmp.Ordering.TheVariants.{Less}
 use Rattle.std.specs.Ordering.{nat_cmp, is_gt, is_lt}
 use Rattle.std.specs.Cmp.{nat_cmp_total}
-use Rattle.std.specs.List.{filter}
+use Rattle.std.specs.List.{filter, AllByRecursion}
+use Rattle.std.specs.List.Sorted.{IsStrictlySortedBy}
+use Rattle.std.specs.Map.{keys_of}
+use Rattle.std.proofs.lemmas.Map.Keys.{sorted_head, sorted_tail}
 use Rattle.std.specs.Option.{option_map}
 use Rattle.std.specs.BTreeMap as tree
 use Rattle.std.specs.FinMap as finite
@@ -16,9 +20,8 @@ use Rattle.chat_history.specs.Choice.{Among, IsFirst}
 use Rattle.chat_history.proofs.CallerLemmas.{got, get_entry, valued, value_among, among-filter, among_passing}
 use Rattle.ordered_maps.specs.MapView.{held_by}
 use Rattle.ordered_maps.proofs.CallerLemmas.{get-held_by, entries-from_ordered}
-use Rattle.buffer_messages.proofs.CallerLemmas.{first_least}
 use Rattle.chat_buffers.specs.Store.{Store, Numbered, number_at, change_at, by_number, pieces_above}
-use Rattle.chat_index.specs.declared.place.Place.{Place}
+use Rattle.chat_index.specs.Place.{Place}
 use Rattle.chat_index.specs.Index.{ByNumber, place_of, IsIndexed}
 use Rattle.chat_index.specs.Walk.{StandsAt, IsHeld, IsPieceOf, HasStamp}
 
@@ -64,6 +67,31 @@ pub stamp_piece : (s : Store) (n : ℕ) (b : Buffer) (c : Change) → StandsAt s
 stamp_piece s n b c stands has = ⊎_elim
     (λ h. (refl, FloorOf b, whole (finite.get s (FloorOf b)) n c h.0 h.1))
     (λ h. (refl, MarkerOf b, whole (finite.get s (MarkerOf b)) n c (marker_number s n b stands h.0) h.1)) has
+
+-- ---- the first of a filtered list that is sorted
+
+same_first : {A : Type 0} (x y : A) (xs ys : List A) → x ∷ xs ≡ y ∷ ys → (x ≡ y) × (xs ≡ ys)
+same_first x y xs ys e = (cc e, cc e)
+
+module _ {K X : Type 0} (R : K → K → Ordering) (p : K → Bool) where
+  abbrev passing : List (K × X) → List (K × X)
+  passing es = filter (λ e. p e.0) es
+
+  after_head : (k : K) (es : List (K × X)) (x : K × X) → AllByRecursion (λ y. R k y ≡ Less) (keys_of es) → Among x es → R k x.0 ≡ Less
+  after_head k [] x h m = absurd m
+  after_head k (e ∷ es) x h m = ⊎_elim (λ s. subst (λ (y : K × X). R k y.0 ≡ Less) s h.0) (λ a. after_head k es x h.1 a) m
+
+  -- what passes after the first is greater
+  first_least : (es : List (K × X)) (e : K × X) (rest : List (K × X)) → IsStrictlySortedBy R (keys_of es) → passing es ≡ e ∷ rest → (x : K × X) → Among x rest → R e.0 x.0 ≡ Less
+  first_least [] e rest s is x m = cc is
+  first_least (f ∷ es) e rest s is x m =
+      elim (p f.0) as (λ b. cond b (f ∷ passing es) (passing es) ≡ e ∷ rest → R e.0 x.0 ≡ Less) [
+        | true ↦ λ g.
+            let both = same_first f e (passing es) rest g in
+            let among = among-filter (λ (y : K × X). p y.0) es x (subst (Among x) (sym both.1) m) in
+            subst (λ (y : K × X). R y.0 x.0 ≡ Less) both.0 (after_head f.0 es x (sorted_head R f.0 (keys_of es) s) among.0)
+        | false ↦ λ g. first_least es e rest (sorted_tail R f.0 (keys_of es) s) g x m
+      ] is
 
 -- ---- the least number above another
 

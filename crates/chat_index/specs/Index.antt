@@ -4,7 +4,7 @@ use Rattle.std.specs.Ordering.{nat_cmp}
 use Rattle.std.specs.BTreeMap as tree
 use Rattle.chat_change.specs.Key.{Key, FloorOf, MarkerOf, MessageOf}
 use Rattle.chat_buffers.specs.Store.{Store, number_at}
-use Rattle.chat_index.specs.declared.place.Place.{Place}
+use Rattle.chat_index.specs.Place.{Place}
 
 abbrev pub ByNumber : Type 0
 ByNumber = tree.BTreeMap ℕ Place

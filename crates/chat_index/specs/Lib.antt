@@ -7,6 +7,7 @@ pub mod Walk
 -- ---- what only the proofs use of the code
 
 -- where each piece stands, by its number
+pub mod Place
 pub mod Index
 -- how the records below a floor go, one by one
 pub mod Sweeping

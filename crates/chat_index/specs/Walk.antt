@@ -5,7 +5,7 @@ use Rattle.chat_change.specs.Buffer.{Buffer}
 use Rattle.chat_change.specs.Key.{Key, FloorOf, MarkerOf}
 use Rattle.chat_change.specs.declared.change.Change.{Change}
 use Rattle.chat_buffers.specs.Store.{Store, Numbered, number_at, change_at}
-use Rattle.chat_index.specs.declared.place.Place.{Place}
+use Rattle.chat_index.specs.Place.{Place}
 use Rattle.chat_index.specs.Index.{place_of}
 
 -- a piece stands under the key

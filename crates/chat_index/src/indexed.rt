@@ -18,6 +18,7 @@ use std::marker::Model;
 /// The numbered pieces of many buffers, one for each key at most. Each is found by its number. They are seen as one store.
 #[derive(Drop)]
 pub struct Indexed {
+    alloc: Global,
     pub(crate) buffers: Buffers,
     // where the piece of each number stands
     pub(crate) index: BTreeMap<u64, Place>,
@@ -42,6 +43,7 @@ impl Indexed {
         ensures { result ≡ map.empty }
     {
         Indexed {
+            alloc,
             buffers: Buffers::new(alloc),
             index: BTreeMap::new(alloc),
         }
@@ -95,7 +97,7 @@ impl Indexed {
         ensures entered { IsTrue result → IsEntered self.old number change self.new }
         ensures refused { result ≡ false → self.new ≡ self.old }
     {
-        let Ok(place) = place_of(&change.key()) else {
+        let Ok(place) = place_of(self.alloc, &change) else {
             discard(change);
             return false;
         };
@@ -120,7 +122,11 @@ impl Indexed {
     {
         let buffers = self.buffers.try_clone(alloc)?;
         let index = self.index.clone()?;
-        Ok(Indexed { buffers, index })
+        Ok(Indexed {
+            alloc,
+            buffers,
+            index,
+        })
     }
 
     // Takes the records of a buffer away that lie below a floor. It takes no memory.

@@ -1,20 +1,22 @@
 //! What is looked up in the maps, and searched in them.
 
-ghost use Rattle.std.specs.Prelude.{◌≡◌, IfSome};
+ghost use Rattle.std.specs.Prelude.{◌≡◌, IfSome, reverse};
 ghost use Rattle.std.specs.Map.Iter.{deref};
 ghost use Rattle.std.specs.Option.{option_map};
 ghost use Rattle.chat_change.specs.Key as key;
 ghost use Rattle.chat_change.specs.Order.{buffer_cmp};
 ghost use Rattle.chat_change.specs.declared.change.Change.TheVariants as value;
 ghost use Rattle.chat_history.specs.Choice.{IsFirst};
+ghost use Rattle.chat_history.specs.Cut.{after, before};
+ghost use Rattle.chat_history.specs.Visible.{records_in};
 ghost use Rattle.chat_buffers.specs.Fate.{message_change, IsMessageOf};
-ghost use Rattle.chat_buffers.specs.Nearest.{nearer_cmp, candidates};
 ghost use Rattle.chat_buffers.specs.Sought.{all_past};
 ghost use Rattle.chat_buffers.specs.Store as spec;
 
 use crate::indexed::Indexed;
-use chat_buffers::{Edge, Fate, Sought};
-use chat_change::{Buffer, Moment, MsgId, Record};
+use chat_buffers::{Down, Fate, Sought, Up};
+use chat_change::{Buffer, Moment, MsgId};
+use chat_history::Cut;
 
 impl Indexed {
     /// The floor that was set for a buffer, if one was.
@@ -42,12 +44,19 @@ impl Indexed {
         self.buffers.message(buffer, id)
     }
 
-    /// The record of a buffer that lies nearest to an edge on the side that is searched. It takes no memory.
-    pub fn nearest<'a>(&'a self, buffer: &Buffer, edge: &Edge<'_>) -> Option<&'a Record>
-        ensures { IsFirst (nearer_cmp edge.now) (candidates edge.now buffer.now
-            (spec.history_in self.now)) (option_map deref result) }
+    /// The visible records of a buffer after a cut, by rising (moment, id). It takes no memory.
+    pub fn up(&self, buffer: &Buffer, cut: &Cut<'_>) -> Up<'_>
+        ensures { result ≡ after cut.now (records_in (spec.history_in self.now) buffer.now) }
     {
-        self.buffers.nearest(buffer, edge)
+        self.buffers.up(buffer, cut)
+    }
+
+    /// The visible records of a buffer before a cut, by falling (moment, id). It takes no memory.
+    pub fn down(&self, buffer: &Buffer, cut: &Cut<'_>) -> Down<'_>
+        ensures { result ≡ reverse (before cut.now
+            (records_in (spec.history_in self.now) buffer.now)) }
+    {
+        self.buffers.down(buffer, cut)
     }
 
     /// The lowest buffer after the last one of which a record is sought. It takes no memory.

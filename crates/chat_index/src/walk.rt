@@ -35,13 +35,13 @@ impl Indexed {
         requires { StandsAt self.now number place.now }
         ensures { IsPieceOf self.now number (numbered_of result) }
     {
-        match &place.id {
+        match place.id() {
             Some(id) => {
-                let change = self.message_at(&place.buffer, id);
+                let change = self.message_at(place.buffer(), id);
                 Piece { number, change }
             }
             None => {
-                let change = self.stamp_at(number, &place.buffer);
+                let change = self.stamp_at(number, place.buffer());
                 Piece { number, change }
             }
         }

@@ -2,11 +2,19 @@ use Rattle.std.proofs.Common.{◌≡◌, ◌∙◌, refl, sym, ap, subst, Some, 
 use Rattle.std.specs.Ordering.{eq_by_cmp, nat_cmp}
 use Rattle.std.specs.BTreeMap as tree
 use Rattle.chat_change.specs.Key.{key_of}
+use Rattle.ordered_maps.proofs.CallerLemmas.{unchanged}
 use Rattle.chat_buffers.specs.Store.{number_at, IsFresh, IsKeyedStore}
 use Rattle.chat_buffers.proofs.CallerLemmas.{entered_keyed}
-use Rattle.chat_index.specs.Index.{place_of, IsIndexed}
+use Rattle.chat_index.specs.Index.{IsIndexed}
 use Rattle.chat_index.proofs.IndexLemmas.{indexed_alike, unlisted_number, index_restored, indexed_after}
 use Rattle.chat_index.proofs.indexed.Indexed.enter.Goals as goal
+
+-- where the number found no room
+pub invariant_of-self : goal.invariant_of-self
+invariant_of-self c =
+    let s = c.self.inside.buffers in
+    let index = c.self.inside.index in
+    (c.self.invariant.0, indexed_alike s index c.put.new.map c.self.invariant.1 (unchanged nat_cmp index c.put.new.map (c.if-not-put.ensures.refused refl)))
 
 pub invariant_of-self-then-not-enter : goal.invariant_of-self-then-not-enter
 invariant_of-self-then-not-enter c =
@@ -26,8 +34,8 @@ invariant_of-self-in-Some c =
     let index = c.self.inside.index in
     let fresh = subst (λ s. IsFresh s n) (sym c.self.view_is) c.requires.fresh in
     let entered = c.if-not-enter.ensures.entered refl in
-    let place = c.in-Ok.ensures ∙ ap place_of c.key.ensures in
-    let had : number_at s (key_of c.args.change) ≡ Some c.in-Some.before = ap (number_at s) (sym c.key-2.ensures) ∙ sym c.in-Some.ensures in (
+    let place = c.in-Ok.ensures in
+    let had : number_at s (key_of c.args.change) ≡ Some c.in-Some.before = ap (number_at s) (sym c.key.ensures) ∙ sym c.in-Some.ensures in (
       entered_keyed s n c.args.change c.enter.new.self entered c.self.invariant.0,
       indexed_after s c.enter.new.self n c.args.change entered fresh index c.self.invariant.1 c.take_out-in-Some.new.map (Some c.in-Some.before) had
           (λ q. c.take_out-in-Some.ensures q
@@ -41,8 +49,8 @@ invariant_of-self-in_default-before c =
     let index = c.self.inside.index in
     let fresh = subst (λ s. IsFresh s n) (sym c.self.view_is) c.requires.fresh in
     let entered = c.if-not-enter.ensures.entered refl in
-    let place = c.in-Ok.ensures ∙ ap place_of c.key.ensures in
-    let had : number_at s (key_of c.args.change) ≡ None = ap (number_at s) (sym c.key-2.ensures) ∙ sym c.in_default-before.ensures in (
+    let place = c.in-Ok.ensures in
+    let had : number_at s (key_of c.args.change) ≡ None = ap (number_at s) (sym c.key.ensures) ∙ sym c.in_default-before.ensures in (
       entered_keyed s n c.args.change c.enter.new.self entered c.self.invariant.0,
       indexed_after s c.enter.new.self n c.args.change entered fresh index c.self.invariant.1 c.put.new.map None had
           (λ q. c.if-not-put.ensures.put refl q ∙ ap (λ p. cond (eq_by_cmp nat_cmp n q) (Some p) (tree.get nat_cmp index q)) place),

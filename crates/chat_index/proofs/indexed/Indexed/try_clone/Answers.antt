@@ -4,7 +4,7 @@ use Rattle.std.specs.Ordering.{nat_cmp}
 use Rattle.ordered_maps.proofs.CallerLemmas.{unchanged}
 use Rattle.chat_buffers.specs.Store.{Store, IsKeyedStore}
 use Rattle.chat_index.specs.Index.{ByNumber, IsIndexed}
-use Rattle.chat_index.specs.declared.place.Place.{Place}
+use Rattle.chat_index.specs.Place.{Place}
 use Rattle.chat_index.proofs.indexed.Indexed.try_clone.Goals as goal
 
 same_entry : (x y : ℕ × Place) → (y.0 ≡ x.0) × (y.1 ≡ x.1) → y ≡ x
