@@ -17,7 +17,7 @@ use Rattle.chat_store.specs.Sought.{sought_in, sought_buffers, is_past, sought_p
 use Rattle.chat_history.proofs.CallerLemmas.{among-filter_map, among_made}
 use Rattle.chat_history.proofs.CallerLemmas.{in_order_member, member_in_order, buffers_sorted}
 use Rattle.chat_history.proofs.CallerLemmas.{less_upto, from_member, passing_from, none_passing}
-use Rattle.chat_state.proofs.CursorLemmas.{passed}
+use Rattle.chat_store.proofs.CallerLemmas.{kept_passes}
 
 -- ---- a step of the walk
 
@@ -39,7 +39,7 @@ module _ (s : Sought) (h : History) (last : Option Buffer) where
   past_buffer b = (
     λ m.
         let r = among-filter_map (sought_past s last) (changes_of h) b m in
-        let t = passed (is_past last) (sought_in s r.0) b r.2 in
+        let t = kept_passes (is_past last) (sought_in s r.0) b r.2 in
         (member_in_order (filter_map (sought_in s) (changes_of h)) b (among_made (sought_in s) (changes_of h) r.0 b r.1 t.0), t.1),
     λ v.
         let r = among-filter_map (sought_in s) (changes_of h) b (in_order_member (filter_map (sought_in s) (changes_of h)) b v.0) in

@@ -4,6 +4,5 @@ mod TakeLemmas
 mod LookupLemmas
 mod MergeLemmas
 mod NewerLemmas
-mod CursorLemmas
 mod BuffersLemmas
 mod LatestLemmas

@@ -6,7 +6,7 @@ use Rattle.std.specs.Borrow.{Bor}
 use Rattle.chat_change.specs.Buffer.{Buffer}
 use Rattle.chat_change.specs.Order.{buffer_cmp}
 use Rattle.chat_history.specs.Choice.{Among}
-use Rattle.chat_history.specs.History.{History, IsKeyed}
+use Rattle.chat_history.specs.History.{History}
 use Rattle.chat_history.specs.Latest.{with_moment, network_buffers}
 
 -- the buffers of the account and network of a buffer that have a record, by target
@@ -21,6 +21,5 @@ latest_from history (Some b) =
     (filter (λ d. not (is_lt (buffer_cmp d b.now))) (neighbours history b.now))
 
 -- the next buffer has a record
-pub record IsAtBuffer (history : History) (next : Option (Bor Buffer)) : Type 0 where
-  pub keyed : IsKeyed history
-  pub held : IfSome next (λ b. Among b.now (neighbours history b.now))
+abbrev pub IsAtBuffer : History → Option (Bor Buffer) → Type 0
+IsAtBuffer history next = IfSome next (λ b. Among b.now (neighbours history b.now))

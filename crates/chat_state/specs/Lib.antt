@@ -5,5 +5,4 @@ pub mod Run
 -- ---- what only the proofs use of the code
 
 pub mod State
-pub mod Cursor
 pub mod Latest

@@ -4,14 +4,13 @@ ghost use Rattle.std.specs.Prelude.{◌≡◌, length};
 ghost use Rattle.std.specs.Iterator.{at_most};
 ghost use Rattle.std.specs.Map.Iter.{TakesFirst};
 ghost use Rattle.chat_history.specs.Latest.{latest_moment, latest_in};
-ghost use Rattle.chat_history.specs.History.{IsKeyed};
 ghost use Rattle.chat_store.specs.Store.{history_in};
 
 use crate::lookups::first_moment;
 use crate::state::State;
 use chat_change::{Buffer, Moment};
 use chat_history::Cut;
-use chat_store::{Edge, Sought, Store};
+use chat_store::{Sought, Store};
 use std::marker::Model;
 
 /// Buffers that have a visible record, each with the moment of its latest, by target. It is seen as the list of what is
@@ -37,10 +36,10 @@ impl<'a> Model for Latest<'a> {
 
 // The moment of the latest record of a buffer.
 fn latest_moment(store: &Store, buffer: &Buffer) -> Moment
-    requires { IsKeyed (history_in store.now) }
     ensures { result ≡ latest_moment (history_in store.now) buffer.now }
 {
-    match store.nearest(buffer, &Edge::BeforeCut(&Cut::Top)) {
+    let mut newest = store.down(buffer, &Cut::Top);
+    match newest.next() {
         Some(post) => post.at(),
         None => first_moment(),
     }

@@ -12,8 +12,7 @@ mod retention;
 mod state;
 
 pub use chat_history::{Cut, Spot, laws};
-pub use chat_store::{ChangeRef, Piece};
-pub use cursor::{Down, Up};
+pub use chat_store::{ChangeRef, Down, Piece, Up};
 pub use faults::{NoEntry, StateFault, TakeFault};
 pub use latest::Latest;
 pub use memory::NoMemory;

@@ -4,5 +4,4 @@ pub mod Store
 pub mod Fate
 pub mod Form
 pub mod Piece
-pub mod Nearest
 pub mod Sought

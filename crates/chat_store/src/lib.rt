@@ -4,6 +4,6 @@
 
 mod form;
 
-pub use chat_buffers::{Edge, Fate, Sought};
+pub use chat_buffers::{Down, Fate, Sought, Up};
 pub use chat_index::{ChangeRef, Indexed as Store, Piece};
 pub use form::{Form, form_of, piece_in};

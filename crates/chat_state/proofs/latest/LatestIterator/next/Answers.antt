@@ -6,7 +6,7 @@ use Rattle.chat_state.proofs.latest.LatestIterator.next.Goals as goal
 
 pub invariant_of-self : goal.invariant_of-self
 invariant_of-self c =
-    at_buffer (history_in c.self.inside.store.now) c.self.invariant.keyed c.account.result c.network.result (Some c.in_ok-buffer.buffer.now) c.next_buffer-self-inside.result c.next_buffer-self-inside.ensures
+    at_buffer (history_in c.self.inside.store.now) c.account.result c.network.result (Some c.in_ok-buffer.buffer.now) c.next_buffer-self-inside.result c.next_buffer-self-inside.ensures
 
 pub returns-clause-steps : goal.returns-clause-steps
 returns-clause-steps c =
