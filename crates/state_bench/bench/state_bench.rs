@@ -95,9 +95,21 @@ struct Held {
     marker: Option<(u64, u64)>,
 }
 
-struct Place {
-    buffer: Buffer,
-    id: Option<MsgId>,
+#[allow(dead_code)]
+enum Place {
+    Posted(Record),
+    Redacted(Arc<(Buffer, MsgId)>),
+    Stamped(Buffer),
+}
+
+impl Place {
+    fn message(&self) -> Option<(&Buffer, &MsgId)> {
+        match self {
+            Place::Posted(post) => Some((&post.0.buffer, &post.0.id)),
+            Place::Redacted(name) => Some((&name.0, &name.1)),
+            Place::Stamped(_) => None,
+        }
+    }
 }
 
 #[derive(Default)]
@@ -131,8 +143,7 @@ impl State {
             }
         }
         let number = self.front + 1;
-        let place = Place { buffer: parts.buffer.clone(), id: Some(parts.id.clone()) };
-        self.index.insert(number, place);
+        self.index.insert(number, Place::Posted(post.clone()));
         let held = self.held.entry(parts.buffer.clone()).or_default();
         let spot = Spot { at: parts.at, id: Some(parts.id.clone()) };
         held.by_spot.insert(spot, post.clone());
@@ -157,8 +168,8 @@ impl State {
         let mut records = Vec::new();
         let newer = self.index.range((Bound::Excluded(from), Bound::Unbounded));
         for (_, place) in newer.take(LIMIT) {
-            if let Some(id) = &place.id {
-                if let Some(Standing::Kept(post, _)) = self.held[&place.buffer].by_id.get(id) {
+            if let Some((buffer, id)) = place.message() {
+                if let Some(Standing::Kept(post, _)) = self.held[buffer].by_id.get(id) {
                     records.push(post.clone());
                 }
             }
