@@ -1,2 +1,1 @@
-mod ShownLemmas
 mod ReadLemmas

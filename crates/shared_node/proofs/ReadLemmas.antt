@@ -25,7 +25,7 @@ pub seen_further : (old new : List Entry) → IsPrefix old new → (list : List 
 seen_further old new p list is = (changes_in p.0, ap (λ l. l ++ changes_in p.0) is ∙ sym (changes_in-append old p.0) ∙ ap changes_in p.1)
 
 module _ (old new : PassValue) where
-  pub delta_given : (from : ℕ) (r : Result _ DeltaFault) → IfOk r (λ (d : Delta). d ≡ delta 0 (changes_in new.list) from) → (r ≢ Err NoEntry → Reads old new)
+  pub delta_given : (from : ℕ) (r : Result Delta DeltaFault) → IfOk r (λ (d : Delta). d ≡ delta 0 (changes_in new.list) from) → (r ≢ Err NoEntry → Reads old new)
       → IfOk r (λ (d : Delta). (start : ℕ) (list : List Change) → HasSeen old start list
       → (others : List Change) × Unit {0} × (HasSeen new start (list ++ others) × (d ≡ delta start (list ++ others) from)))
   delta_given from (Ok d) is seen = λ start list held.

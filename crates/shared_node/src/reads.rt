@@ -1,8 +1,7 @@
 //! What a pass reads, without a lock.
-ghost use Rattle.std.specs.Prelude.{◌≡◌, ◌≢◌, ◌↔◌, List, Err, IsTrue, IfOk, IfSome, IfNone, OnErr};
+ghost use Rattle.std.specs.Prelude.{◌≡◌, ◌≢◌, ◌↔◌, Err, IsTrue, IfOk, IfSome, IfNone, OnErr};
 ghost use mathlib.Core.List.{IsPrefix};
 ghost use Rattle.output.specs.Writes.{Writes};
-ghost use Rattle.chat_change.specs.declared.change.Change.{Change as Piece};
 ghost use Rattle.chat_history.specs.History.{norm};
 ghost use Rattle.chat_history.specs.Lookups.{IsShown};
 ghost use Rattle.chat_history.specs.Numbering as numbering;
@@ -17,7 +16,7 @@ use crate::pass::Pass;
 use change_log::{Naming, Prefix};
 use chat_batch::{AnswerFault, Answered, Facts, answer};
 use chat_change::{Buffer, Change, Moment, MsgId};
-use chat_state::{NoEntry, Peek, State};
+use chat_state::{NoEntry, Peek};
 use gossip_delta::{Delta, DeltaFault, Source, delta_since};
 use irc_line::Line;
 use std::alloc::Global;
@@ -41,17 +40,6 @@ fn enter<'a, J: Naming>(
     }
     *seen = list;
     Some(visit)
-}
-
-// Whether a visible record of the buffer has that id: whether the message has a position and wasn't redacted.
-fn is_shown(state: &State, buffer: &Buffer, id: &MsgId) -> bool
-    ensures { (changes : List Piece) → state.now.history ≡ norm changes
-        → IsTrue result ↔ IsShown (norm changes) buffer.now id.now }
-{
-    match state.position(buffer, id) {
-        Some(_) => !state.is_gone(buffer, id),
-        None => false,
-    }
 }
 
 impl<J: Naming> Pass<J> {
@@ -136,7 +124,7 @@ impl<J: Naming> Pass<J> {
         let Some(visit) = enter(&mut self.entrance, &mut self.list, &self.told) else {
             return Err(NoEntry);
         };
-        Ok(is_shown(visit.state(), buffer, id))
+        Ok(visit.state().is_shown(buffer, id))
     }
 }
 

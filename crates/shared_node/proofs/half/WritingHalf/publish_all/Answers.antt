@@ -1,4 +1,4 @@
-use Rattle.std.proofs.Common.{◌≡◌, List, [], ◌++◌, drop, fold, None, refl, ap, sym, ◌∙◌}
+use Rattle.std.proofs.Common.{◌≡◌, List, [], ◌++◌, drop, fold, Option, None, refl, ap, sym, ◌∙◌}
 use Rattle.std.proofs.lemmas.List.{append-nil}
 use Rattle.change_log.specs.declared.version.Version.{Version}
 use Rattle.change_log.specs.declared.version.Operation.{Operation}
@@ -8,7 +8,7 @@ use Rattle.change_log.proofs.CallerLemmas.{all_made}
 use Rattle.shared_node.proofs.half.WritingHalf.publish_all.Goals as goal
 
 -- where nothing is stuck, all that waits is pending
-all_pending : (pending waits : List Operation) (stuck : _) → stuck ≡ None → pending ++ held stuck ≡ waits → pending ≡ waits
+all_pending : (pending waits : List Operation) (stuck : Option Operation) → stuck ≡ None → pending ++ held stuck ≡ waits → pending ≡ waits
 all_pending pending waits stuck none was = sym (append-nil pending) ∙ ap (λ s. pending ++ held s) (sym none) ∙ was
 
 pub replace_with-published-requires : goal.replace_with-published-requires
