@@ -1,4 +1,4 @@
-//! The server of the bouncer: scripts of changes and questions, and their answers.
+//! The server of the bouncer: scripts of changes and questions, and their answers; and the configuration of a node.
 #![tactic(auto)]
 
 mod command;
@@ -10,4 +10,5 @@ mod script;
 mod world;
 
 pub use fault::ReplayFault;
+pub use node_config::{Config, ConfigFault, read_config};
 pub use script::replay;
