@@ -1,0 +1,100 @@
+//! What a worker knows of its node and of the time.
+use chat_change::Moment;
+use client_directory::{Directory, Entry};
+use gossip_link::Terms;
+use memory::{NoMemory, Text};
+use std::alloc::Global;
+use upstream_session::{Channels, Config};
+
+/// What a worker knows of its node and of the time.
+#[derive(Drop)]
+pub struct Site {
+    pub alloc: Global,
+    /// Which worker this is of how many.
+    pub worker: usize,
+    pub workers: usize,
+    /// The time, in milliseconds since 1970 began.
+    pub now: u64,
+    pub moment: Moment,
+    /// The name of the cluster.
+    pub cluster: Text,
+    /// The most records or buffers of an answer.
+    pub maximum: u32,
+    /// The accounts with their networks, and how the sessions with these networks' servers stand.
+    pub directory: Directory,
+    /// The networks of all accounts.
+    pub networks: Vec<Config>,
+    /// The shared word, the node's own life, and the names of the peers.
+    pub terms: Terms,
+    /// For how many days messages are kept; 0 is for ever.
+    pub retain_days: u32,
+}
+
+impl Site {
+    /// Which worker serves the network.
+    pub fn server_of(&self, network: usize) -> usize {
+        network.checked_rem(self.workers).unwrap_or(0)
+    }
+
+    /// The place of the account's network among the networks.
+    pub fn network_of(&self, account: &[u8], network: &[u8]) -> Option<usize> {
+        self.networks.iter().position(|c| c.account.as_bytes() == account
+            && c.network.as_bytes() == network)
+    }
+
+    /// The configuration of the network at that place, where there is one.
+    pub fn network_at(&self, network: Option<usize>) -> Option<&Config> {
+        self.networks.get(network?)
+    }
+
+    /// How the session with the network's server stands.
+    pub fn entry(&self, network: usize) -> Option<&Entry> {
+        let config = self.networks.get(network)?;
+        self.directory
+            .entry(config.account.as_bytes(), config.network.as_bytes())
+    }
+
+    /// The session with the network's server stands so now.
+    pub fn set_entry(&mut self, network: usize, entry: Entry) {
+        let Site {
+            networks,
+            directory,
+            ..
+        } = self;
+        if let Some(config) = networks.get(network) {
+            directory.set_entry(config.account.as_bytes(), config.network.as_bytes(), entry);
+        }
+    }
+
+    /// A copy of the network's configuration.
+    pub fn config(&self, network: usize) -> Option<Config> {
+        let config = self.networks.get(network)?;
+        copy_of(self.alloc, config).ok()
+    }
+}
+
+fn copies_of(alloc: Global, texts: &[Text]) -> Result<Vec<Text>, NoMemory> {
+    let mut copies = Vec::new(alloc);
+    for text in texts {
+        let copy = text.try_clone(alloc)?;
+        if copies.push(copy).is_err() {
+            return Err(NoMemory);
+        }
+    }
+    Ok(copies)
+}
+
+fn copy_of(alloc: Global, config: &Config) -> Result<Config, NoMemory> {
+    let account = config.account.try_clone(alloc)?;
+    let network = config.network.try_clone(alloc)?;
+    let nick = config.nick.try_clone(alloc)?;
+    let user = config.user.try_clone(alloc)?;
+    let channels = copies_of(alloc, config.channels.names())?;
+    Ok(Config {
+        account,
+        network,
+        nick,
+        user,
+        channels: Channels::of(channels),
+    })
+}
