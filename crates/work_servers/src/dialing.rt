@@ -1,0 +1,125 @@
+//! How connections with networks' servers begin and end.
+use crate::server::Server;
+use crate::servers::Servers;
+use crate::standing::{Standing, down_entry};
+use bnc_ports::{Dial, Event, Port, Reason};
+use memory::{NoMemory, Text};
+use upstream_session::{UpEffect, Upstream};
+use work_desk::{Desk, Site};
+use work_timers::Timer;
+
+/// A connection that couldn't be made, or was closed, is tried again after so many milliseconds.
+const RETRY: u64 = 60_000;
+
+/// A server that sent nothing for so many milliseconds is given up.
+const QUIET: u64 = 300_000;
+
+// A session with a network's server, from that serial number on.
+fn session_of(site: &Site, network: usize, serial: u64) -> Result<Upstream, NoMemory> {
+    let Some(config) = site.config(network) else {
+        return Err(NoMemory);
+    };
+    let me = site.terms.me();
+    let node = Text::new(site.alloc, me.node().as_bytes())?;
+    Ok(Upstream::new(site.alloc, config, node, me.incarnation(), serial))
+}
+
+// The operator is told that the network is down, and a connection is tried again later.
+fn put_off<P: Port>(desk: &mut Desk<P>, network: usize, reason: Reason) {
+    let Desk { port, site, .. } = desk;
+    if let Some(config) = site.networks.get(network) {
+        port.report(&Event::UpstreamDown {
+            account: config.account.as_bytes(),
+            network: config.network.as_bytes(),
+            reason,
+        });
+    }
+    desk.set_timer(Timer::RetryNetwork(network), RETRY);
+}
+
+impl Servers {
+    /// Begins the connections with the servers of those networks that this worker serves.
+    pub fn dial_all<P: Port>(&mut self, desk: &mut Desk<P>) {
+        for network in 0..desk.site.networks.len() {
+            if desk.site.server_of(network) == desk.site.worker {
+                self.dial(desk, network);
+            }
+        }
+    }
+
+    /// Begins a connection with a network's server.
+    pub fn dial<P: Port>(&mut self, desk: &mut Desk<P>, network: usize) {
+        match desk.port.dial(Dial::Network(network)) {
+            Ok(line) => self.set_line(network, Some(line)),
+            Err(_) => self.retry(desk, network),
+        }
+    }
+
+    /// A connection with a network's server could not be made: the operator is told, and it is tried again later.
+    pub fn retry<P: Port>(&mut self, desk: &mut Desk<P>, network: usize) {
+        self.set_line(network, None);
+        put_off(desk, network, Reason::Unreachable);
+    }
+
+    // Takes up the network's session over a connection: what it begins with.
+    fn take_up(
+        &mut self,
+        site: &Site,
+        line: usize,
+        network: usize,
+    ) -> Result<Vec<UpEffect>, NoMemory> {
+        let session = session_of(site, network, self.serial_of(network))?;
+        let effects = session.start(site.alloc)?;
+        self.insert(line, network, session, site.now)?;
+        Ok(effects)
+    }
+
+    /// A connection with a network's server is there: what is to be done first. Where there is no memory it is closed, and
+    /// tried again later.
+    pub fn begin<P: Port>(
+        &mut self,
+        desk: &mut Desk<P>,
+        line: usize,
+        network: usize,
+    ) -> Option<Vec<UpEffect>> {
+        match self.take_up(&desk.site, line, network) {
+            Ok(effects) => {
+                self.set_line(network, Some(line));
+                desk.set_timer(Timer::QuietUpstream(line), QUIET);
+                Some(effects)
+            }
+            Err(NoMemory) => {
+                desk.port.close(line);
+                self.set_line(network, None);
+                put_off(desk, network, Reason::NoMemory);
+                None
+            }
+        }
+    }
+
+    /// A server that was silent for long is given up.
+    pub fn check_quiet<P: Port>(&mut self, desk: &mut Desk<P>, line: usize) -> Option<Standing> {
+        let until = self.all.get(&line)?.heard_at.saturating_add(QUIET);
+        if until <= desk.site.now {
+            return self.close(desk, line, Reason::Silent);
+        }
+        let after = until.saturating_sub(desk.site.now);
+        desk.set_timer(Timer::QuietUpstream(line), after);
+        None
+    }
+
+    /// Closes the connection with a network's server, which is tried again later. None where there is no such connection.
+    pub fn close<P: Port>(
+        &mut self,
+        desk: &mut Desk<P>,
+        line: usize,
+        reason: Reason,
+    ) -> Option<Standing> {
+        let Server { network, entry, .. } = self.remove(line)?;
+        desk.port.close(line);
+        desk.timers.clear(Timer::QuietUpstream(line));
+        put_off(desk, network, reason);
+        let entry = down_entry(desk.site.alloc, entry);
+        Some(Standing { network, entry })
+    }
+}

@@ -1,0 +1,106 @@
+//! One connection with the server of a network.
+use crate::standing::is_same_entry;
+use bnc_ports::{Port, Reason};
+use client_directory::Entry;
+use irc_line::Next;
+use std::collections::VecDeque;
+use upstream_session::{UpEffect, Upstream};
+use work_desk::{Desk, Fate};
+use work_lines::{Filled, Pipe, Pumped};
+
+/// The most bytes that wait for a server.
+const MOST_OWED: usize = 65_536;
+
+/// What a step of a server comes to.
+#[derive(Drop)]
+pub enum Step {
+    /// A line came, and this is to be done.
+    Do(Vec<UpEffect>),
+    /// There may be more: the next step tells.
+    Again,
+    /// There is nothing more for now.
+    Rest,
+    /// The connection is to be closed.
+    Over(Reason),
+}
+
+/// A connection with the server of a network.
+#[derive(Drop)]
+pub(crate) struct Server {
+    pub(crate) pipe: Pipe,
+    // the place of its network among those of the node
+    pub(crate) network: usize,
+    pub(crate) session: Upstream,
+    // how the session stands, as all workers know it
+    pub(crate) entry: Entry,
+    // when bytes came last, in milliseconds
+    pub(crate) heard_at: u64,
+    pub(crate) fate: Fate,
+}
+
+impl Server {
+    /// Stands in the queue.
+    pub(crate) fn wake(&mut self, busy: &mut VecDeque<usize>, line: usize) {
+        if self.pipe.queue() && busy.push_back(line).is_err() {
+            self.pipe.unqueue();
+        }
+    }
+
+    /// Bytes wait for the server. Too many close the connection.
+    pub(crate) fn owe(&mut self, bytes: &[u8]) {
+        if self.pipe.owed().saturating_add(bytes.len()) > MOST_OWED {
+            self.fate = Fate::Lost(Reason::Overrun);
+        } else if self.pipe.owe(bytes).is_err() {
+            self.fate = Fate::Lost(Reason::NoMemory);
+        }
+    }
+
+    /// Whether the session stands otherwise than all workers know.
+    pub(crate) fn has_changed(&self) -> bool {
+        !is_same_entry(self.session.entry(), &self.entry)
+    }
+
+    /// Why the connection is to be closed after such a write, where it is.
+    pub(crate) fn end_after(&self, pumped: Pumped) -> Option<Reason> {
+        let due = match self.fate {
+            Fate::Stays => None,
+            Fate::Ends(reason) | Fate::Lost(reason) => Some(reason),
+        };
+        match pumped {
+            Pumped::Some | Pumped::Blocked => None,
+            Pumped::All => due,
+            Pumped::Closed | Pumped::Overrun => Some(due.unwrap_or(Reason::Closed)),
+            Pumped::NoMemory => Some(due.unwrap_or(Reason::NoMemory)),
+        }
+    }
+
+    /// What the next line comes to, or more bytes where there is none.
+    pub(crate) fn step<P: Port>(&mut self, desk: &mut Desk<P>) -> Step {
+        if self.fate != Fate::Stays {
+            return Step::Rest;
+        }
+        match self.pipe.next_line() {
+            Next::Line(bytes) => {
+                match self.session.step(desk.site.alloc, bytes, desk.site.moment) {
+                    Ok(effects) => Step::Do(effects),
+                    Err(_) => Step::Over(Reason::NoMemory),
+                }
+            }
+            Next::TooLong => Step::Again,
+            Next::More => self.fill(desk),
+        }
+    }
+
+    // Takes in more bytes.
+    fn fill<P: Port>(&mut self, desk: &mut Desk<P>) -> Step {
+        match self.pipe.fill(&mut desk.port, &mut desk.chunk) {
+            Filled::More => {
+                self.heard_at = desk.site.now;
+                Step::Again
+            }
+            Filled::Nothing => Step::Rest,
+            Filled::Closed => Step::Over(Reason::Closed),
+            Filled::NoMemory => Step::Over(Reason::NoMemory),
+        }
+    }
+}

@@ -1,0 +1,171 @@
+//! The table of a worker's servers.
+use crate::server::Server;
+use bnc_ports::Reason;
+use client_directory::Entry;
+use memory::{NoMemory, Text};
+use std::alloc::Global;
+use std::collections::{BTreeMap, VecDeque};
+use upstream_session::Upstream;
+use work_desk::Fate;
+use work_lines::Pipe;
+
+/// Where a network's session is taken up.
+#[derive(Clone, Copy)]
+struct Slot {
+    // the connection, or the one that is being made
+    line: Option<usize>,
+    // the serial number of the next id that is made
+    serial: u64,
+}
+
+/// A worker's servers, by the numbers of their connections.
+#[derive(Drop)]
+pub struct Servers {
+    alloc: Global,
+    pub(crate) all: BTreeMap<usize, Server>,
+    // of all networks; those of other workers stay empty
+    slots: Vec<Slot>,
+    busy: VecDeque<usize>,
+}
+
+impl Servers {
+    /// No servers yet, of so many networks.
+    pub fn new(alloc: Global, networks: usize) -> Result<Servers, NoMemory> {
+        let slot = Slot {
+            line: None,
+            serial: 1,
+        };
+        let Ok(slots) = vec![in alloc; slot; networks] else {
+            return Err(NoMemory);
+        };
+        Ok(Servers {
+            alloc,
+            all: BTreeMap::new(alloc),
+            slots,
+            busy: VecDeque::new(alloc),
+        })
+    }
+
+    /// The connection of a network is that, or there is none.
+    pub(crate) fn set_line(&mut self, network: usize, line: Option<usize>) {
+        if let Some(slot) = self.slots.get_mut(network) {
+            slot.line = line;
+        }
+    }
+
+    /// The connection with the network's server, or the one that is being made.
+    pub(crate) fn line_of(&self, network: usize) -> Option<usize> {
+        self.slots.get(network)?.line
+    }
+
+    /// The serial number from which the network's next session goes on.
+    pub(crate) fn serial_of(&self, network: usize) -> u64 {
+        match self.slots.get(network) {
+            Some(slot) => slot.serial,
+            None => 1,
+        }
+    }
+
+    /// A session with a network's server has begun over a connection, at that moment. For want of memory nothing changes.
+    pub(crate) fn insert(
+        &mut self,
+        line: usize,
+        network: usize,
+        session: Upstream,
+        now: u64,
+    ) -> Result<(), NoMemory> {
+        let pipe = Pipe::new(self.alloc, line)?;
+        let nick = Text::new(self.alloc, b"")?;
+        // Each server has room in the queue.
+        if self.busy.reserve(self.all.len().saturating_add(1)).is_err() {
+            return Err(NoMemory);
+        }
+        let server = Server {
+            pipe,
+            network,
+            session,
+            entry: Entry::new(false, nick, Vec::new(self.alloc), false),
+            heard_at: now,
+            fate: Fate::Stays,
+        };
+        match self.all.insert(line, server) {
+            Ok(_) => Ok(()),
+            Err(_) => Err(NoMemory),
+        }
+    }
+
+    /// Takes a server out. Its network's next session goes on from its serial number.
+    pub(crate) fn remove(&mut self, line: usize) -> Option<Server> {
+        let server = self.all.remove(&line)?;
+        if let Some(slot) = self.slots.get_mut(server.network) {
+            slot.line = None;
+            slot.serial = server.session.serial();
+        }
+        Some(server)
+    }
+
+    /// The network of that connection, by its place among those of the node.
+    pub fn network(&self, line: usize) -> Option<usize> {
+        Some(self.all.get(&line)?.network)
+    }
+
+    /// The present nick of the session over that connection.
+    pub fn nick(&self, line: usize) -> Option<&[u8]> {
+        Some(self.all.get(&line)?.session.entry().nick())
+    }
+
+    /// The server has something to do.
+    pub fn wake(&mut self, line: usize) {
+        let Servers { all, busy, .. } = self;
+        if let Some(server) = all.get_mut(&line) {
+            server.wake(busy, line);
+        }
+    }
+
+    /// What the port tells of a connection. False where it isn't a server's.
+    pub fn mark(&mut self, line: usize, readable: bool, writable: bool) -> bool {
+        let Servers { all, busy, .. } = self;
+        match all.get_mut(&line) {
+            Some(server) => {
+                server.pipe.mark(readable, writable);
+                server.wake(busy, line);
+                true
+            }
+            None => false,
+        }
+    }
+
+    /// Bytes wait for the server. Too many close the connection, and so does want of memory.
+    pub fn owe(&mut self, line: usize, bytes: &[u8]) {
+        let Servers { all, busy, .. } = self;
+        if let Some(server) = all.get_mut(&line) {
+            server.owe(bytes);
+            server.wake(busy, line);
+        }
+    }
+
+    /// The connection is closed once what is owed is written. No further line of the server is taken.
+    pub fn end(&mut self, line: usize, reason: Reason) {
+        let Servers { all, busy, .. } = self;
+        if let Some(server) = all.get_mut(&line) {
+            if server.fate == Fate::Stays {
+                server.fate = Fate::Ends(reason);
+            }
+            server.wake(busy, line);
+        }
+    }
+
+    /// Whether a server has something to do.
+    pub fn is_busy(&self) -> bool {
+        !self.busy.is_empty()
+    }
+
+    /// The next server that has something to do.
+    pub fn next_busy(&mut self) -> Option<usize> {
+        let line = self.busy.pop_front()?;
+        if let Some(server) = self.all.get_mut(&line) {
+            server.pipe.unqueue();
+        }
+        Some(line)
+    }
+}

@@ -1,0 +1,85 @@
+//! The turns of networks' servers: their lines, lines for them, and what is written to them.
+use crate::server::Step;
+use crate::servers::Servers;
+use crate::standing::Standing;
+use bnc_ports::{Event, Port, Reason};
+use memory::NoMemory;
+use upstream_session::UpEffect;
+use work_desk::{Desk, Fate, Site};
+use work_lines::Pumped;
+
+/// What a client's line for a network's server comes to.
+#[derive(Drop)]
+pub struct Said {
+    /// The connection with the server.
+    pub line: usize,
+    pub effects: Result<Vec<UpEffect>, NoMemory>,
+}
+
+// The operator is told that the network is up.
+fn report_up<P: Port>(port: &mut P, site: &Site, network: usize, nick: &[u8]) {
+    if let Some(config) = site.networks.get(network) {
+        port.report(&Event::UpstreamUp {
+            account: config.account.as_bytes(),
+            network: config.network.as_bytes(),
+            nick,
+        });
+    }
+}
+
+impl Servers {
+    /// What the server's next line comes to, or more bytes of it. A server whose connection is to be closed has no next line.
+    pub fn step<P: Port>(&mut self, desk: &mut Desk<P>, line: usize) -> Step {
+        match self.all.get_mut(&line) {
+            Some(server) => server.step(desk),
+            None => Step::Rest,
+        }
+    }
+
+    /// Writes what waits for the server, by one write, and closes the connection where that is due.
+    pub fn finish<P: Port>(&mut self, desk: &mut Desk<P>, line: usize) -> Option<Standing> {
+        let server = self.all.get_mut(&line)?;
+        if let Fate::Lost(reason) = server.fate {
+            return self.close(desk, line, reason);
+        }
+        let pumped = server.pipe.pump(&mut desk.port);
+        if let Some(reason) = server.end_after(pumped) {
+            return self.close(desk, line, reason);
+        }
+        if pumped == Pumped::Some {
+            self.wake(line);
+        }
+        None
+    }
+
+    /// What a client's line for the network's server comes to. None where there is no connection with that server.
+    pub fn say<P: Port>(
+        &mut self,
+        desk: &mut Desk<P>,
+        network: usize,
+        bytes: &[u8],
+    ) -> Option<Said> {
+        let line = self.line_of(network)?;
+        let server = self.all.get_mut(&line)?;
+        let effects = server.session.say(desk.site.alloc, bytes, desk.site.moment);
+        Some(Said { line, effects })
+    }
+
+    /// How the session over that connection stands now, where all workers know it otherwise; the caller has them learn it.
+    /// The operator is told of a network that is up. Where there is no memory the next call tells it.
+    pub fn note_entry<P: Port>(&mut self, desk: &mut Desk<P>, line: usize) -> Option<Standing> {
+        let server = self.all.get_mut(&line)?;
+        if !server.has_changed() {
+            return None;
+        }
+        let network = server.network;
+        let now = server.session.entry();
+        let known = now.try_clone(desk.site.alloc).ok()?;
+        let entry = now.try_clone(desk.site.alloc).ok()?;
+        if known.is_up() && !server.entry.is_up() {
+            report_up(&mut desk.port, &desk.site, network, known.nick());
+        }
+        server.entry = known;
+        Some(Standing { network, entry })
+    }
+}
