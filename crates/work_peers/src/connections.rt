@@ -1,0 +1,112 @@
+//! How connections with peers begin and end.
+use crate::peer::Peer;
+use crate::peers::Peers;
+use bnc_ports::{Event, Port, Reason};
+use gossip_link::{Arrived, Side};
+use memory::NoMemory;
+use peer_session::PeerSession;
+use work_desk::{Desk, Site};
+use work_lines::Pipe;
+use work_timers::Timer;
+
+/// A peer has so long to say hello, in milliseconds.
+const PATIENCE: u64 = 60_000;
+
+impl Peers {
+    /// A connection with a peer is there: with the one at that place, to which this node opened it, or one that the other
+    /// node opened. Where there is no memory it is closed, and the operator is told.
+    pub fn begin<P: Port>(&mut self, desk: &mut Desk<P>, line: usize, dialed: Option<usize>) {
+        match self.open(&desk.site, line, dialed) {
+            Ok(()) => {
+                self.wake(line);
+                desk.set_timer(Timer::Unregistered(line), PATIENCE);
+            }
+            Err(NoMemory) => {
+                let address = desk.port.address(line);
+                desk.port.close(line);
+                desk.port.report(&Event::PeerRefused {
+                    address,
+                    reason: Reason::NoMemory,
+                });
+                if let Some(place) = dialed {
+                    self.dial_later(desk, place);
+                }
+            }
+        }
+    }
+
+    // Takes a new connection in, with what is to be sent before any line came.
+    fn open(&mut self, site: &Site, line: usize, dialed: Option<usize>) -> Result<(), NoMemory> {
+        let side = match dialed {
+            Some(_) => Side::Opener,
+            None => Side::Acceptor,
+        };
+        let mut pipe = Pipe::new(site.alloc, line)?;
+        let session = PeerSession::new(side);
+        self.out.clear();
+        session.open(&site.terms, &mut self.out)?;
+        pipe.owe(self.out.as_slice())?;
+        self.add(line, Peer::new(pipe, session, dialed))
+    }
+
+    /// A connection over which no peer has said hello is closed.
+    pub fn check_greeted<P: Port>(&mut self, desk: &mut Desk<P>, line: usize) {
+        let is_late = match self.all.get(&line) {
+            Some(peer) => peer.place.is_none(),
+            None => false,
+        };
+        if is_late {
+            self.close(desk, line, Reason::Silent);
+        }
+    }
+
+    /// A message of the peer at that place came over that connection. Where it is the first one, the peer's older
+    /// connection is closed, and the operator is told that the peer said hello. A connection that was opened to
+    /// another peer is closed.
+    pub fn greet<P: Port>(
+        &mut self,
+        desk: &mut Desk<P>,
+        line: usize,
+        place: usize,
+        arrived: &Arrived,
+    ) {
+        let Some(peer) = self.all.get(&line) else {
+            return;
+        };
+        if peer.place.is_some() {
+            return;
+        }
+        if peer.dialed.is_some() && peer.dialed != Some(place) {
+            self.close(desk, line, Reason::UnknownNode);
+            return;
+        }
+        desk.timers.clear(Timer::Unregistered(line));
+        desk.timers.clear(Timer::RetryPeer(place));
+        if let Some(older) = self.settle(line, place) {
+            self.close(desk, older, Reason::Replaced);
+        }
+        if let (Some(node), Arrived::Hello(life)) = (self.name(Some(place)), arrived) {
+            let incarnation = life.incarnation();
+            desk.port.report(&Event::PeerGreeted { node, incarnation });
+        }
+    }
+
+    /// Closes a connection, and tells the operator why. Where this node opens the connections with its peer, it dials
+    /// the peer later. A connection that isn't there is passed over.
+    pub fn close<P: Port>(&mut self, desk: &mut Desk<P>, line: usize, reason: Reason) {
+        let Some(peer) = self.remove(line) else {
+            return;
+        };
+        desk.timers.clear(Timer::Unregistered(line));
+        desk.timers.clear(Timer::UnansweredPacket(line));
+        let address = desk.port.address(line);
+        desk.port.close(line);
+        match self.name(peer.place) {
+            Some(node) => desk.port.report(&Event::PeerDown { node, reason }),
+            None => desk.port.report(&Event::PeerRefused { address, reason }),
+        }
+        if let Some(place) = peer.place.or(peer.dialed) {
+            self.dial_later(desk, place);
+        }
+    }
+}

@@ -1,0 +1,20 @@
+//! The peers of a worker: the other nodes of the cluster, the connections with them, and what goes over these.
+//!
+//! [`Peers`] holds the connections by the numbers that the port gave them, and what is kept of each peer over its
+//! connections. Its methods work at the worker's desk. A connection [`begins`](Peers::begin), is
+//! [`greeted`](Peers::greet) by its peer, and is [`closed`](Peers::close); one that this node opened is
+//! [`dialed`](Peers::dial) again later. Whoever calls [`step`](Peers::step) carries out the message that it gives by
+//! [`greet`](Peers::greet), [`arrive`](Peers::arrive), and then [`publish`](Peers::publish) or
+//! [`advance`](Peers::advance), which make the next packets.
+#![tactic(auto)]
+
+mod connections;
+mod dialing;
+mod neighbour;
+mod packets;
+mod peer;
+mod peers;
+mod turns;
+
+pub use peers::Peers;
+pub use turns::Step;

@@ -1,0 +1,138 @@
+//! A worker's peers, by the numbers of their connections.
+use crate::neighbour::Neighbour;
+use crate::peer::Peer;
+use gossip_link::{NodeName, Terms};
+use memory::NoMemory;
+use std::alloc::Global;
+use std::collections::{BTreeMap, VecDeque};
+
+/// A worker's peers, by the numbers of their connections. Places are those of the peers in the node's terms, from 0.
+#[derive(Drop)]
+pub struct Peers {
+    pub(crate) all: BTreeMap<usize, Peer>,
+    /// In the order of the node's terms.
+    pub(crate) neighbours: Vec<Neighbour>,
+    // Those connections that have something to do.
+    busy: VecDeque<usize>,
+    /// What is to be sent, as it is written.
+    pub(crate) out: Vec<u8>,
+}
+
+// Has the connection stand in the queue.
+fn queue(peer: &mut Peer, busy: &mut VecDeque<usize>, line: usize) {
+    if peer.pipe.queue() && busy.push_back(line).is_err() {
+        peer.pipe.unqueue();
+    }
+}
+
+impl Peers {
+    /// No connections yet, with the peers of these names, in the order of the node's terms.
+    pub fn new(alloc: Global, terms: &Terms, names: Vec<NodeName>) -> Result<Peers, NoMemory> {
+        let mut neighbours = Vec::new(alloc);
+        for name in names {
+            let neighbour = Neighbour::new(alloc, terms, name)?;
+            if neighbours.push(neighbour).is_err() {
+                return Err(NoMemory);
+            }
+        }
+        Ok(Peers {
+            all: BTreeMap::new(alloc),
+            neighbours,
+            busy: VecDeque::new(alloc),
+            out: Vec::new(alloc),
+        })
+    }
+
+    /// Takes a connection in. Each has room in the queue.
+    pub(crate) fn add(&mut self, line: usize, peer: Peer) -> Result<(), NoMemory> {
+        let count = self.all.len().saturating_add(1);
+        if self.busy.reserve(count).is_err() {
+            return Err(NoMemory);
+        }
+        match self.all.insert(line, peer) {
+            Ok(_) => Ok(()),
+            Err(_) => Err(NoMemory),
+        }
+    }
+
+    /// Takes a connection out.
+    pub(crate) fn remove(&mut self, line: usize) -> Option<Peer> {
+        let peer = self.all.remove(&line)?;
+        for neighbour in self.neighbours.iter_mut() {
+            if neighbour.line == Some(line) {
+                neighbour.line = None;
+            }
+        }
+        Some(peer)
+    }
+
+    /// The peer at that place said hello over that connection: the connection over which it did so before.
+    pub(crate) fn settle(&mut self, line: usize, place: usize) -> Option<usize> {
+        if let Some(peer) = self.all.get_mut(&line) {
+            peer.place = Some(place);
+        }
+        let neighbour = self.neighbours.get_mut(place)?;
+        let before = neighbour.line;
+        neighbour.line = Some(line);
+        if before == Some(line) { None } else { before }
+    }
+
+    /// The name of the peer at that place.
+    pub(crate) fn name(&self, place: Option<usize>) -> Option<&[u8]> {
+        match self.neighbours.get(place?) {
+            Some(neighbour) => Some(neighbour.name.as_bytes()),
+            None => None,
+        }
+    }
+
+    /// Whether this node opens the connections with the peer at that place, and there is none.
+    pub(crate) fn is_wanted(&self, place: usize) -> bool {
+        match self.neighbours.get(place) {
+            Some(neighbour) => neighbour.is_wanted(),
+            None => false,
+        }
+    }
+
+    /// The first connection from that one on.
+    pub(crate) fn line_from(&self, from: usize) -> Option<usize> {
+        match self.all.range(from..).next() {
+            Some((line, _)) => Some(*line),
+            None => None,
+        }
+    }
+
+    /// The connection has something to do. One that isn't there is passed over.
+    pub fn wake(&mut self, line: usize) {
+        let Peers { all, busy, .. } = self;
+        if let Some(peer) = all.get_mut(&line) {
+            queue(peer, busy, line);
+        }
+    }
+
+    /// What the port tells of a connection. False where it isn't a peer's.
+    pub fn mark(&mut self, line: usize, readable: bool, writable: bool) -> bool {
+        let Peers { all, busy, .. } = self;
+        match all.get_mut(&line) {
+            Some(peer) => {
+                peer.pipe.mark(readable, writable);
+                queue(peer, busy, line);
+                true
+            }
+            None => false,
+        }
+    }
+
+    /// Whether a connection has something to do.
+    pub fn is_busy(&self) -> bool {
+        !self.busy.is_empty()
+    }
+
+    /// The next connection that has something to do. It may have been closed since.
+    pub fn next_busy(&mut self) -> Option<usize> {
+        let line = self.busy.pop_front()?;
+        if let Some(peer) = self.all.get_mut(&line) {
+            peer.pipe.unqueue();
+        }
+        Some(line)
+    }
+}

@@ -1,0 +1,112 @@
+//! The turns of peers: what comes over a connection, and what goes out.
+use crate::peer::Peer;
+use crate::peers::Peers;
+use bnc_ports::{Port, Reason};
+use gossip_link::Arrived;
+use irc_line::Next;
+use memory::NoMemory;
+use peer_session::Heard;
+use work_desk::Desk;
+use work_lines::{Filled, Pumped};
+
+/// What a step of a peer comes to.
+#[derive(Drop)]
+pub enum Step {
+    /// A message of the peer at that place is to be carried out.
+    Take(usize, Arrived),
+    /// A further step can be made.
+    Again,
+    /// Nothing is there for now.
+    Rest,
+    /// The connection is to be closed.
+    Over(Reason),
+}
+
+// Why a connection is closed that said this, before a peer said hello over it or afterwards.
+fn reason_of(place: Option<usize>, bytes: &[u8]) -> Reason {
+    match (place, bytes) {
+        (None, [b'W', b' ', ..]) => Reason::WrongWord,
+        (None, [b'H', b' ', ..]) => Reason::UnknownNode,
+        _ => Reason::BadLine,
+    }
+}
+
+fn step_of(heard: Result<Heard, NoMemory>, reason: Reason) -> Step {
+    match heard {
+        Ok(Heard::Nothing) => Step::Again,
+        Ok(Heard::Message(place, arrived)) => Step::Take(place, arrived),
+        Ok(Heard::Close) => Step::Over(reason),
+        Err(NoMemory) => Step::Over(Reason::NoMemory),
+    }
+}
+
+fn step_of_fill(filled: Filled) -> Step {
+    match filled {
+        Filled::More => Step::Again,
+        Filled::Nothing => Step::Rest,
+        Filled::Closed => Step::Over(Reason::Closed),
+        Filled::NoMemory => Step::Over(Reason::NoMemory),
+    }
+}
+
+impl Peer {
+    // The next line, or more bytes for it. What is to be sent because of it is appended.
+    fn step<P: Port>(&mut self, desk: &mut Desk<P>, out: &mut Vec<u8>) -> Step {
+        if let Some(reason) = self.lost {
+            return Step::Over(reason);
+        }
+        let Desk {
+            site,
+            port,
+            chunk,
+            ..
+        } = desk;
+        let Peer {
+            pipe,
+            session,
+            place,
+            ..
+        } = self;
+        match pipe.next_line() {
+            Next::Line(bytes) => {
+                let reason = reason_of(*place, bytes);
+                let heard = session.hear(site.alloc, &site.terms, Some(bytes), out);
+                step_of(heard, reason)
+            }
+            Next::TooLong => {
+                let heard = session.hear(site.alloc, &site.terms, None, out);
+                step_of(heard, Reason::BadLine)
+            }
+            Next::More => step_of_fill(pipe.fill(port, chunk.as_mut_slice())),
+        }
+    }
+}
+
+impl Peers {
+    /// Takes the next line that came over a connection, or more bytes for it. What is to be sent because of the line waits
+    /// for the peer.
+    pub fn step<P: Port>(&mut self, desk: &mut Desk<P>, line: usize) -> Step {
+        let Peers { all, out, .. } = self;
+        let Some(peer) = all.get_mut(&line) else {
+            return Step::Rest;
+        };
+        out.clear();
+        let step = peer.step(desk, out);
+        peer.owe(out.as_slice());
+        step
+    }
+
+    /// Sends what waits for the peer, by one write. The connection is closed where it can't be.
+    pub fn finish<P: Port>(&mut self, desk: &mut Desk<P>, line: usize) {
+        let pumped = match self.all.get_mut(&line) {
+            Some(peer) => peer.pipe.pump(&mut desk.port),
+            None => return,
+        };
+        match pumped {
+            Pumped::All | Pumped::Blocked => {}
+            Pumped::Some => self.wake(line),
+            Pumped::Closed | Pumped::Overrun => self.close(desk, line, Reason::Closed),
+            Pumped::NoMemory => self.close(desk, line, Reason::NoMemory),
+        }
+    }
+}
