@@ -1,0 +1,112 @@
+//! The turns of clients.
+use crate::station::WorkEnd;
+use crate::worker::Worker;
+use attach::Attachment;
+use bnc_ports::{Gate, Mail, Port, Reason};
+use chat_change::Change;
+use client_session::Effect;
+use memory::Text;
+use shared_node::Naming;
+use std::sync::Wait;
+use work_clients::Step;
+
+/// So many steps a client has before the others have their turn.
+const STEPS: usize = 64;
+
+impl<'a, J: Naming, R: Wait + Drop, W: Wait, X: Attachment, P: Port, G: Gate> Worker<
+    'a,
+    J,
+    R,
+    W,
+    X,
+    P,
+    G,
+> {
+    /// The turn of one client.
+    pub(crate) fn serve_client(&mut self, line: usize) -> Result<(), WorkEnd> {
+        for _ in 0..STEPS {
+            let step = self.clients.step(&mut self.desk, &mut self.node.pass, line);
+            match step {
+                Step::Do(effects) => self.do_client(line, effects)?,
+                Step::Again => {}
+                Step::Wait => {
+                    self.clients.finish(&mut self.desk, line, true);
+                    return Ok(());
+                }
+                Step::Rest => {
+                    self.clients.finish(&mut self.desk, line, false);
+                    return Ok(());
+                }
+                Step::End(reason) => self.clients.end(&mut self.desk, line, reason),
+                Step::Over(reason) => {
+                    self.clients.close(&mut self.desk, line, reason);
+                    return Ok(());
+                }
+            }
+        }
+        self.clients.finish(&mut self.desk, line, true);
+        Ok(())
+    }
+
+    // Does what a line of a client comes to. Where that is refused the client is closed.
+    fn do_client(&mut self, line: usize, effects: Vec<Effect>) -> Result<(), WorkEnd> {
+        self.clients.note_registration(&mut self.desk, line);
+        for effect in effects {
+            let done = match effect {
+                Effect::Send(text) => self.clients.owe(line, text.as_bytes()),
+                Effect::Put(change) => self.put_for(line, change)?,
+                Effect::Ask(question) => self.answer(line, question.as_bytes())?,
+                Effect::Upstream(text) => {
+                    self.hand_up(line, text)?;
+                    Ok(())
+                }
+                Effect::Close => {
+                    self.clients.end(&mut self.desk, line, Reason::Ended);
+                    Ok(())
+                }
+            };
+            if let Err(reason) = done {
+                self.clients.close(&mut self.desk, line, reason);
+                return Ok(());
+            }
+        }
+        Ok(())
+    }
+
+    // Puts a client's marker, and tells the other sessions.
+    fn put_for(&mut self, line: usize, change: Change) -> Result<Result<(), Reason>, WorkEnd> {
+        let changes = [change];
+        if self.node.put(&changes).is_err() {
+            return Ok(Err(Reason::NoMemory));
+        }
+        self.publish();
+        self.tell_marks(&changes, Some(line))?;
+        Ok(Ok(()))
+    }
+
+    // Answers a client's question.
+    fn answer(&mut self, line: usize, question: &[u8]) -> Result<Result<(), Reason>, WorkEnd> {
+        self.ask_gate()?;
+        Ok(
+            self.clients
+                .answer(&mut self.desk, &mut self.node.pass, line, question),
+        )
+    }
+
+    // Hands a client's line to the worker that serves its network.
+    fn hand_up(&mut self, line: usize, text: Text) -> Result<(), WorkEnd> {
+        let Some(network) = self.clients.network(line) else {
+            return Ok(());
+        };
+        let worker = self.desk.site.server_of(network);
+        if worker == self.desk.site.worker {
+            return self.say(network, text.as_bytes());
+        }
+        let mail = Mail::Say {
+            network,
+            line: text,
+        };
+        let _ = self.desk.port.post(worker, mail);
+        Ok(())
+    }
+}

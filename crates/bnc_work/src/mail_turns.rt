@@ -1,0 +1,107 @@
+//! What workers tell each other, and what is done for the whole node.
+use crate::station::WorkEnd;
+use crate::worker::Worker;
+use attach::Attachment;
+use bnc_ports::{Gate, Mail, Port};
+use client_directory::Entry;
+use shared_node::Naming;
+use std::sync::Wait;
+use upstream_session::Recipients;
+use work_servers::Standing;
+use work_timers::Timer;
+
+/// Floors are put once in so many milliseconds.
+const HOUR: u64 = 3_600_000;
+
+impl<'a, J: Naming, R: Wait + Drop, W: Wait, X: Attachment, P: Port, G: Gate> Worker<
+    'a,
+    J,
+    R,
+    W,
+    X,
+    P,
+    G,
+> {
+    /// What another worker tells.
+    pub(crate) fn read_mail(&mut self, mail: Mail) -> Result<(), WorkEnd> {
+        match mail {
+            Mail::Entry {
+                network,
+                entry,
+                is_passed_on,
+            } => self.take_entry(network, entry, is_passed_on),
+            Mail::Live {
+                network,
+                nick,
+                message,
+            } => {
+                self.clients
+                    .tell_message(&mut self.desk, network, nick.as_bytes(), &message);
+            }
+            Mail::Relay { network, to, line } => {
+                return self.pass_on_here(network, to, line.as_bytes());
+            }
+            Mail::Say { network, line } => return self.say(network, line.as_bytes()),
+            Mail::Marked { network, target } => {
+                return self.tell_mark(network, target.as_bytes(), None);
+            }
+            Mail::Published => self.publish_to_peers(),
+        }
+        Ok(())
+    }
+
+    /// Passes a line of a server on to this worker's sessions of the network.
+    pub(crate) fn pass_on_here(
+        &mut self,
+        network: usize,
+        to: Recipients,
+        bytes: &[u8],
+    ) -> Result<(), WorkEnd> {
+        self.clients.pass_on(&mut self.desk, network, to, bytes);
+        self.tell_mark_of_joined(network, bytes)
+    }
+
+    // How the session with a network's server stands now.
+    fn take_entry(&mut self, network: usize, entry: Entry, is_passed_on: bool) {
+        let Worker { desk, clients, .. } = self;
+        if entry.is_up() {
+            clients.tell_nick(desk, network, entry.nick(), is_passed_on);
+        }
+        desk.site.set_entry(network, entry);
+    }
+
+    /// All workers learn how the session with a network's server stands now, and whether a line that says so is passed on.
+    pub(crate) fn spread(&mut self, standing: Standing, is_passed_on: bool) {
+        let Standing { network, entry } = standing;
+        for worker in 0..self.desk.site.workers {
+            if worker != self.desk.site.worker {
+                if let Ok(entry) = entry.try_clone(self.desk.site.alloc) {
+                    let mail = Mail::Entry {
+                        network,
+                        entry,
+                        is_passed_on,
+                    };
+                    let _ = self.desk.port.post(worker, mail);
+                }
+            }
+        }
+        self.take_entry(network, entry, is_passed_on);
+    }
+
+    /// Puts the floors that are due, and does so again in an hour.
+    pub(crate) fn put_floors(&mut self) {
+        let Worker { node, desk, .. } = self;
+        desk.set_timer(Timer::Floors, HOUR);
+        let site = &desk.site;
+        let Ok(floors) = node
+            .pass
+            .due_floors(site.alloc, site.moment, site.retain_days)
+        else {
+            return;
+        };
+        if !floors.is_empty() {
+            let _ = self.node.put(floors.as_slice());
+            self.publish();
+        }
+    }
+}

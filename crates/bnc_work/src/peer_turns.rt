@@ -1,0 +1,114 @@
+//! The turns of peers.
+use crate::station::WorkEnd;
+use crate::worker::Worker;
+use attach::Attachment;
+use bnc_ports::{Gate, Mail, Port, Reason};
+use chat_change::Change;
+use memory::NoMemory;
+use peer_session::{Arrived, Outcome, changes_of};
+use shared_node::Naming;
+use std::sync::Wait;
+use work_peers::Step;
+
+/// So many lines of a peer are taken before the others have their turn.
+const STEPS: usize = 64;
+
+fn has_marks(changes: &[Change]) -> bool {
+    changes
+        .iter()
+        .any(|change| matches!(change, Change::Mark { .. }))
+}
+
+impl<'a, J: Naming, R: Wait + Drop, W: Wait, X: Attachment, P: Port, G: Gate> Worker<
+    'a,
+    J,
+    R,
+    W,
+    X,
+    P,
+    G,
+> {
+    /// The turn of one peer.
+    pub(crate) fn serve_peer(&mut self, line: usize) -> Result<(), WorkEnd> {
+        for _ in 0..STEPS {
+            match self.peers.step(&mut self.desk, line) {
+                Step::Take(place, arrived) => self.take_message(line, place, &arrived)?,
+                Step::Again => {}
+                Step::Rest => {
+                    self.peers.finish(&mut self.desk, line);
+                    return Ok(());
+                }
+                Step::Over(reason) => {
+                    self.peers.close(&mut self.desk, line, reason);
+                    return Ok(());
+                }
+            }
+        }
+        self.peers.wake(line);
+        self.peers.finish(&mut self.desk, line);
+        Ok(())
+    }
+
+    // Carries out a message of the peer at that place. Sessions are told of the markers that came with it.
+    fn take_message(
+        &mut self,
+        line: usize,
+        place: usize,
+        arrived: &Arrived,
+    ) -> Result<(), WorkEnd> {
+        self.peers.greet(&mut self.desk, line, place, arrived);
+        let has_marks = has_marks(changes_of(arrived));
+        if has_marks {
+            self.catch_up(false)?;
+        }
+        let outcome = self
+            .peers
+            .arrive(&mut self.desk, line, place, arrived, &mut self.node);
+        match outcome {
+            Ok(Outcome::Taken | Outcome::TakenInPart) => {
+                self.publish();
+                if has_marks {
+                    self.catch_up(true)?;
+                }
+            }
+            Ok(Outcome::Known | Outcome::Ignored) => {
+                self.peers
+                    .advance(&mut self.desk, line, &mut self.node.pass);
+            }
+            Err(NoMemory) => self.peers.close(&mut self.desk, line, Reason::NoMemory),
+        }
+        Ok(())
+    }
+
+    // Goes on to what the node holds now. Where it is to be told, sessions are told of the markers that are new since it was
+    // done last: a marker that changed nothing isn't told again.
+    fn catch_up(&mut self, is_told: bool) -> Result<(), WorkEnd> {
+        for _ in 0..u64::MAX {
+            let Ok(delta) = self.node.pass.delta(self.desk.site.alloc, self.seen) else {
+                return Ok(());
+            };
+            if delta.is_empty() {
+                return Ok(());
+            }
+            self.seen = delta.to();
+            if is_told {
+                self.tell_marks(delta.changes(), None)?;
+            }
+        }
+        Ok(())
+    }
+
+    /// Changes were put, which the peers are to have.
+    pub(crate) fn publish(&mut self) {
+        if self.desk.site.worker == 0 {
+            self.publish_to_peers();
+        } else {
+            let _ = self.desk.port.post(0, Mail::Published);
+        }
+    }
+
+    /// Each peer is to have what was published.
+    pub(crate) fn publish_to_peers(&mut self) {
+        self.peers.publish(&mut self.desk, &mut self.node.pass);
+    }
+}

@@ -1,0 +1,128 @@
+//! All workers of a node, each on a thread of its own.
+use crate::station::{Station, WorkEnd};
+use crate::worker::work;
+use attach::Attachment;
+use bnc_ports::{Gate, Port};
+use shared_node::{Naming, Pass, SharedNode};
+use std::alloc::AllocError;
+use std::sync::Wait;
+use std::thread;
+use std::thread::Threads;
+use thiserror::Error;
+
+/// Why not all workers were started. Those that were have run to their end.
+#[derive(Clone, Copy, Debug, PartialEq, Eq, Error)]
+pub enum StartFault {
+    /// There was no memory.
+    #[error("no memory")]
+    NoMemory,
+    /// The system gave no thread.
+    #[error("no thread")]
+    NoThread,
+}
+
+impl From<AllocError> for StartFault {
+    fn from(_: AllocError) -> StartFault {
+        StartFault::NoMemory
+    }
+}
+
+/// Runs [`work`] for each, as worker 0, 1, .. in the list's order, each on a thread of its own, and answers their ends in
+/// that order.
+pub fn work_all<J, R, W, X, P, G>(
+    rt: &W,
+    node: &SharedNode<J, R>,
+    all: Vec<(Pass<J>, Station<X>, P)>,
+    gate: &G,
+) -> Result<Vec<WorkEnd>, StartFault>
+where
+    J: Naming + Send + Sync,
+    R: Wait + Drop + Send + Sync,
+    W: Threads + Wait + AllocGlobal + Sync,
+    X: Attachment + Send,
+    P: Port + Send,
+    G: Gate,
+{
+    each_numbered(
+        rt,
+        all,
+        &|worker: usize, pass: Pass<J>, station: Station<X>, port: P| {
+            work(rt, worker, node, pass, station, port, gate)
+        },
+    )
+}
+
+// Calls `f` for each, with its place in the list, on a thread of its own, and joins the threads. (The parts of a job are type
+// parameters, since a tuple of what they are here isn't found to be Send.)
+fn each_numbered<R, A, B, C, X, F>(rt: &R, all: Vec<(A, B, C)>, f: &F) -> Result<Vec<X>, StartFault>
+where
+    R: Threads + Wait + AllocGlobal + Sync,
+    A: Send + Drop,
+    B: Send + Drop,
+    C: Send + Drop,
+    X: Send + Drop,
+    F: Fn(usize, A, B, C) -> X + Sync,
+    requires { F.IsAlwaysCallable f.now }
+{
+    let mut jobs = Vec::with_capacity(rt.alloc(), all.len())?;
+    for (number, (a, b, c)) in all.into_iter().enumerate() {
+        jobs.push((number, a, b, c)).map_err(AllocError::from)?;
+    }
+    each_in_a_thread(
+        rt,
+        jobs,
+        &|job: (usize, A, B, C)| -> X
+            requires { F.IsAlwaysCallable f.now }
+        { f(job.0, job.1, job.2, job.3) },
+    )
+}
+
+// Calls `f` at each job, on a thread of its own, and joins the threads. What was started runs to its end before a refusal
+// is answered.
+fn each_in_a_thread<R, J, X, F>(rt: &R, jobs: Vec<J>, f: &F) -> Result<Vec<X>, StartFault>
+where
+    R: Threads + Wait + AllocGlobal + Sync,
+    J: Send + Drop,
+    X: Send + Drop,
+    F: Fn(J) -> X + Sync,
+    requires { F.IsAlwaysCallable f.now }
+{
+    let alloc = rt.alloc();
+    let mut handles = Vec::with_capacity(alloc, jobs.len())?;
+    let mut ends = Vec::with_capacity(alloc, jobs.len())?;
+    thread::scope(
+        thread::scope_env(),
+        rt,
+        move |scope| -> Result<Vec<X>, StartFault>
+            requires { F.IsAlwaysCallable f.now }
+        {
+            let mut fault = None;
+            for job in jobs {
+                let run = move || -> X
+                    requires { F.IsAlwaysCallable f.now }
+                { f(job) };
+                match scope.spawn(run) {
+                    Ok(handle) => {
+                        if handles.push(handle).is_err() {
+                            fault = Some(StartFault::NoMemory);
+                            break;
+                        }
+                    }
+                    Err(_) => {
+                        fault = Some(StartFault::NoThread);
+                        break;
+                    }
+                }
+            }
+            for handle in handles {
+                if ends.push(handle.join(rt)).is_err() {
+                    fault = Some(StartFault::NoMemory);
+                }
+            }
+            match fault {
+                Some(fault) => Err(fault),
+                None => Ok(ends),
+            }
+        },
+    )
+}

@@ -1,0 +1,270 @@
+//! One worker: what comes, and who has something to do.
+use crate::station::{Station, WorkEnd};
+use attach::Attachment;
+use bnc_ports::{Dial, Gate, Happening, Port};
+use chat_change::Moment;
+use memory::NoMemory;
+use shared_node::{Naming, NodeTaker, Pass, SharedNode};
+use std::alloc::Global;
+use std::sync::Wait;
+use work_clients::Clients;
+use work_desk::{Desk, Site, clock};
+use work_peers::Peers;
+use work_servers::Servers;
+use work_timers::Timer;
+
+/// A worker looks after its timers at least so often, in milliseconds.
+const LONGEST: u64 = 60_000;
+
+/// So many timers are looked after in one turn.
+const TIMERS: usize = 64;
+
+/// One worker.
+#[derive(Drop)]
+pub(crate) struct Worker<'a, J: Naming, R: Wait + Drop, W: Wait, X, P: Port, G: Gate> {
+    pub(crate) rt: &'a W,
+    pub(crate) gate: &'a G,
+    pub(crate) node: NodeTaker<'a, J, R, W>,
+    pub(crate) desk: Desk<P>,
+    pub(crate) clients: Clients<X>,
+    pub(crate) servers: Servers,
+    pub(crate) peers: Peers,
+    // the number up to which this worker has seen what the node holds
+    pub(crate) seen: u64,
+}
+
+/// Serves the connections of the port as worker `worker` of those that the port counts, until the gate shuts or the port
+/// ends or fails. Where there is no memory to begin, or the clock isn't read, that is a failure too.
+///
+/// It serves clients that connect, in sessions of their own; the servers of its networks, to which it connects; worker 0,
+/// the node's peers; and what other workers tell it. Only what `pass` is asked, the sessions' lines and the messages of
+/// servers are written to clients.
+pub fn work<J: Naming, R: Wait + Drop, W: Wait + AllocGlobal, X: Attachment, P: Port, G: Gate>(
+    rt: &W,
+    worker: usize,
+    node: &SharedNode<J, R>,
+    pass: Pass<J>,
+    station: Station<X>,
+    port: P,
+    gate: &G,
+) -> WorkEnd {
+    let mut port = port;
+    let Some(time) = clock(&mut port) else {
+        return WorkEnd::Failed;
+    };
+    let Ok((desk, clients, servers, peers)) = begin(rt.alloc(), worker, time, station, port) else {
+        return WorkEnd::Failed;
+    };
+    let mut worker = Worker {
+        rt,
+        gate,
+        node: NodeTaker::new(node, pass, rt),
+        desk,
+        clients,
+        servers,
+        peers,
+        seen: 0,
+    };
+    worker.open();
+    for _ in rt.forever() {
+        if let Err(end) = worker.turn() {
+            return end;
+        }
+    }
+    unreachable!()
+}
+
+fn begin<X: Attachment, P: Port>(
+    alloc: Global,
+    worker: usize,
+    (now, moment): (u64, Moment),
+    station: Station<X>,
+    port: P,
+) -> Result<(Desk<P>, Clients<X>, Servers, Peers), NoMemory> {
+    let Station {
+        lobby,
+        cluster,
+        maximum,
+        directory,
+        networks,
+        terms,
+        peers,
+        retain_days,
+    } = station;
+    let clients = Clients::new(alloc, lobby);
+    let servers = Servers::new(alloc, networks.len())?;
+    let peers = Peers::new(alloc, &terms, peers)?;
+    let site = Site {
+        alloc,
+        worker,
+        workers: port.workers(),
+        now,
+        moment,
+        cluster,
+        maximum,
+        directory,
+        networks,
+        terms,
+        retain_days,
+    };
+    let desk = Desk::new(site, port)?;
+    Ok((desk, clients, servers, peers))
+}
+
+impl<'a, J: Naming, R: Wait + Drop, W: Wait, X: Attachment, P: Port, G: Gate> Worker<
+    'a,
+    J,
+    R,
+    W,
+    X,
+    P,
+    G,
+> {
+    // Connects to the servers of this worker's networks. The first worker connects to peers too, and has the floors put.
+    fn open(&mut self) {
+        let Worker {
+            desk,
+            servers,
+            peers,
+            ..
+        } = self;
+        servers.dial_all(desk);
+        if desk.site.worker == 0 {
+            desk.set_timer(Timer::Floors, 0);
+            peers.dial_all(desk);
+        }
+    }
+
+    /// Asks the gate whether an answer may go out.
+    pub(crate) fn ask_gate(&self) -> Result<(), WorkEnd> {
+        if self.gate.before_answer(self.desk.site.worker) {
+            Ok(())
+        } else {
+            Err(WorkEnd::GateShut)
+        }
+    }
+
+    // How long the port may wait.
+    fn patience(&self) -> u64 {
+        if self.clients.is_busy() || self.servers.is_busy() || self.peers.is_busy() {
+            return 0;
+        }
+        match self.desk.timers.next() {
+            Some(at) => at.saturating_sub(self.desk.site.now).min(LONGEST),
+            None => LONGEST,
+        }
+    }
+
+    // One thing that happened, what is due, and the turns of one server, one peer and one client.
+    fn turn(&mut self) -> Result<(), WorkEnd> {
+        let patience = self.patience();
+        let Ok(happening) = self.desk.port.next(patience) else {
+            return Err(WorkEnd::Failed);
+        };
+        if !self.desk.read_clock() {
+            return Err(WorkEnd::Failed);
+        }
+        self.take(happening)?;
+        self.look_after_timers()?;
+        if let Some(line) = self.servers.next_busy() {
+            self.serve_server(line)?;
+        }
+        if let Some(line) = self.peers.next_busy() {
+            self.serve_peer(line)?;
+        }
+        match self.clients.next_busy() {
+            Some(line) => self.serve_client(line),
+            None => Ok(()),
+        }
+    }
+
+    fn take(&mut self, happening: Happening) -> Result<(), WorkEnd> {
+        match happening {
+            Happening::Client { line, ticket } => {
+                self.clients.admit(self.rt, &mut self.desk, line, ticket);
+            }
+            Happening::Peer { line } => self.peers.begin(&mut self.desk, line, None),
+            Happening::Opened { line, what } => return self.opened(line, what),
+            Happening::Refused { line, what } => self.refused(line, what),
+            Happening::Ready {
+                line,
+                readable,
+                writable,
+            } => self.mark(line, readable, writable),
+            Happening::Mail(mail) => return self.read_mail(mail),
+            Happening::Nothing => {}
+            Happening::Ended => return Err(WorkEnd::Ended),
+        }
+        Ok(())
+    }
+
+    fn mark(&mut self, line: usize, readable: bool, writable: bool) {
+        let is_marked = self.clients.mark(line, readable, writable)
+            || self.servers.mark(line, readable, writable);
+        if !is_marked {
+            let _ = self.peers.mark(line, readable, writable);
+        }
+    }
+
+    // A connection that was dialed is there.
+    fn opened(&mut self, line: usize, what: Dial) -> Result<(), WorkEnd> {
+        match what {
+            Dial::Network(network) => {
+                match self.servers.begin(&mut self.desk, line, network) {
+                    Some(effects) => self.do_server(line, effects),
+                    None => Ok(()),
+                }
+            }
+            Dial::Peer(place) => {
+                self.peers.begin(&mut self.desk, line, Some(place));
+                Ok(())
+            }
+        }
+    }
+
+    // A connection that was dialed could not be made.
+    fn refused(&mut self, line: usize, what: Dial) {
+        self.desk.port.close(line);
+        match what {
+            Dial::Network(network) => self.servers.retry(&mut self.desk, network),
+            Dial::Peer(place) => self.peers.retry(&mut self.desk, place),
+        }
+    }
+
+    // What is due now.
+    fn look_after_timers(&mut self) -> Result<(), WorkEnd> {
+        for _ in 0..TIMERS {
+            let Some(timer) = self.desk.timers.take_due(self.desk.site.now) else {
+                return Ok(());
+            };
+            self.look_after(timer);
+        }
+        Ok(())
+    }
+
+    fn look_after(&mut self, timer: Timer) {
+        let Worker {
+            node,
+            desk,
+            clients,
+            servers,
+            peers,
+            ..
+        } = self;
+        match timer {
+            Timer::RetryNetwork(network) => servers.dial(desk, network),
+            Timer::QuietUpstream(line) => {
+                if let Some(standing) = servers.check_quiet(desk, line) {
+                    self.spread(standing, false);
+                }
+            }
+            Timer::Unregistered(line) => {
+                clients.check_registered(desk, line);
+                peers.check_greeted(desk, line);
+            }
+            Timer::RetryPeer(place) => peers.dial(desk, place),
+            Timer::UnansweredPacket(line) => peers.check_answered(desk, line, &mut node.pass),
+            Timer::Floors => self.put_floors(),
+        }
+    }
+}
