@@ -1,0 +1,90 @@
+//! What happens at a port.
+
+/// What happens.
+#[derive(Clone, Copy)]
+pub enum Act<'a> {
+    /// So many milliseconds pass.
+    Wait(u64),
+    /// Another worker tells this.
+    Mail(&'a str),
+    /// The port fails.
+    Fail,
+    /// The clock can't be read any more.
+    Stop,
+    /// Something happens to a connection.
+    To(usize, Turn<'a>),
+}
+
+/// What happens to a connection.
+#[derive(Clone, Copy)]
+pub enum Turn<'a> {
+    /// A client comes, to whom so many bytes may be owed.
+    Client(usize),
+    /// A node comes.
+    Peer,
+    /// The connection that was begun is there.
+    Opens,
+    /// The connection that was begun can't be made.
+    Refused,
+    /// A line comes.
+    Line(&'a str),
+    /// A line comes, with whatever comes next.
+    Early(&'a str),
+    /// Bytes come that end no line.
+    Part(&'a str),
+    /// A line of so many bytes comes.
+    Long(usize),
+    /// The other end sends nothing more.
+    Ends,
+    /// The other end is gone.
+    Gone,
+    /// The other end takes so many bytes at once, and so many in all.
+    Takes(usize, usize),
+}
+
+/// A word, and what stands behind the space after it.
+pub fn cut(text: &str) -> (&str, &str) {
+    text.split_once(" ").unwrap_or((text, ""))
+}
+
+/// A number; None where it isn't one.
+pub fn number_in(text: &str) -> Option<usize> {
+    text.parse::<usize>().ok()
+}
+
+fn takes_in(text: &str) -> Option<Turn<'_>> {
+    match text.split_once(" of ") {
+        Some((at_once, most)) => Some(Turn::Takes(number_in(at_once)?, number_in(most)?)),
+        None => Some(Turn::Takes(number_in(text)?, usize::MAX)),
+    }
+}
+
+fn turn_in(text: &str) -> Option<Turn<'_>> {
+    let (word, rest) = cut(text);
+    match word {
+        "client" => Some(Turn::Client(number_in(rest)?)),
+        "peer" => Some(Turn::Peer),
+        "opens" => Some(Turn::Opens),
+        "refused" => Some(Turn::Refused),
+        "<" => Some(Turn::Line(rest)),
+        "+" => Some(Turn::Early(rest)),
+        "." => Some(Turn::Part(rest)),
+        "long" => Some(Turn::Long(number_in(rest)?)),
+        "ends" => Some(Turn::Ends),
+        "gone" => Some(Turn::Gone),
+        "takes" => takes_in(rest),
+        _ => None,
+    }
+}
+
+/// The act that a line of a case spells.
+pub fn act_in(text: &str) -> Option<Act<'_>> {
+    let (word, rest) = cut(text);
+    match word {
+        "wait" => Some(Act::Wait(rest.parse::<u64>().ok()?)),
+        "mail" => Some(Act::Mail(rest)),
+        "fail" => Some(Act::Fail),
+        "stop" => Some(Act::Stop),
+        _ => Some(Act::To(number_in(word)?, turn_in(rest)?)),
+    }
+}

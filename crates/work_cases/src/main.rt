@@ -1,0 +1,136 @@
+//! Plays a worker over a port of memory, and compares what comes of each act with what is to come of it. The words name
+//! files of cases:
+//!
+//!     == name of the case
+//!     with posts 120, clock 5000, networks 3, peers n0 n2, places 2, worker 1, shut, alone
+//!     act
+//!         what comes of it
+//!
+//! The second line may be missing, and each of its parts. At first the node n1, in its incarnation 7, holds so many posts of
+//! `#a`, of the network `net` of the account `demo`: m0, m1 and so on, a second apart from the beginning of 1970. It has the
+//! first of the networks demo/net, demo/two and eve/net, the peer n0, four places for clients, one worker and an open gate,
+//! and the clock is 1,000 seconds after 1970 began. `worker 1` is the second of two workers. With `shut` the gate lets
+//! nothing through, and with `alone` no connection can be begun.
+//!
+//! Acts begin a line:
+//!
+//!     1 client 1024       a client comes by connection 1, to whom 1,024 bytes may be owed
+//!     1 peer              a node comes
+//!     10 opens            the connection that was begun under that number is there
+//!     10 refused          it can't be made
+//!     1 < line            a line comes, with CR LF
+//!     1 + line            a line comes, with what comes next
+//!     1 . bytes           bytes come that end no line
+//!     1 long 9000         a line of so many bytes comes
+//!     1 ends              the other end sends nothing more
+//!     1 gone              the other end is gone
+//!     1 takes 100         the other end takes 100 bytes at once
+//!     1 takes 100 of 450  and no more than 450 in all
+//!     wait 60000          milliseconds pass
+//!     mail ..             another worker tells something
+//!     fail                the port fails
+//!     stop                the clock can't be read any more
+//!
+//! What comes of an act stands behind it, four spaces in. First comes, in its order, which place a client got, what the
+//! operator was told, which connections were begun, and what was told to the other worker; then, connection by connection,
+//! the lines that were sent, behind `>`, bytes that end no line, behind `.`, and whether it was closed. The last line of a
+//! case says how the work ended. A NUL is spelled `␀`, and a CR `␍`.
+#![tactic(auto)]
+
+ghost use Rattle.shared_node.specs.Names.{IsNamed};
+
+mod act;
+mod line;
+mod mail;
+mod play;
+mod port;
+mod setting;
+mod station;
+
+use anyhow::Error;
+use play::played;
+use setting::{Setting, USUAL, setting_in};
+use shared_node::{Naming, Unnamed};
+use std::io::Print;
+use std::marker::Brand;
+use std::sync::Wait;
+use std::{env, fs};
+
+/// What a worker begins with, and what happens and is to come of it.
+#[derive(Clone, Copy)]
+struct Case<'a> {
+    name: &'a str,
+    setting: Setting<'a>,
+    script: &'a str,
+}
+
+/// The case that a part of a file spells: None without its marks.
+fn case_in(part: &str) -> Option<Case<'_>> {
+    let (name, rest) = part.split_once("\n")?;
+    let Some(rest) = rest.strip_prefix("with ") else {
+        return Some(Case {
+            name,
+            setting: USUAL,
+            script: rest,
+        });
+    };
+    let (parts, script) = rest.split_once("\n")?;
+    Some(Case {
+        name,
+        setting: setting_in(parts),
+        script,
+    })
+}
+
+/// Plays a case, and says whether it came to what it is to come to.
+fn is_right<J: Naming, R: Print + Wait + AllocGlobal + Copy + Drop>(
+    rt: &R,
+    name: Unnamed,
+    case: Case<'_>,
+) -> Result<bool, Error>
+    requires { IsNamed J.book J.name J.parts name }
+{
+    let told = played::<J, R>(rt, name, case.setting, case.script)?;
+    if told.as_slice() == case.script.as_bytes() {
+        return Ok(true);
+    }
+    let text = String::from_utf8_lossy(rt.alloc(), &told)?;
+    println!(rt; "{} came to:\n{}", case.name, text)?;
+    Ok(false)
+}
+
+fn is_part_right<R: Print + Wait + AllocGlobal + Copy + Drop>(
+    rt: &R,
+    part: &str,
+) -> Result<bool, Error> {
+    match case_in(part) {
+        Some(case) => is_right::<Brand, R>(rt, Unnamed::new(1), case),
+        None => Ok(false),
+    }
+}
+
+/// Plays the cases of a file, and says how many there were and how many came to something else.
+fn play_all<R: Print + Wait + AllocGlobal + Copy + Drop>(
+    rt: &R,
+    path: &str,
+    text: &str,
+) -> Result<(), Error> {
+    let mut count: u64 = 0;
+    let mut wrong: u64 = 0;
+    for part in text.split("== ").skip(1) {
+        count = count.saturating_add(1);
+        if !is_part_right(rt, part)? {
+            wrong = wrong.saturating_add(1);
+        }
+    }
+    println!(rt; "{path}: {count} cases, {wrong} wrong")?;
+    Ok(())
+}
+
+fn main(rt: HostRuntime) -> Result<(), Error> {
+    for path in env::args(&rt)?.skip(1) {
+        let text = fs::read_to_string(&rt, path.as_str())?;
+        play_all(&rt, path.as_str(), text.as_str())?;
+    }
+    Ok(())
+}
