@@ -1,0 +1,122 @@
+//! What other threads hand in to a worker.
+use attach::{Attachment, Boxed};
+use bnc_ports::{Arrival, Mail, PortFault};
+use crossbeam_channel::Sender;
+use mio::Waker;
+use mio::net::TcpStream;
+use std::alloc::AllocError;
+use std::net::SocketAddr;
+use std::sync::{Arc, Wait};
+
+/// What reaches a worker from another thread.
+#[derive(Drop)]
+pub enum Parcel {
+    /// A client, whose attachment was sent to the lobby under the ticket before.
+    Client {
+        stream: TcpStream,
+        address: SocketAddr,
+        ticket: u64,
+    },
+    /// A node that connected to this one.
+    Peer {
+        stream: TcpStream,
+        address: SocketAddr,
+    },
+    /// What another worker tells.
+    Mail(Mail),
+    /// The worker is to end.
+    Stop,
+}
+
+/// Where parcels for one worker are handed in.
+#[derive(Drop)]
+pub struct Slot {
+    parcels: Sender<Parcel>,
+    waker: Arc<Waker>,
+}
+
+impl Slot {
+    /// A slot at that channel, to whose other end the waker wakes.
+    pub fn new(parcels: Sender<Parcel>, waker: Arc<Waker>) -> Slot {
+        Slot { parcels, waker }
+    }
+
+    /// Another owner of the same slot.
+    pub fn try_clone(&self) -> Result<Slot, AllocError> {
+        Ok(Slot {
+            parcels: self.parcels.clone()?,
+            waker: self.waker.clone()?,
+        })
+    }
+
+    /// Hands a parcel in, and wakes the worker then, so that it finds the parcel. A wake that the system refuses costs time
+    /// alone: a worker looks for parcels at least once a second.
+    pub fn hand<R: Wait>(&self, rt: &R, parcel: Parcel) -> Result<(), PortFault> {
+        if self.parcels.send(rt, parcel).is_err() {
+            return Err(PortFault);
+        }
+        let _ = self.waker.wake();
+        Ok(())
+    }
+}
+
+/// Where clients for one worker are handed in.
+#[derive(Drop)]
+pub struct Door<X = Boxed> {
+    slot: Slot,
+    arrivals: Sender<Arrival<X>>,
+    ticket: u64,
+}
+
+impl<X: Attachment> Door<X> {
+    /// A door to the worker of that slot, whose lobby is at the other end of the channel.
+    pub fn new(slot: Slot, arrivals: Sender<Arrival<X>>) -> Door<X> {
+        Door {
+            slot,
+            arrivals,
+            ticket: 0,
+        }
+    }
+
+    /// Hands a client in: its attachment first, and then its stream.
+    pub fn hand_client<R: Wait>(
+        &mut self,
+        rt: &R,
+        stream: TcpStream,
+        address: SocketAddr,
+        attachment: X,
+    ) -> Result<(), PortFault> {
+        self.ticket = self.ticket.wrapping_add(1);
+        let ticket = self.ticket;
+        if self
+            .arrivals
+            .send(rt, Arrival { ticket, attachment })
+            .is_err()
+        {
+            return Err(PortFault);
+        }
+        self.slot.hand(
+            rt,
+            Parcel::Client {
+                stream,
+                address,
+                ticket,
+            },
+        )
+    }
+
+    /// Hands a node that connected in.
+    pub fn hand_peer<R: Wait>(
+        &self,
+        rt: &R,
+        stream: TcpStream,
+        address: SocketAddr,
+    ) -> Result<(), PortFault> {
+        self.slot.hand(rt, Parcel::Peer { stream, address })
+    }
+
+    /// Tells the worker to end.
+    pub fn stop<R: Wait>(&self, rt: &R) {
+        let _ = self.slot.hand(rt, Parcel::Stop);
+    }
+}
