@@ -1,0 +1,16 @@
+//! A node over sockets: its listeners, the reception that takes connections in, and the workers that serve them.
+//!
+//! [`prepare`] opens the sockets of a configuration, and [`run_node`] runs the node. The caller puts the clients into boxes.
+#![tactic(auto)]
+
+mod crew;
+mod fault;
+mod listeners;
+mod node;
+mod reception;
+mod stations;
+
+pub use bnc_work::WorkEnd;
+pub use fault::ServeFault;
+pub use node::{Front, Prepared, prepare, run_node};
+pub use shared_node::Unnamed;

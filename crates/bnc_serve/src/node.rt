@@ -1,0 +1,139 @@
+//! A node: what is made before it runs, and its run.
+ghost use Rattle.shared_node.specs.Names.{IsNamed};
+
+use crate::crew::Crew;
+use crate::fault::ServeFault;
+use crate::listeners::Listeners;
+use crate::reception::{Reception, receive};
+use attach::{Attachment, Boxed, Places, RingClient};
+use bnc_ports::{Gate, Port};
+use bnc_sockets::{Door, SocketPort, now_ms};
+use bnc_work::{Station, WorkEnd, work_all};
+use node_config::Config;
+use shared_node::{Naming, Pass, SharedNode, Unnamed};
+use std::alloc::{AllocError, Global};
+use std::io::Eprint;
+use std::net::Net;
+use std::sync::Wait;
+use std::thread;
+use std::thread::Threads;
+use std::time::Clock;
+
+/// Where connections come in, and where they are handed to the workers.
+#[derive(Drop)]
+pub struct Front<X = Boxed> {
+    listeners: Listeners,
+    doors: Vec<Door<X>>,
+    // How many clients may be there at once.
+    places: usize,
+    // How many bytes may be owed to a client.
+    bound: usize,
+}
+
+/// What is made before a node runs.
+#[derive(Drop)]
+pub struct Prepared<R: Wait + Drop, X: Drop = Boxed> {
+    /// Where connections come in.
+    pub front: Front<X>,
+    /// What each worker begins with, but for its pass.
+    pub posts: Vec<(Station<X>, SocketPort<R>)>,
+}
+
+/// Listens at the addresses of the configuration, and makes what its workers begin with. The node's incarnation is the clock's
+/// milliseconds.
+pub fn prepare<R: Net + Wait + Clock + Eprint + AllocGlobal + Copy + Drop, X: Attachment>(
+    rt: &R,
+    config: &Config,
+) -> Result<Prepared<R, X>, ServeFault> {
+    let listeners = Listeners::open(rt, config.listen, config.peer_listen)?;
+    let Some(incarnation) = now_ms(rt) else {
+        return Err(ServeFault::System);
+    };
+    let Crew { posts, doors } = Crew::new(rt, config, incarnation)?;
+    let front = Front {
+        listeners,
+        doors,
+        places: config.limits.places,
+        bound: config.limits.bound,
+    };
+    Ok(Prepared { front, posts })
+}
+
+// A gate that is always open.
+#[derive(Drop)]
+struct Open;
+
+impl Gate for Open {
+    fn before_answer(&self, _: usize) -> bool {
+        true
+    }
+}
+
+// What a worker begins with.
+type Job<J, X, P> = (Pass<J>, Station<X>, P);
+
+fn jobs_of<J: Naming, X: Attachment, P: Port>(
+    alloc: Global,
+    passes: Vec<Pass<J>>,
+    posts: Vec<(Station<X>, P)>,
+) -> Result<Vec<Job<J, X, P>>, AllocError> {
+    let mut jobs = Vec::new(alloc);
+    for (pass, (station, port)) in passes.into_iter().zip(posts) {
+        jobs.push((pass, station, port)).map_err(AllocError::from)?;
+    }
+    Ok(jobs)
+}
+
+/// Runs a node of that name, which is to have a pass for each post. Connections are taken in on a thread of its own, and
+/// each worker runs on one of its own. It answers how the workers ended, once all have. A worker that ends makes the others
+/// end.
+///
+/// `boxed` makes of a client what the workers' halls keep; none where there is no memory.
+pub fn run_node<J, R, X, P, F>(
+    rt: &R,
+    front: Front<X>,
+    posts: Vec<(Station<X>, P)>,
+    name: Unnamed,
+    boxed: F,
+) -> Result<Vec<WorkEnd>, ServeFault>
+where
+    J: Naming + Send + Sync,
+    R: Threads + Wait + Clock + Eprint + AllocGlobal + Copy + Send + Sync + Drop + 'static,
+    X: Attachment + Send + 'static,
+    P: Port + Send,
+    F: Fn(RingClient) -> Option<X> + Send + Drop + 'static,
+    requires named { IsNamed J.book J.name J.parts name }
+    requires callable { F.IsAlwaysCallable boxed }
+{
+    let alloc = rt.alloc();
+    let (node, passes) = SharedNode::<J, &R>::new(alloc, rt, name)?;
+    let jobs = jobs_of(alloc, passes, posts)?;
+    let Front {
+        listeners,
+        doors,
+        places,
+        bound,
+    } = front;
+    let clerk = Places::new(alloc, places)?;
+    listeners.tell(rt);
+    let reception = Reception::new(listeners, clerk, bound, doors);
+    if !receive_in_a_thread(*rt, reception, boxed) {
+        return Err(ServeFault::System);
+    }
+    let ends = work_all(rt, &node, jobs, &Open)?;
+    Ok(ends)
+}
+
+// Takes connections in on a thread of its own. False where the system gives no thread.
+fn receive_in_a_thread<R, X, F>(rt: R, reception: Reception<X>, boxed: F) -> bool
+where
+    R: Threads + Wait + Clock + Eprint + AllocGlobal + Copy + Send + Drop + 'static,
+    X: Attachment + Send + 'static,
+    F: Fn(RingClient) -> Option<X> + Send + Drop + 'static,
+    requires { F.IsAlwaysCallable boxed }
+{
+    let run = move ||
+        requires { F.IsAlwaysCallable boxed }
+    { receive(&rt, reception, &boxed) };
+    thread::spawn(&rt, run).is_ok()
+}
