@@ -1,17 +1,24 @@
-//! The bouncer. `bnc replay <account> <network> <nick>` answers the script on standard input.
+//! The bouncer. `bnc replay <account> <network> <nick>` answers the script on standard input; `bnc serve <config>` runs a
+//! node.
 #![tactic(auto)]
 
 ghost use Rattle.std.specs.Prelude.{◌≡◌, ◌≢◌, ◌↔◌, None, Ok, Err, IfOk, IfErr, IsTrue};
 ghost use Rattle.chat_change.specs.Faults.{buffer_fault};
 ghost use Rattle.bnc.specs.Status.{status_of};
 
+use attach::{Boxed, RingClient};
+use bnc_serve::{Prepared, Unnamed, prepare, run_node};
 use bnc_server::{ReplayFault, replay};
 use chat_change::{Buffer, ChangeFault};
+use node_config::{Config, ConfigFault};
+use serving::{config_at, end_of_run, path_in};
 use std::alloc::Global;
 use std::env;
 use std::io::{BufWriter, ErrorKind, Read, Write};
+use std::marker::Brand;
 use std::process::ExitCode;
 
+mod serving;
 #[cfg(test)]
 mod tests;
 
@@ -24,8 +31,11 @@ enum End {
     Usage,
     /// There was no memory.
     NoMemory,
-    /// Standard input or output failed, or a node can take no further change.
+    /// Standard input or output failed, or a node can take no further change; the file can't be read, or the system gives no
+    /// socket or thread, or a worker failed.
     Device,
+    /// The configuration is refused.
+    Config(ConfigFault),
 }
 
 impl End {
@@ -36,6 +46,7 @@ impl End {
             End::Usage => 2,
             End::NoMemory => 3,
             End::Device => 4,
+            End::Config(_) => 5,
         }
     }
 
@@ -45,6 +56,7 @@ impl End {
             End::Usage => USAGE,
             End::NoMemory => "no memory",
             End::Device => "read or write failed",
+            End::Config(_) => "config refused",
         }
     }
 }
@@ -148,20 +160,56 @@ fn words(rt: &HostRuntime) -> Result<Vec<String>, End> {
     }
 }
 
-fn run(rt: &HostRuntime) -> Result<(), End> {
+/// Does what the words say but for a node, which `main` runs: of that it answers the configuration.
+fn command(rt: &HostRuntime) -> Result<Option<Config>, End> {
     let words = words(rt)?;
+    if let Some(path) = path_in(&words) {
+        let config = config_at(rt, path)?;
+        return Ok(Some(config));
+    }
     match chosen(rt.alloc(), &words) {
-        Ok(names) => answer(rt.alloc(), &mut rt.stdin(), rt.stdout(), names),
+        Ok(names) => {
+            answer(rt.alloc(), &mut rt.stdin(), rt.stdout(), names)?;
+            Ok(None)
+        }
         Err(end) => Err(end),
     }
 }
 
-fn main(rt: HostRuntime) -> ExitCode {
-    match run(&rt) {
-        Ok(()) => ExitCode::from(0),
-        Err(end) => {
-            let _ = rt.eprintln(end.text());
-            ExitCode::from(end.status())
-        }
+/// Tells why the program ends: in a line, and for a configuration in a second one what is wrong there.
+fn exit(rt: &HostRuntime, done: Result<(), End>) -> ExitCode {
+    let Err(end) = done else {
+        return ExitCode::from(0);
+    };
+    let _ = rt.eprintln(end.text());
+    if let End::Config(fault) = end {
+        let _ = rt.eprintln(fault);
     }
+    ExitCode::from(end.status())
+}
+
+fn main(rt: HostRuntime) -> ExitCode {
+    let config = match command(&rt) {
+        Ok(Some(config)) => config,
+        Ok(None) => return ExitCode::from(0),
+        Err(end) => return exit(&rt, Err(end)),
+    };
+    let Prepared { front, posts } = match prepare(&rt, &config) {
+        Ok(prepared) => prepared,
+        Err(fault) => return exit(&rt, Err(End::from(fault))),
+    };
+    let alloc = rt.alloc();
+    // Only here may the boxes of clients be made.
+    let boxed = move |client: RingClient| -> Option<Boxed> {
+        match Box::new(alloc, client) {
+            Ok(client) => {
+                let client: Boxed = client;
+                Some(client)
+            }
+            Err(_) => None,
+        }
+    };
+    let name = Unnamed::new(config.limits.workers);
+    let run = run_node::<Brand, _, _, _, _>(&rt, front, posts, name, boxed);
+    exit(&rt, end_of_run(run))
 }

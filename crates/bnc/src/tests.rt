@@ -1,7 +1,9 @@
 //! The words of the program, and how it ends.
 
 use super::{End, answer, chosen, end_of, end_without_words, words};
+use crate::serving::{config_at, path_in};
 use bnc_server::ReplayFault;
+use node_config::ConfigFault;
 use std::alloc::{AllocError, Global};
 use std::io::ErrorKind;
 use test_devices::{Sink, Source};
@@ -36,6 +38,34 @@ fn other_words_are_refused(rt: HostRuntime) {
             Ok(_) => assert!(rt; false, "at {row}"),
             Err(end) => assert!(rt; end == End::Usage, "at {row}"),
         }
+    }
+}
+
+#[test]
+fn configurations_are_named(rt: HostRuntime) {
+    let rows: [(&str, bool); 5] = [
+        ("serve bnc.toml", true),
+        ("serve", false),
+        ("serve bnc.toml more", false),
+        ("Serve bnc.toml", false),
+        ("replay bnc.toml", false),
+    ];
+    for (row, is_named) in rows {
+        let words = words_of(rt.alloc(), row).expect(&rt, "memory");
+        assert!(rt; path_in(&words).is_some() == is_named, "at {row}");
+    }
+}
+
+// A file that isn't there is told as a device that failed; one with no keys is refused.
+#[test]
+fn configurations_are_read(rt: HostRuntime) {
+    match config_at(&rt, "no/such/file") {
+        Err(End::Device) => {}
+        _ => assert!(rt; false, "no file"),
+    }
+    match config_at(&rt, "/dev/null") {
+        Err(End::Config(ConfigFault::BadKey(_))) => {}
+        _ => assert!(rt; false, "an empty file"),
     }
 }
 
@@ -110,6 +140,9 @@ fn each_end_has_its_status(rt: HostRuntime) {
     assert_eq!(rt; End::Usage.status(), 2);
     assert_eq!(rt; End::NoMemory.status(), 3);
     assert_eq!(rt; End::Device.status(), 4);
+    let refused = End::Config(ConfigFault::BadText(3));
+    assert_eq!(rt; refused.status(), 5);
+    assert_eq!(rt; refused.text(), "config refused");
     assert_eq!(rt;
         End::Usage.text(),
         "usage: bnc replay <account> <network> <nick> | bnc serve <config>"

@@ -1,0 +1,354 @@
+#!/usr/bin/env python3
+"""Measures a running bouncer: what it relays and plays back for each second of processor time, how long a line takes, and
+what a message and an idle client cost in memory. It plays the network's server and the clients itself, over loopback.
+
+    bench/beside_znc.py bnc PROGRAM        starts PROGRAM serve with a configuration of its own
+    bench/beside_znc.py znc                starts Debian's znc with a configuration of its own
+
+It prints one line a measure. Figures are of use beside those of the other bouncer in the same run of the machine alone.
+"""
+import os
+import selectors
+import shutil
+import socket
+import subprocess
+import sys
+import tempfile
+import time
+
+SECRET = "s3cret"
+SERVER_PORT = 16700
+BOUNCER_PORT = 16667
+TICK = os.sysconf("SC_CLK_TCK")
+
+BNC = """name = "bnc.example"
+node = "n1"
+listen = "127.0.0.1:{bouncer}"
+peer_listen = "127.0.0.1:17000"
+peer_word = "green"
+workers = 1
+places = 4096
+bound = 1048576
+retain_days = 0
+
+[[account]]
+name = "demo"
+secret = "{secret}"
+
+[[network]]
+account = "demo"
+name = "net"
+address = "127.0.0.1:{server}"
+nick = "al"
+user = "al"
+channels = ["#a"]
+"""
+
+ZNC = """Version = 1.8.2
+AnonIPLimit = 5000
+ConnectDelay = 0
+MaxBufferSize = 100000
+ProtectWebSessions = true
+<Listener l>
+    Port = {bouncer}
+    IPv4 = true
+    IPv6 = false
+    SSL = false
+    AllowIRC = true
+    AllowWeb = false
+</Listener>
+<User demo>
+    Admin = true
+    Nick = al
+    AltNick = al_
+    Ident = al
+    RealName = al
+    ChanBufferSize = 1000
+    QueryBufferSize = 1000
+    AutoClearChanBuffer = false
+    MultiClients = true
+    NoTrafficTimeout = 3600
+    <Network net>
+        FloodBurst = 9999
+        FloodRate = 999
+        JoinDelay = 0
+        Server = 127.0.0.1 {server}
+        <Chan #a>
+        </Chan>
+    </Network>
+    <Pass password>
+        Method = plain
+        Hash = {secret}
+        Salt = x
+    </Pass>
+</User>
+"""
+
+
+class Bouncer:
+    """The bouncer under measure, as a process."""
+
+    def __init__(self, kind, program):
+        self.kind = kind
+        self.home = tempfile.mkdtemp(prefix="bench-")
+        if kind == "bnc":
+            path = os.path.join(self.home, "one.toml")
+            text = BNC.format(bouncer=BOUNCER_PORT, server=SERVER_PORT, secret=SECRET)
+            command = [program, "serve", path]
+        else:
+            path = os.path.join(self.home, "configs", "znc.conf")
+            os.makedirs(os.path.dirname(path))
+            text = ZNC.format(bouncer=BOUNCER_PORT, server=SERVER_PORT, secret=SECRET)
+            command = ["znc", "--foreground", "--datadir", self.home]
+        with open(path, "w") as file:
+            file.write(text)
+        self.log = open(os.path.join(self.home, "log"), "w")
+        # znc run by root waits for half a minute, so neither is run by root.
+        nobody = {"user": 65534, "group": 65534} if os.getuid() == 0 else {}
+        if nobody:
+            for folder, _, files in os.walk(self.home):
+                for name in [folder] + [os.path.join(folder, file) for file in files]:
+                    os.chown(name, 65534, 65534)
+        self.process = subprocess.Popen(command, stdout=self.log, stderr=self.log, **nobody)
+
+    def seconds(self):
+        """Processor seconds so far."""
+        with open(f"/proc/{self.process.pid}/stat") as file:
+            fields = file.read().rsplit(")", 1)[1].split()
+        return (int(fields[11]) + int(fields[12])) / TICK
+
+    def resident(self):
+        """Resident memory in bytes."""
+        with open(f"/proc/{self.process.pid}/statm") as file:
+            return int(file.read().split()[1]) * os.sysconf("SC_PAGE_SIZE")
+
+    def login(self):
+        if self.kind == "bnc":
+            return f"CAP REQ :batch server-time message-tags draft/chathistory\r\nPASS {SECRET}\r\nNICK al\r\nUSER demo/net 0 * :al\r\nCAP END\r\n"
+        return f"PASS demo/net:{SECRET}\r\nCAP REQ :batch server-time message-tags\r\nNICK al\r\nUSER al 0 * :al\r\nCAP END\r\n"
+
+    def stop(self):
+        self.process.kill()
+        self.process.wait()
+        if os.environ.get("KEEP"):
+            print(self.home)
+        else:
+            shutil.rmtree(self.home)
+
+
+class Server:
+    """The network's server: it takes one connection and greets it."""
+
+    def __init__(self):
+        self.listener = socket.create_server(("127.0.0.1", SERVER_PORT))
+        self.socket = None
+
+    def accept(self):
+        self.listener.settimeout(30)
+        self.socket, _ = self.listener.accept()
+        self.socket.settimeout(30)
+        held = b""
+        while True:
+            held += self.socket.recv(4096)
+            *lines, held = held.split(b"\n")
+            for line in lines:
+                words = line.strip().split(b" ")
+                if words[:2] == [b"CAP", b"LS"]:
+                    self.send(b":srv CAP * LS :server-time message-tags\r\n")
+                elif words[:2] == [b"CAP", b"REQ"]:
+                    self.send(b":srv CAP * ACK :" + line.split(b":", 1)[1].strip() + b"\r\n")
+                elif words[:2] == [b"CAP", b"END"]:
+                    self.send(b":srv 001 al :Welcome\r\n:srv 422 al :No MOTD\r\n")
+                elif words[0] == b"JOIN":
+                    self.send(b":al!al@h JOIN #a\r\n:srv 353 al = #a :al bob\r\n:srv 366 al #a :End\r\n")
+                    return
+
+    def send(self, data):
+        self.socket.sendall(data)
+
+
+def line(number, body):
+    return b":bob!bob@host.example PRIVMSG #a :%08d %s\r\n" % (number, body)
+
+
+class Clients:
+    """Attached clients, and how many messages each has had."""
+
+    def __init__(self, bouncer, count):
+        self.selector = selectors.DefaultSelector()
+        self.seen = {}
+        self.tail = {}
+        self.stamps = []
+        self.sockets = []
+        self.bouncer = bouncer
+        for _ in range(count):
+            self.add()
+
+    def add(self):
+        client = socket.create_connection(("127.0.0.1", BOUNCER_PORT))
+        client.sendall(self.bouncer.login().encode())
+        client.setblocking(False)
+        self.selector.register(client, selectors.EVENT_READ)
+        self.seen[client] = 0
+        self.tail[client] = b""
+        self.sockets.append(client)
+
+    def turn(self, patience, stamps=False):
+        """Reads what is there, and answers whether anything was."""
+        ready = self.selector.select(patience)
+        for key, _ in ready:
+            client = key.fileobj
+            data = client.recv(1 << 18)
+            if not data:
+                raise SystemExit("the bouncer closed a client")
+            data = self.tail[client] + data
+            end = data.rfind(b"\n") + 1
+            self.tail[client] = data[end:]
+            self.seen[client] += data[:end].count(b" PRIVMSG #a ")
+            if stamps:
+                now = time.monotonic_ns()
+                for text in data[:end].split(b"\r\n"):
+                    if b" at=" in text:
+                        self.stamps.append(now - int(text.rsplit(b" at=", 1)[1]))
+        return bool(ready)
+
+    def settle(self, quiet=0.5):
+        """Reads until nothing comes for a while."""
+        while self.turn(quiet):
+            pass
+
+    def wait_for(self, count, limit=120):
+        until = time.monotonic() + limit
+        while min(self.seen.values()) < count:
+            self.turn(1)
+            if time.monotonic() > until:
+                raise SystemExit(f"only {min(self.seen.values())} of {count} messages came")
+
+    def reset(self):
+        for client in self.seen:
+            self.seen[client] = 0
+
+    def close(self):
+        for client in self.sockets:
+            client.close()
+
+
+def wait_for_port(port):
+    for _ in range(600):
+        try:
+            socket.create_connection(("127.0.0.1", port)).close()
+            return
+        except OSError:
+            time.sleep(0.1)
+    raise SystemExit(f"nothing listens at {port}")
+
+
+def flood(server, clients, count, piece=200):
+    """Sends messages in pieces and waits for each piece, so that nobody overruns. Answers what was sent."""
+    body = b"x" * 40
+    for first in range(0, count, piece):
+        data = b"".join(line(i, body) for i in range(first, min(first + piece, count)))
+        server.send(data)
+        clients.wait_for(min(first + piece, count))
+
+
+def relay(bouncer, server, attached, count):
+    clients = Clients(bouncer, attached)
+    clients.settle()
+    clients.reset()
+    before = bouncer.seconds()
+    flood(server, clients, count)
+    spent = bouncer.seconds() - before
+    clients.close()
+    time.sleep(0.5)
+    rate = count * attached / spent if spent else float("inf")
+    print(f"{bouncer.kind} relay to {attached} clients: {rate:.0f} lines a processor second ({spent:.2f} s)", flush=True)
+
+
+def latency(bouncer, server, count=2000, pause=0.001):
+    clients = Clients(bouncer, 1)
+    clients.settle()
+    clients.reset()
+    for number in range(count):
+        server.send(line(number, b"at=%d" % time.monotonic_ns()))
+        until = time.monotonic() + pause
+        while time.monotonic() < until:
+            clients.turn(0.0002, stamps=True)
+    clients.wait_for(count) if min(clients.seen.values()) < count else None
+    clients.close()
+    stamps = sorted(clients.stamps)
+    half, most = stamps[len(stamps) // 2], stamps[len(stamps) * 99 // 100]
+    print(f"{bouncer.kind} latency: p50 {half / 1000:.0f} us, p99 {most / 1000:.0f} us", flush=True)
+
+
+def playback(bouncer, rounds=100):
+    """Reads the newest messages again and again: pages of 100, or, of znc, what it plays at each attach."""
+    if bouncer.kind == "bnc":
+        clients = Clients(bouncer, 1)
+        clients.settle()
+        clients.reset()
+        before = bouncer.seconds()
+        for done in range(rounds * 10):
+            clients.sockets[0].sendall(b"CHATHISTORY LATEST #a * 100\r\n")
+            clients.wait_for((done + 1) * 100)
+        spent = bouncer.seconds() - before
+        played = rounds * 10 * 100
+        clients.close()
+    else:
+        before = bouncer.seconds()
+        played = 0
+        for _ in range(rounds):
+            clients = Clients(bouncer, 1)
+            clients.wait_for(1000)
+            played += min(clients.seen.values())
+            clients.close()
+        spent = bouncer.seconds() - before
+    print(f"{bouncer.kind} playback: {played / spent:.0f} lines a processor second ({spent:.2f} s)", flush=True)
+
+
+def idle_clients(bouncer, count=500):
+    before = bouncer.resident()
+    clients = Clients(bouncer, count)
+    clients.settle(1)
+    after = bouncer.resident()
+    print(f"{bouncer.kind} idle client: {(after - before) / count:.0f} bytes resident", flush=True)
+    clients.close()
+    time.sleep(1)
+
+
+def message_memory(bouncer, server, count=20000):
+    """What a message costs. Of znc only what its buffer of 1,000 keeps."""
+    clients = Clients(bouncer, 1)
+    clients.settle()
+    clients.reset()
+    before = bouncer.resident()
+    flood(server, clients, count)
+    after = bouncer.resident()
+    print(f"{bouncer.kind} message: {(after - before) / count:.0f} bytes resident", flush=True)
+    clients.close()
+
+
+def main():
+    kind = sys.argv[1]
+    server = Server()
+    bouncer = Bouncer(kind, sys.argv[2] if kind == "bnc" else None)
+    try:
+        server.accept()
+        wait_for_port(BOUNCER_PORT)
+        time.sleep(0.5)
+        if kind == "bnc":
+            idle_clients(bouncer)
+        relay(bouncer, server, 1, 20000)
+        relay(bouncer, server, 10, 10000)
+        relay(bouncer, server, 100, 4000)
+        latency(bouncer, server)
+        playback(bouncer)
+        if kind == "znc":
+            idle_clients(bouncer)
+        message_memory(bouncer, server)
+    finally:
+        bouncer.stop()
+
+
+if __name__ == "__main__":
+    main()

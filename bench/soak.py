@@ -1,0 +1,119 @@
+#!/usr/bin/env python3
+"""Lets clients come and go at a running bouncer, and says what it holds before and after: descriptors, memory, and that a
+client still gets in.
+
+    bench/soak.py PROGRAM [SECONDS [CLIENTS]]      600 seconds and 1,000 clients, where nothing else is said
+
+Some clients register and ask for pages, some leave in the middle of a page, some send garbage, some say nothing, and some
+never read. The network's server talks all the while.
+"""
+import os
+import random
+import socket
+import sys
+import threading
+import time
+
+from beside_znc import BOUNCER_PORT, Bouncer, Clients, Server, line, wait_for_port
+
+
+def descriptors(process):
+    return len(os.listdir(f"/proc/{process.pid}/fd"))
+
+
+def visit(bouncer, kind, until):
+    """One client's visit. What the bouncer closes is no failure here."""
+    client = socket.create_connection(("127.0.0.1", BOUNCER_PORT))
+    client.settimeout(5)
+    try:
+        if kind == "garbage":
+            client.sendall(random.randbytes(random.randint(1, 20000)))
+            client.recv(4096)
+        elif kind == "silent":
+            time.sleep(min(random.random() * 3, max(0, until - time.monotonic())))
+        else:
+            client.sendall(bouncer.login().encode())
+            client.sendall(b"CHATHISTORY LATEST #a * 100\r\nPING x\r\n")
+            if kind == "leaves":
+                client.recv(100)
+            elif kind == "deaf":
+                client.sendall(b"CHATHISTORY LATEST #a * 100\r\n" * 50)
+                time.sleep(min(random.random() * 3, max(0, until - time.monotonic())))
+            else:
+                held = b""
+                while b"PONG" not in held:
+                    data = client.recv(1 << 16)
+                    if not data:
+                        return "closed"
+                    held = held[-100:] + data
+                client.sendall(b"QUIT\r\n")
+                return "answered"
+    except OSError:
+        pass
+    finally:
+        client.close()
+    return "left"
+
+
+def visitor(bouncer, until, counts):
+    kinds = ["whole", "whole", "leaves", "garbage", "silent", "deaf"]
+    while time.monotonic() < until:
+        kind = random.choice(kinds)
+        try:
+            end = visit(bouncer, kind, until)
+        except OSError:
+            end = "refused"
+        counts[(kind, end)] = counts.get((kind, end), 0) + 1
+        time.sleep(random.random())
+
+
+def state(bouncer, name):
+    print(f"{name}: {descriptors(bouncer.process)} descriptors, {bouncer.resident() / 1e6:.1f} MB", flush=True)
+
+
+def main():
+    program = sys.argv[1]
+    seconds = int(sys.argv[2]) if len(sys.argv) > 2 else 600
+    count = int(sys.argv[3]) if len(sys.argv) > 3 else 1000
+    server = Server()
+    bouncer = Bouncer("bnc", program)
+    try:
+        server.accept()
+        wait_for_port(BOUNCER_PORT)
+        for number in range(300):
+            server.send(line(number, b"x" * 40))
+        time.sleep(2)
+        state(bouncer, "before")
+        until = time.monotonic() + seconds
+        counts = {}
+        threads = [threading.Thread(target=visitor, args=(bouncer, until, counts)) for _ in range(count)]
+        for thread in threads:
+            thread.start()
+        number = 300
+        shown = time.monotonic()
+        while time.monotonic() < until:
+            server.send(line(number, b"y" * 40))
+            number += 1
+            time.sleep(0.05)
+            if time.monotonic() > shown + 60:
+                state(bouncer, "meanwhile")
+                shown = time.monotonic()
+        for thread in threads:
+            thread.join()
+        time.sleep(65)
+        state(bouncer, "after")
+        print(dict(sorted(counts.items())))
+        clients = Clients(bouncer, 1)
+        clients.settle()
+        clients.reset()
+        clients.sockets[0].sendall(b"CHATHISTORY LATEST #a * 100\r\n")
+        clients.wait_for(100, 10)
+        print("a client still gets a page of 100")
+        if bouncer.process.poll() is not None:
+            raise SystemExit(f"the bouncer ended with {bouncer.process.returncode}")
+    finally:
+        bouncer.stop()
+
+
+if __name__ == "__main__":
+    main()
