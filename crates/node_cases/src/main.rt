@@ -13,7 +13,6 @@ mod sight;
 use anyhow::Error;
 use changes::facts;
 use chat_batch::Facts;
-use growth::puts_markers;
 use play::{Node, Step, play_steps};
 use shared_node::{Naming, NodeFault, Pass, SharedNode, Unnamed};
 use std::alloc::Global;
@@ -21,23 +20,14 @@ use std::marker::Brand;
 use std::rt::Runtime;
 use std::sync::Wait;
 
-/// What is played.
-#[derive(Clone, Copy)]
-enum Row {
-    /// Steps on a node, which is then closed.
-    Node(&'static [Step]),
-    /// Markers, on the writing half of a node that was closed.
-    Half,
-}
-
 /// How many passes a node is to have, and what is played on it.
-const ROWS: [(usize, Row); 8] = [
-    (0, Row::Node(&[])),
-    (64, Row::Node(&[])),
-    (65, Row::Node(&[])),
+const ROWS: [(usize, &[Step]); 7] = [
+    (0, &[]),
+    (64, &[]),
+    (65, &[]),
     (
         2,
-        Row::Node(&[
+        &[
             Step::Ask(1),
             Step::TellMark(5000),
             Step::Ask(1),
@@ -49,12 +39,11 @@ const ROWS: [(usize, Row); 8] = [
             Step::Shown(0, "m1"),
             Step::Shown(0, "m2"),
             Step::Due(0),
-        ]),
+        ],
     ),
-    (1, Row::Node(&[Step::Packet, Step::Delta(0)])),
-    (1, Row::Node(&[Step::Markers(3)])),
-    (1, Row::Node(&[Step::Markers(1)])),
-    (2, Row::Half),
+    (1, &[Step::Packet, Step::Delta(0)]),
+    (1, &[Step::Markers(3)]),
+    (1, &[Step::Markers(1)]),
 ];
 
 /// How many changes were put, where these are all passes of the node.
@@ -98,36 +87,16 @@ fn play_on<J: Naming, R: Runtime<A = Global> + Wait>(
     Ok(())
 }
 
-// The first pass puts three markers on what stood under the lock of the node.
-fn play_half<J: Naming, R: Runtime<A = Global> + Wait>(
-    rt: &R,
-    facts: &Facts,
-    node: Node<'_, J, R>,
-    passes: Vec<Pass<J>>,
-) -> Result<(), Error> {
-    let Ok((mut half, mut passes)) = node.close(passes) else {
-        return Ok(println!(rt; "not closed")?);
-    };
-    if let Some(pass) = passes.first_mut() {
-        puts_markers(rt, facts, &mut half, pass, 3)?;
-    }
-    println!(rt; "{} changes were put", half.total())?;
-    Ok(())
-}
-
 fn play_row<J: Naming, R: Runtime<A = Global> + Wait>(
     rt: &R,
     facts: &Facts,
     name: Unnamed,
-    row: Row,
+    steps: &[Step],
 ) -> Result<(), Error>
     requires { IsNamed J.book J.name J.parts name }
 {
     match SharedNode::<J, &R>::new(rt.alloc(), rt, name) {
-        Ok((node, passes)) => match row {
-            Row::Node(steps) => play_on(rt, facts, node, passes, steps),
-            Row::Half => play_half(rt, facts, node, passes),
-        },
+        Ok((node, passes)) => play_on(rt, facts, node, passes, steps),
         Err(NodeFault::BadCount) => Ok(println!(rt; "{}", NodeFault::BadCount)?),
         Err(fault) => Err(Error::from(fault)),
     }
@@ -135,9 +104,9 @@ fn play_row<J: Naming, R: Runtime<A = Global> + Wait>(
 
 fn main(rt: HostRuntime) -> Result<(), Error> {
     let facts = facts(rt.alloc())?;
-    for (passes, row) in ROWS {
+    for (passes, steps) in ROWS {
         println!(rt; "== {passes} passes")?;
-        play_row::<Brand, _>(&rt, &facts, Unnamed::new(passes), row)?;
+        play_row::<Brand, _>(&rt, &facts, Unnamed::new(passes), steps)?;
     }
     Ok(())
 }
