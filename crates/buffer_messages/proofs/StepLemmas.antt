@@ -3,7 +3,7 @@ use Rattle.std.proofs.Common.{◌≡◌, refl, sym, ◌∙◌, ap, subst, ℕ, L
 use Rattle.std.proofs.lemmas.Bool.{false≢true}
 use Rattle.std.proofs.lemmas.Option.{same_Some}
 use Rattle.std.specs.declared.cmp.Ordering.{Ordering}
-use Rattle.std.specs.Ordering.{eq_by_cmp, is_gt, ordering_then, nat_cmp}
+use Rattle.std.specs.Ordering.{is_gt, ordering_then, nat_cmp}
 use Rattle.std.specs.Option.{IsSome, option_map}
 use Rattle.std.specs.Map.{lookup}
 use Rattle.std.specs.BTreeMap as tree
@@ -14,13 +14,13 @@ use Rattle.chat_change.specs.Order.{text_cmp}
 use Rattle.chat_change.proofs.CallerLemmas.{text_total}
 use Rattle.chat_history.specs.Cut.{cut_cmp, of_record}
 use Rattle.chat_history.specs.declared.cut.Spot.{Spot}
-use Rattle.ordered_maps.specs.MapView.{held_by, IsWith, IsWithout}
+use Rattle.ordered_maps.specs.MapView.{held_by, IsSetTo, IsWith, IsWithout}
 use Rattle.ordered_maps.proofs.CallerLemmas.{get-held_by}
 use Rattle.buffer_messages.specs.declared.standing.Standing.{Standing}
 use Rattle.buffer_messages.specs.declared.standing.Standing.TheVariants.{Kept, Gone}
 use Rattle.buffer_messages.specs.Messages.{Messages, kept_in, kept_moment, number_of, IsFrom}
 use Rattle.buffer_messages.specs.Agreement.{BySpot, ById, place, Agree}
-use Rattle.buffer_messages.proofs.AgreementLemmas.{settled, unkept_none, kept_elsewhere, its_place, its_message, kept_stands, set_elsewhere, set_here, same_spot_is}
+use Rattle.buffer_messages.proofs.AgreementLemmas.{same_id, same_id_is, settled, unkept_none, kept_elsewhere, its_place, its_message, kept_stands, set_elsewhere, set_here}
 
 -- what is held of a message, as it is found
 pub found : (ids : ById) (s : Messages) (m : List ℕ) → held_by ids ≡ s → tree.get text_cmp ids m ≡ finite.get s m
@@ -33,6 +33,15 @@ some_of (Some s) t e = refl
 pub kept_held : (ids : ById) (s : Messages) (m : List ℕ) → held_by ids ≡ s → (t : ℕ) → kept_moment (finite.get s m) ≡ Some t → IsSome (tree.get text_cmp ids m)
 kept_held ids s m is t e = subst IsSome (sym (found ids s m is)) (some_of (finite.get s m) t e)
 
+-- what was held of a message is held of it again
+pub put_back : (ids jds kds : ById) (id : List ℕ) (x : Standing) (o : Option Standing) → IsWith text_cmp ids id x jds → IsSetTo text_cmp jds id o kds → o ≡ tree.get text_cmp ids id → (q : List ℕ) → tree.get text_cmp kds q ≡ tree.get text_cmp ids q
+put_back ids jds kds id x o up back was q =
+    back q ∙ ap (cond (same_id id q) o) (up q)
+    ∙ elim (same_id id q) as (λ b. same_id id q ≡ b → cond b o (cond b (Some x) (tree.get text_cmp ids q)) ≡ tree.get text_cmp ids q) [
+      | true ↦ λ e. was ∙ ap (tree.get text_cmp ids) (same_id_is id q e)
+      | false ↦ λ _. refl
+    ] refl
+
 -- ---- a record comes to its place
 
 module _ (m n : BySpot) (ids : ById) (a : Agree m ids) (r : Record) (fits : r.at ≤ greatest) (up : IsWith cut_cmp m (of_record r) r n) where
@@ -41,15 +50,6 @@ module _ (m n : BySpot) (ids : ById) (a : Agree m ids) (r : Record) (fits : r.at
 
   lands : (q : Spot) → (q.id ≡ Some r.id → ⊥) → tree.get cut_cmp n q ≡ tree.get cut_cmp m q
   lands = set_elsewhere m n (Some r) (of_record r) r.id refl up
-
-  -- a growth that was taken back
-  pub restored : (u : BySpot) → kept_moment (tree.get text_cmp ids r.id) ≡ None → IsWithout cut_cmp n (of_record r) u → (q : Spot) → tree.get cut_cmp u q ≡ tree.get cut_cmp m q
-  restored u none down q =
-      down q ∙ ap (cond (eq_by_cmp cut_cmp (of_record r) q) None) (up q)
-      ∙ elim (eq_by_cmp cut_cmp (of_record r) q) as (λ b. eq_by_cmp cut_cmp (of_record r) q ≡ b → cond b None (cond b (Some r) (tree.get cut_cmp m q)) ≡ tree.get cut_cmp m q) [
-        | true ↦ λ e. sym (subst (λ s. tree.get cut_cmp m s ≡ None) (same_spot_is (of_record r) q e) (unkept_none m ids a r.id none r.at))
-        | false ↦ λ _. refl
-      ] refl
 
   module _ (jds : ById) (number : ℕ) (stands : IsWith text_cmp ids r.id (Kept r number) jds) where
     -- the first record of a message

@@ -1,12 +1,13 @@
 //! The messages of one buffer, in two maps that agree.
 
-ghost use Rattle.std.specs.Prelude.{◌≡◌, ◌<◌, None, IsTrue, false, IfOk, IfSome};
+ghost use Rattle.std.specs.Prelude.{◌≡◌, ◌<◌, None, IsTrue, IsSome, false, IfOk, IfSome};
 ghost use Rattle.std.specs.FinMap as map;
 ghost use Rattle.std.specs.BTreeMap as tree;
 ghost use Rattle.std.specs.Map.Iter.{deref};
 ghost use Rattle.chat_change.specs.Order.{text_cmp};
 ghost use Rattle.std.specs.Option.{option_map};
 ghost use Rattle.chat_history.specs.Cut.{of_record};
+ghost use Rattle.ordered_maps.specs.MapView.{IsSetTo};
 ghost use Rattle.buffer_messages.specs.Messages as spec;
 ghost use Rattle.buffer_messages.specs.declared.standing.Standing.TheVariants as standing;
 
@@ -14,7 +15,7 @@ use crate::moment_if_known::MomentIfKnown;
 use crate::standing::Standing;
 use chat_change::{Moment, MsgId, Record};
 use chat_history::Spot;
-use ordered_maps::{discard, overwrite, put, put_or_return, take_out};
+use ordered_maps::{discard, exchange, overwrite, put, take_out};
 use std::alloc::{AllocError, Global};
 use std::collections::BTreeMap;
 use std::marker::Model;
@@ -57,6 +58,8 @@ impl Clone for Messages {
 struct Copies {
     spot: Spot,
     id: MsgId,
+    // the id once more
+    name: MsgId,
     post: Record,
 }
 
@@ -64,6 +67,7 @@ fn copies_of(post: &Record) -> Result<Copies, AllocError>
     ensures { IfOk result (λ copies. copies ≡ record {
       spot = of_record post.now;
       id = post.now.id;
+      name = post.now.id;
       post = post.now;
     }) }
 {
@@ -72,8 +76,36 @@ fn copies_of(post: &Record) -> Result<Copies, AllocError>
         id: Some(post.id().try_clone()?),
     };
     let id = post.id().try_clone()?;
+    let name = post.id().try_clone()?;
     let post = post.try_clone()?;
-    Ok(Copies { spot, id, post })
+    Ok(Copies {
+        spot,
+        id,
+        name,
+        post,
+    })
+}
+
+// The moment of the record that was kept of a message.
+fn moment_in(standing: Option<Standing>) -> Option<Moment>
+    ensures { result ≡ spec.kept_moment standing }
+{
+    match &standing {
+        Some(Standing::Kept(post, _)) => Some(post.at()),
+        Some(Standing::Gone(_, _)) => None,
+        None => None,
+    }
+}
+
+// Makes what is held of a message what it was before. It takes no memory.
+fn restore(by_id: &mut BTreeMap<MsgId, Standing>, id: &MsgId, before: Option<Standing>)
+    requires held { IsSome (tree.get text_cmp by_id.old id.now) }
+    ensures { IsSetTo text_cmp by_id.old id.now before by_id.new }
+{
+    match before {
+        Some(before) => overwrite(by_id, id, before),
+        None => take_out(by_id, id),
+    }
 }
 
 impl Messages {
@@ -111,19 +143,6 @@ impl Messages {
             self.new ≡ map.insert self.old post.id (standing.Kept post number) }
         ensures refused { result ≡ false → self.new ≡ self.old }
     {
-        match self.kept_moment(post.id()) {
-            Some(before) => self.replace(before, post, number),
-            None => self.insert(post, number),
-        }
-    }
-
-    // Keeps a record of a message of which none is kept.
-    fn insert(&mut self, post: Record, number: u64) -> bool
-        requires not_kept { spec.kept_moment (map.get self.old post.id) ≡ None }
-        ensures placed { IsTrue result →
-            self.new ≡ map.insert self.old post.id (standing.Kept post number) }
-        ensures refused { result ≡ false → self.new ≡ self.old }
-    {
         let at = post.at();
         // without it nothing says that the moment is at most the greatest, as the maps' agreement does of each record
         let _bound = at.ms();
@@ -131,6 +150,7 @@ impl Messages {
             Copies {
                 spot,
                 id,
+                name,
                 post: copy,
             },
         ) = copies_of(&post)
@@ -138,56 +158,30 @@ impl Messages {
             discard(post);
             return false;
         };
-        if !put(&mut self.by_spot, spot, copy) {
-            discard(id);
-            discard(post);
-            return false;
-        }
-        if let Err(id) = put_or_return(&mut self.by_id, id, Standing::Kept(post, number)) {
-            let spot = Spot { at, id: Some(id) };
-            take_out(&mut self.by_spot, &spot);
+        let Ok(before) = exchange(&mut self.by_id, id, Standing::Kept(post, number)) else {
             discard(spot);
-            return false;
-        }
-        true
-    }
-
-    // Keeps another record of a message, whose present one stands at `before`.
-    fn replace(&mut self, before: Moment, post: Record, number: u64) -> bool
-        requires kept { spec.kept_moment (map.get self.old post.id) ≡ Some before }
-        ensures placed { IsTrue result →
-            self.new ≡ map.insert self.old post.id (standing.Kept post number) }
-        ensures refused { result ≡ false → self.new ≡ self.old }
-    {
-        let at = post.at();
-        // without it nothing says that the moment is at most the greatest, as the maps' agreement does of each record
-        let _bound = at.ms();
-        let Ok(
-            Copies {
-                spot,
-                id,
-                post: copy,
-            },
-        ) = copies_of(&post)
-        else {
-            discard(post);
+            discard(name);
+            discard(copy);
             return false;
         };
         if !put(&mut self.by_spot, spot, copy) {
-            discard(id);
-            discard(post);
+            restore(&mut self.by_id, &name, before);
+            discard(name);
             return false;
         }
-        overwrite(&mut self.by_id, &id, Standing::Kept(post, number));
+        let Some(before) = moment_in(before) else {
+            discard(name);
+            return true;
+        };
         if before.ms() != at.ms() {
             let old = Spot {
                 at: before,
-                id: Some(id),
+                id: Some(name),
             };
             take_out(&mut self.by_spot, &old);
             discard(old);
         } else {
-            discard(id);
+            discard(name);
         }
         true
     }

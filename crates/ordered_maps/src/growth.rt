@@ -1,9 +1,10 @@
 //! Changes of one ordered map, which drop what they don't keep.
 
-ghost use Rattle.std.specs.Prelude.{◌≡◌, IsTrue, OnOk, OnErr, IfErr, IsSome, false};
+ghost use Rattle.std.specs.Prelude.{◌≡◌, IsTrue, OnOk, OnErr, IfOk, IsSome, false};
 ghost use Rattle.std.specs.BTreeMap as tree;
 ghost use Rattle.ordered_maps.specs.MapView.{IsWith, IsWithout};
 
+use std::alloc::AllocError;
 use std::collections::BTreeMap;
 
 /// Puts a value at a key, in place of what stood there. Where there is no memory the map stays as it was.
@@ -14,20 +15,22 @@ pub fn put<K: Ord + Drop, V: Drop>(map: &mut BTreeMap<K, V>, key: K, value: V) -
     map.insert(key, value).is_ok()
 }
 
-/// Puts a value at a key, in place of what stood there. Where there is no memory the map stays as it was, and the key
-/// comes back.
-pub fn put_or_return<K: Ord + Drop, V: Drop>(
+/// Puts a value at a key, and answers what stood there. Where there is no memory the map stays as it was.
+pub fn exchange<K: Ord + Drop, V: Drop>(
     map: &mut BTreeMap<K, V>,
     key: K,
     value: V,
-) -> Result<(), K>
+) -> Result<Option<V>, AllocError>
+    ensures before { IfOk result (λ before. before ≡ tree.get K.cmp map.old key) }
     ensures put { OnOk result (IsWith K.cmp map.old key value map.new) }
     ensures refused { OnErr result (map.new.entries ≡ map.old.entries) }
-    ensures returned { IfErr result (λ k. k ≡ key) }
 {
     match map.insert(key, value) {
-        Ok(_) => Ok(()),
-        Err(failed) => Err(failed.value.0),
+        Ok(before) => Ok(before),
+        Err(failed) => {
+            discard(failed);
+            Err(AllocError)
+        }
     }
 }
 

@@ -3,4 +3,4 @@
 
 mod growth;
 
-pub use growth::{discard, overwrite, put, put_or_return, take_out};
+pub use growth::{discard, exchange, overwrite, put, take_out};
