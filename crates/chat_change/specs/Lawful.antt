@@ -1,5 +1,5 @@
 -- Lawful records and changes: those whose parts the makers of parts don't refuse.
-use Rattle.std.specs.Prelude.{ℕ, ◌≡◌, ◌≤◌, true, IfSome}
+use Rattle.std.specs.Prelude.{◌≡◌, ◌≤◌, true, IfSome}
 use Rattle.irc_time.specs.Time.{greatest}
 use Rattle.chat_change.specs.Words.{is_id}
 use Rattle.chat_change.specs.Buffer.{IsLawfulBuffer}

@@ -11,3 +11,4 @@ pub mod Lawful
 -- ---- what only the proofs use of the code: how texts lie in memory
 pub mod Texts
 pub mod IdText
+pub mod ShortText

@@ -84,7 +84,7 @@ impl MsgId {
     fn order(&self, other: &MsgId) -> Ordering
         ensures { result ≡ text_cmp self.now other.now }
     {
-        self.as_bytes().cmp(other.as_bytes())
+        self.text.order(&other.text)
     }
 }
 
