@@ -52,7 +52,11 @@ impl Spot {
     fn order(&self, other: &Spot) -> Ordering
         ensures { result ≡ cut_cmp self.now other.now }
     {
-        let id = match &self.id {
+        let at = self.at.ms().cmp(&other.at.ms());
+        if at.is_ne() {
+            return at;
+        }
+        match &self.id {
             None => match &other.id {
                 None => Ordering::Equal,
                 Some(_) => Ordering::Less,
@@ -61,8 +65,7 @@ impl Spot {
                 None => Ordering::Greater,
                 Some(others) => own.cmp(others),
             },
-        };
-        self.at.ms().cmp(&other.at.ms()).then(id)
+        }
     }
 
     // How a spot and the place of a record compare.
