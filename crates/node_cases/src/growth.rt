@@ -1,14 +1,38 @@
 //! What stands after a put that was refused for want of memory.
 use crate::changes::{MARKED, Marked, markers};
-use crate::play::Node;
 use crate::sight::ask;
 use anyhow::Error;
 use chat_batch::Facts;
 use chat_change::Change;
-use shared_node::{Naming, Pass, PutFault};
+use shared_node::laws::WritingHalf;
+use shared_node::{Naming, Pass, PutFault, SharedNode};
 use std::alloc::Global;
 use std::rt::Runtime;
 use std::sync::Wait;
+
+/// What a pass puts changes on: a node, or what stands under its lock.
+pub trait Target<J: Naming> {
+    fn put(&mut self, pass: &mut Pass<J>, changes: &[Change]) -> Result<(), PutFault>;
+}
+
+/// A node, with the handle by which a put waits for its lock.
+#[derive(Drop)]
+pub struct Locked<'a, J: Naming, H: Wait + Drop, W: Wait> {
+    pub node: &'a SharedNode<J, H>,
+    pub rt: &'a W,
+}
+
+impl<J: Naming, H: Wait + Drop, W: Wait> Target<J> for Locked<'_, J, H, W> {
+    fn put(&mut self, pass: &mut Pass<J>, changes: &[Change]) -> Result<(), PutFault> {
+        self.node.put(self.rt, pass, changes).map(drop)
+    }
+}
+
+impl<J: Naming, H: Wait + Drop> Target<J> for WritingHalf<J, H> {
+    fn put(&mut self, pass: &mut Pass<J>, changes: &[Change]) -> Result<(), PutFault> {
+        self.put_now(pass, changes).map(drop)
+    }
+}
 
 // Whether the pass sees the marker of a buffer.
 fn sees<J: Naming>(
@@ -59,14 +83,14 @@ fn tell_other<J: Naming, R: Runtime<A = Global>>(
 
 // Puts the changes, and says how many of them were put. Where they weren't published, for want of memory, none of them is
 // seen, and a put of nothing publishes them.
-fn put<J: Naming, R: Runtime<A = Global> + Wait>(
+fn put<J: Naming, T: Target<J>, R: Runtime<A = Global>>(
     rt: &R,
     facts: &Facts,
-    node: &Node<'_, J, R>,
+    target: &mut T,
     pass: &mut Pass<J>,
     changes: &[Change],
 ) -> Result<usize, Error> {
-    let Some(fault) = node.put(rt, pass, changes).err() else {
+    let Some(fault) = target.put(pass, changes).err() else {
         return Ok(changes.len());
     };
     eprintln!(rt; "{fault:?}")?;
@@ -76,36 +100,36 @@ fn put<J: Naming, R: Runtime<A = Global> + Wait>(
         PutFault::Exhausted => return Err(Error::from(fault)),
     };
     tell_other(rt, facts, pass, 0)?;
-    node.put(rt, pass, &[])?;
+    target.put(pass, &[])?;
     Ok(waiting)
 }
 
 // Puts markers, and the rest of them where the put was refused.
-fn put_and_see<J: Naming, R: Runtime<A = Global> + Wait>(
+fn put_and_see<J: Naming, T: Target<J>, R: Runtime<A = Global>>(
     rt: &R,
     facts: &Facts,
-    node: &Node<'_, J, R>,
+    target: &mut T,
     pass: &mut Pass<J>,
     changes: &[Change],
 ) -> Result<(), Error> {
-    let there = put(rt, facts, node, pass, changes)?;
+    let there = put(rt, facts, target, pass, changes)?;
     tell_other(rt, facts, pass, there)?;
     if there < changes.len() {
-        node.put(rt, pass, &changes[there..])?;
+        target.put(pass, &changes[there..])?;
     }
     tell_other(rt, facts, pass, changes.len())
 }
 
 /// Puts markers of the first buffers, so many, and sees them. Where the put is refused, the rest is put afterwards.
-pub fn puts_markers<J: Naming, R: Runtime<A = Global> + Wait>(
+pub fn puts_markers<J: Naming, T: Target<J>, R: Runtime<A = Global>>(
     rt: &R,
     facts: &Facts,
-    node: &Node<'_, J, R>,
+    target: &mut T,
     pass: &mut Pass<J>,
     count: usize,
 ) -> Result<(), Error> {
     let changes = markers(rt.alloc(), count)?;
-    put_and_see(rt, facts, node, pass, &changes)?;
+    put_and_see(rt, facts, target, pass, &changes)?;
     println!(rt; "the first {count} of three markers were put")?;
     Ok(())
 }

@@ -13,6 +13,7 @@ mod sight;
 use anyhow::Error;
 use changes::facts;
 use chat_batch::Facts;
+use growth::puts_markers;
 use play::{Node, Step, play_steps};
 use shared_node::{Naming, NodeFault, Pass, SharedNode, Unnamed};
 use std::alloc::Global;
@@ -20,14 +21,23 @@ use std::marker::Brand;
 use std::rt::Runtime;
 use std::sync::Wait;
 
+/// What is played.
+#[derive(Clone, Copy)]
+enum Row {
+    /// Steps on a node, which is then closed.
+    Node(&'static [Step]),
+    /// Markers, on the writing half of a node that was closed.
+    Half,
+}
+
 /// How many passes a node is to have, and what is played on it.
-const ROWS: [(usize, &[Step]); 7] = [
-    (0, &[]),
-    (64, &[]),
-    (65, &[]),
+const ROWS: [(usize, Row); 8] = [
+    (0, Row::Node(&[])),
+    (64, Row::Node(&[])),
+    (65, Row::Node(&[])),
     (
         2,
-        &[
+        Row::Node(&[
             Step::Ask(1),
             Step::TellMark(5000),
             Step::Ask(1),
@@ -39,11 +49,12 @@ const ROWS: [(usize, &[Step]); 7] = [
             Step::Shown(0, "m1"),
             Step::Shown(0, "m2"),
             Step::Due(0),
-        ],
+        ]),
     ),
-    (1, &[Step::Packet, Step::Delta(0)]),
-    (1, &[Step::Markers(3)]),
-    (1, &[Step::Markers(1)]),
+    (1, Row::Node(&[Step::Packet, Step::Delta(0)])),
+    (1, Row::Node(&[Step::Markers(3)])),
+    (1, Row::Node(&[Step::Markers(1)])),
+    (2, Row::Half),
 ];
 
 /// How many changes were put, where these are all passes of the node.
@@ -87,16 +98,36 @@ fn play_on<J: Naming, R: Runtime<A = Global> + Wait>(
     Ok(())
 }
 
+// The first pass puts three markers on what stood under the lock of the node.
+fn play_half<J: Naming, R: Runtime<A = Global> + Wait>(
+    rt: &R,
+    facts: &Facts,
+    node: Node<'_, J, R>,
+    passes: Vec<Pass<J>>,
+) -> Result<(), Error> {
+    let Ok((mut half, mut passes)) = node.close(passes) else {
+        return Ok(println!(rt; "not closed")?);
+    };
+    if let Some(pass) = passes.first_mut() {
+        puts_markers(rt, facts, &mut half, pass, 3)?;
+    }
+    println!(rt; "{} changes were put", half.total())?;
+    Ok(())
+}
+
 fn play_row<J: Naming, R: Runtime<A = Global> + Wait>(
     rt: &R,
     facts: &Facts,
     name: Unnamed,
-    steps: &[Step],
+    row: Row,
 ) -> Result<(), Error>
     requires { IsNamed J.book J.name J.parts name }
 {
     match SharedNode::<J, &R>::new(rt.alloc(), rt, name) {
-        Ok((node, passes)) => play_on(rt, facts, node, passes, steps),
+        Ok((node, passes)) => match row {
+            Row::Node(steps) => play_on(rt, facts, node, passes, steps),
+            Row::Half => play_half(rt, facts, node, passes),
+        },
         Err(NodeFault::BadCount) => Ok(println!(rt; "{}", NodeFault::BadCount)?),
         Err(fault) => Err(Error::from(fault)),
     }
@@ -104,9 +135,9 @@ fn play_row<J: Naming, R: Runtime<A = Global> + Wait>(
 
 fn main(rt: HostRuntime) -> Result<(), Error> {
     let facts = facts(rt.alloc())?;
-    for (passes, steps) in ROWS {
+    for (passes, row) in ROWS {
         println!(rt; "== {passes} passes")?;
-        play_row::<Brand, _>(&rt, &facts, Unnamed::new(passes), steps)?;
+        play_row::<Brand, _>(&rt, &facts, Unnamed::new(passes), row)?;
     }
     Ok(())
 }

@@ -1,6 +1,6 @@
 //! What is played on a node.
 use crate::changes::{mark, packet, post};
-use crate::growth::puts_markers;
+use crate::growth::{Locked, puts_markers};
 use crate::sight::{tell_delta, tell_due, tell_marker, tell_shown};
 use anyhow::Error;
 use chat_batch::Facts;
@@ -111,7 +111,7 @@ fn play_alone<J: Naming, R: Runtime<A = Global> + Wait>(
         Step::Shown(_, id) => tell_shown(rt, pass, id),
         Step::Due(_) => tell_due(rt, pass),
         Step::Packet => put_packet(rt, node, pass),
-        Step::Markers(count) => puts_markers(rt, facts, node, pass, count),
+        Step::Markers(count) => puts_markers(rt, facts, &mut Locked { node, rt }, pass, count),
         Step::TellMark(_) | Step::TellPost(_) | Step::Take(_) => Ok(()),
     }
 }
