@@ -7,7 +7,7 @@ use irc_time::Moment;
 use std::alloc::Global;
 use std::test::Fail;
 
-fn is_post(record: &Record, post: &Post) -> bool {
+pub fn is_post(record: &Record, post: &Post) -> bool {
     record.id().as_bytes() == post.id
         && record.at().ms() == post.at
         && record.kind().letter() == post.letter
@@ -16,7 +16,7 @@ fn is_post(record: &Record, post: &Post) -> bool {
         && record.body() == post.body
 }
 
-fn are_posts_upwards(records: Up<'_>, posts: &[Post]) -> bool {
+pub fn are_posts_upwards(records: Up<'_>, posts: &[Post]) -> bool {
     let mut count = 0;
     for record in records {
         if count >= posts.len() || !is_post(record, &posts[count]) {
@@ -27,7 +27,7 @@ fn are_posts_upwards(records: Up<'_>, posts: &[Post]) -> bool {
     count == posts.len()
 }
 
-fn are_posts_downwards(records: Down<'_>, posts: &[Post]) -> bool {
+pub fn are_posts_downwards(records: Down<'_>, posts: &[Post]) -> bool {
     let mut left = posts.len();
     for record in records {
         if left == 0 {

@@ -1,5 +1,7 @@
 //! Long histories drawn at random, the same at each run: neither order nor grouping shows in what a state answers.
+use crate::history_cuts::wrong_walk;
 use crate::history_looks::wrong_look_up;
+use crate::history_numbers::wrong_number;
 use crate::history_steps::{CHANNELS, IDS, Step, changes_of, floor, mark, redact, redact_at, sent};
 use chat_change::Change;
 use chat_state::{State, run};
@@ -177,6 +179,36 @@ fn wrong_of_seed(alloc: Global, seed: u64, count: usize) -> Result<Option<&'stat
 fn no_order_of_a_long_history_shows(rt: HostRuntime) -> Result<(), Fail> {
     for seed in 1..9 {
         assert_eq!(rt; wrong_of_seed(rt.alloc(), seed, 250)?, None, "seed {seed}");
+    }
+    Ok(())
+}
+
+// What is wrong of a state that took the steps in turn, after each of them.
+fn wrong_at_each_step(alloc: Global, steps: &[Step]) -> Result<Option<&'static str>, Fail> {
+    let mut state = State::new(alloc);
+    for (i, step) in steps.iter().enumerate() {
+        state.take(&changes_of(alloc, &[*step])?)?;
+        let mut wrong = wrong_number(alloc, &state, &steps[..i + 1])?;
+        if wrong.is_none() {
+            wrong = wrong_walk(alloc, &state, &steps[..i + 1])?;
+        }
+        if wrong.is_some() {
+            return Ok(wrong);
+        }
+    }
+    Ok(None)
+}
+
+#[test]
+fn numbers_deltas_and_walks_are_those_of_a_plain_list(rt: HostRuntime) -> Result<(), Fail> {
+    for seed in 201..213 {
+        let mut numbers = Numbers { last: seed };
+        let steps = drawn_steps(rt.alloc(), &mut numbers, 40)?;
+        assert_eq!(rt;
+            wrong_at_each_step(rt.alloc(), &steps)?,
+            None,
+            "seed {seed}"
+        );
     }
     Ok(())
 }

@@ -4,9 +4,13 @@
 #[cfg(test)]
 mod history;
 #[cfg(test)]
+mod history_cuts;
+#[cfg(test)]
 mod history_looks;
 #[cfg(test)]
 mod history_model;
+#[cfg(test)]
+mod history_numbers;
 #[cfg(test)]
 mod history_orders;
 #[cfg(test)]
