@@ -58,7 +58,9 @@ impl<X: Attachment> Clients<X> {
         match self.take_in(rt, &desk.site, line, ticket) {
             Ok(()) => {
                 self.wake(line);
-                desk.set_timer(Timer::Unregistered(line), PATIENCE);
+                if desk.set_patience(line, PATIENCE).is_err() {
+                    self.close(desk, line, Reason::NoMemory);
+                }
             }
             Err(reason) => {
                 let address = desk.port.address(line);
@@ -105,11 +107,14 @@ impl<X: Attachment> Clients<X> {
         }
     }
 
-    /// The client is closed once it has read what it is owed, or had long enough to.
+    /// The client is closed once it has read what it is owed, or had long enough to. Where there is no memory to wait for
+    /// that, it is lost.
     pub fn end<P: Port>(&mut self, desk: &mut Desk<P>, line: usize, reason: Reason) {
         if let Some(client) = self.all.get_mut(&line) {
-            client.fate = Fate::Ends(reason);
-            desk.set_timer(Timer::Unregistered(line), PATIENCE);
+            client.fate = match desk.set_patience(line, PATIENCE) {
+                Ok(()) => Fate::Ends(reason),
+                Err(_) => Fate::Lost(Reason::NoMemory),
+            };
         }
     }
 

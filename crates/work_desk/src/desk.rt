@@ -1,9 +1,10 @@
 //! The port and the timers of a worker.
+use crate::schedule::Schedule;
 use crate::site::Site;
 use bnc_ports::Port;
 use chat_change::Moment;
 use memory::NoMemory;
-use work_timers::{Timer, Timers};
+use work_timers::Timer;
 
 /// So many bytes come in, or go out, at once.
 const CHUNK: usize = 16_384;
@@ -23,18 +24,27 @@ pub fn clock<P: Port>(port: &mut P) -> Option<(u64, Moment)> {
 pub struct Desk<P> {
     pub site: Site,
     pub port: P,
-    pub timers: Timers,
+    pub timers: Schedule,
     /// Room for bytes that come or go.
     pub chunk: Vec<u8>,
 }
 
+// So many timers must not be lost: two of each network, as its server is tried again or is silent; two of each peer, as it is
+// tried again or acknowledges nothing; that of the floors, and that of what waits.
+fn room_of(networks: usize, peers: usize) -> usize {
+    networks
+        .saturating_add(peers)
+        .saturating_mul(2)
+        .saturating_add(2)
+}
+
 impl<P: Port> Desk<P> {
-    /// A worker's desk, with no timers.
-    pub fn new(site: Site, port: P) -> Result<Desk<P>, NoMemory> {
+    /// The desk of a worker with so many peers. No timer is set.
+    pub fn new(site: Site, port: P, peers: usize) -> Result<Desk<P>, NoMemory> {
         let Ok(chunk) = vec![in site.alloc; 0u8; CHUNK] else {
             return Err(NoMemory);
         };
-        let timers = Timers::new(site.alloc);
+        let timers = Schedule::new(site.alloc, room_of(site.networks.len(), peers))?;
         Ok(Desk {
             site,
             port,
@@ -55,9 +65,15 @@ impl<P: Port> Desk<P> {
         }
     }
 
-    /// That is to be done in so many milliseconds. Where there is no memory it isn't.
+    /// That is to be done in so many milliseconds, whatever memory there is. It isn't for [`Timer::Unregistered`].
     pub fn set_timer(&mut self, timer: Timer, after: u64) {
         let at = self.site.now.saturating_add(after);
-        let _ = self.timers.set(timer, at);
+        self.timers.set(timer, at);
+    }
+
+    /// The connection has so many milliseconds. Where there is no memory for that it is to be closed.
+    pub fn set_patience(&mut self, line: usize, after: u64) -> Result<(), NoMemory> {
+        let at = self.site.now.saturating_add(after);
+        self.timers.try_set(Timer::Unregistered(line), at)
     }
 }

@@ -3,8 +3,10 @@
 
 mod desk;
 mod fate;
+mod schedule;
 mod site;
 
 pub use desk::{Desk, clock};
 pub use fate::Fate;
+pub use schedule::Schedule;
 pub use site::Site;

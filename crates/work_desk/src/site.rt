@@ -1,4 +1,7 @@
 //! What a worker knows of its node and of the time.
+ghost use Rattle.std.specs.Prelude.{◌≡◌, ◌<◌, ◌%◌, position};
+ghost use Rattle.work_desk.specs.Networks as spec;
+
 use chat_change::Moment;
 use client_directory::{Directory, Entry};
 use gossip_link::Terms;
@@ -32,14 +35,21 @@ pub struct Site {
 
 impl Site {
     /// Which worker serves the network.
-    pub fn server_of(&self, network: usize) -> usize {
+    pub fn server_of(&self, network: usize) -> usize
+        ensures remainder { 0 < self.entry.now.workers → result ≡ network % self.entry.now.workers }
+        ensures below { 0 < self.entry.now.workers → result < self.entry.now.workers }
+    {
         network.checked_rem(self.workers).unwrap_or(0)
     }
 
     /// The place of the account's network among the networks.
-    pub fn network_of(&self, account: &[u8], network: &[u8]) -> Option<usize> {
-        self.networks.iter().position(|c| c.account.as_bytes() == account
-            && c.network.as_bytes() == network)
+    pub fn network_of(&self, account: &[u8], network: &[u8]) -> Option<usize>
+        ensures { result ≡ position (λ config. spec.is_of config account.now network.now)
+            self.entry.now.networks.items }
+    {
+        self.networks
+            .iter()
+            .position(|config| is_of(config, account, network))
     }
 
     /// The configuration of the network at that place, where there is one.
@@ -71,6 +81,13 @@ impl Site {
         let config = self.networks.get(network)?;
         copy_of(self.alloc, config).ok()
     }
+}
+
+// Whether these are the names of the configuration's account and network.
+fn is_of(config: &Config, account: &[u8], network: &[u8]) -> bool
+    ensures { result ≡ spec.is_of config.now account.now network.now }
+{
+    config.account.as_bytes() == account && config.network.as_bytes() == network
 }
 
 fn copies_of(alloc: Global, texts: &[Text]) -> Result<Vec<Text>, NoMemory> {

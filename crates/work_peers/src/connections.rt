@@ -19,7 +19,9 @@ impl Peers {
         match self.open(&desk.site, line, dialed) {
             Ok(()) => {
                 self.wake(line);
-                desk.set_timer(Timer::Unregistered(line), PATIENCE);
+                if desk.set_patience(line, PATIENCE).is_err() {
+                    self.close(desk, line, Reason::NoMemory);
+                }
             }
             Err(NoMemory) => {
                 let address = desk.port.address(line);

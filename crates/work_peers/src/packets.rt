@@ -84,7 +84,7 @@ impl Peers {
         };
         peer.send_next(&desk.site, &mut neighbour.link, source, out);
         if let Some(at) = peer.session.deadline() {
-            let _ = desk.timers.set(Timer::UnansweredPacket(line), at);
+            desk.timers.set(Timer::UnansweredPacket(line), at);
         }
         self.wake(line);
     }

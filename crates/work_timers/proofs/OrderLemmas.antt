@@ -6,7 +6,7 @@ use Rattle.std.proofs.lemmas.Cmp.{tied_itself}
 use Rattle.std.proofs.lemmas.Map.Lookups.{CmpEqualImpliesEq, exact_unsigned}
 use Rattle.work_timers.specs.contracts.timer.TimerOrd.TheImpl.Laws as timer_laws
 use Rattle.work_timers.specs.declared.timer.Timer.{Timer}
-use Rattle.work_timers.specs.declared.timer.Timer.TheVariants.{RetryNetwork, RetryPeer, QuietUpstream, Unregistered, UnansweredPacket, Floors}
+use Rattle.work_timers.specs.declared.timer.Timer.TheVariants.{RetryNetwork, RetryPeer, QuietUpstream, Unregistered, UnansweredPacket, Floors, Publish}
 use Rattle.work_timers.specs.Agreement.{due}
 use Rattle.work_timers.specs.Order.{timer_cmp, due_cmp}
 
@@ -20,6 +20,7 @@ timer_exact (QuietUpstream i) (QuietUpstream j) e = ap QuietUpstream (exact_unsi
 timer_exact (Unregistered i) (Unregistered j) e = ap Unregistered (exact_unsigned i j e)
 timer_exact (UnansweredPacket i) (UnansweredPacket j) e = ap UnansweredPacket (exact_unsigned i j e)
 timer_exact Floors Floors e = refl
+timer_exact Publish Publish e = refl
 timer_exact _ _ e = cc e
 
 -- one timer is another

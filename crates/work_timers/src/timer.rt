@@ -15,4 +15,6 @@ pub enum Timer {
     UnansweredPacket(usize),
     /// The floors that are due are put.
     Floors,
+    /// What waits to be published is published.
+    Publish,
 }
