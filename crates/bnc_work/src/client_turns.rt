@@ -1,31 +1,22 @@
 //! The turns of clients.
+use crate::node::Node;
 use crate::station::WorkEnd;
 use crate::worker::Worker;
 use attach::Attachment;
-use bnc_ports::{Gate, Mail, Port, Reason};
+use bnc_ports::{Mail, Port, Reason};
 use chat_change::Change;
 use client_session::Effect;
 use memory::Text;
-use shared_node::Naming;
-use std::sync::Wait;
 use work_clients::Step;
 
 /// So many steps a client has before the others have their turn.
 const STEPS: usize = 64;
 
-impl<'a, J: Naming, R: Wait + Drop, W: Wait, X: Attachment, P: Port, G: Gate> Worker<
-    'a,
-    J,
-    R,
-    W,
-    X,
-    P,
-    G,
-> {
+impl<N: Node, X: Attachment, P: Port> Worker<N, X, P> {
     /// The turn of one client.
     pub(crate) fn serve_client(&mut self, line: usize) -> Result<(), WorkEnd> {
         for _ in 0..STEPS {
-            let step = self.clients.step(&mut self.desk, &mut self.node.pass, line);
+            let step = self.clients.step(&mut self.desk, self.node.pass(), line);
             match step {
                 Step::Do(effects) => self.do_client(line, effects)?,
                 Step::Again => {}
@@ -73,10 +64,11 @@ impl<'a, J: Naming, R: Wait + Drop, W: Wait, X: Attachment, P: Port, G: Gate> Wo
         Ok(())
     }
 
-    // Puts a client's marker, and tells the other sessions.
+    // Puts a client's marker, and tells the other sessions. Where it waits to be published, nobody can be told yet, and the
+    // client can't be answered.
     fn put_for(&mut self, line: usize, change: Change) -> Result<Result<(), Reason>, WorkEnd> {
         let changes = [change];
-        if self.node.put(&changes).is_err() {
+        if self.put(&changes).is_err() {
             return Ok(Err(Reason::NoMemory));
         }
         self.publish();
@@ -89,7 +81,7 @@ impl<'a, J: Naming, R: Wait + Drop, W: Wait, X: Attachment, P: Port, G: Gate> Wo
         self.ask_gate()?;
         Ok(
             self.clients
-                .answer(&mut self.desk, &mut self.node.pass, line, question),
+                .answer(&mut self.desk, self.node.pass(), line, question),
         )
     }
 

@@ -7,6 +7,7 @@
 mod client_turns;
 mod mail_turns;
 mod marker_turns;
+mod node;
 mod peer_turns;
 mod server_turns;
 mod starting;

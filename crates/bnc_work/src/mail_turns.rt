@@ -1,11 +1,12 @@
 //! What workers tell each other, and what is done for the whole node.
+use crate::node::Node;
 use crate::station::WorkEnd;
 use crate::worker::Worker;
 use attach::Attachment;
-use bnc_ports::{Gate, Mail, Port};
+use bnc_ports::{Mail, Port};
+use chat_change::Change;
 use client_directory::Entry;
-use shared_node::Naming;
-use std::sync::Wait;
+use shared_node::PutFault;
 use upstream_session::Recipients;
 use work_servers::Standing;
 use work_timers::Timer;
@@ -13,15 +14,10 @@ use work_timers::Timer;
 /// Floors are put once in so many milliseconds.
 const HOUR: u64 = 3_600_000;
 
-impl<'a, J: Naming, R: Wait + Drop, W: Wait, X: Attachment, P: Port, G: Gate> Worker<
-    'a,
-    J,
-    R,
-    W,
-    X,
-    P,
-    G,
-> {
+/// What waits to be published is tried again after so many milliseconds.
+const SECOND: u64 = 1000;
+
+impl<N: Node, X: Attachment, P: Port> Worker<N, X, P> {
     /// What another worker tells.
     pub(crate) fn read_mail(&mut self, mail: Mail) -> Result<(), WorkEnd> {
         match mail {
@@ -94,13 +90,33 @@ impl<'a, J: Naming, R: Wait + Drop, W: Wait, X: Attachment, P: Port, G: Gate> Wo
         desk.set_timer(Timer::Floors, HOUR);
         let site = &desk.site;
         let Ok(floors) = node
-            .pass
+            .pass()
             .due_floors(site.alloc, site.moment, site.retain_days)
         else {
             return;
         };
         if !floors.is_empty() {
-            let _ = self.node.put(floors.as_slice());
+            let _ = self.put(floors.as_slice());
+            self.publish();
+        }
+    }
+
+    /// Puts changes. Where they only wait to be published, that is tried again a second later.
+    pub(crate) fn put(&mut self, changes: &[Change]) -> Result<(), PutFault> {
+        match self.node.put(changes) {
+            Ok(_) => Ok(()),
+            Err(fault) => {
+                if fault == PutFault::Waiting {
+                    self.desk.set_timer(Timer::Publish, SECOND);
+                }
+                Err(fault)
+            }
+        }
+    }
+
+    /// Publishes what waits, or tries that again a second later.
+    pub(crate) fn publish_waiting(&mut self) {
+        if self.put(&[]).is_ok() {
             self.publish();
         }
     }

@@ -1,14 +1,13 @@
 //! Sessions are told of read markers (IRCv3 draft/read-marker).
+use crate::node::Node;
 use crate::station::WorkEnd;
 use crate::worker::Worker;
 use attach::Attachment;
-use bnc_ports::{Gate, Mail, Port};
+use bnc_ports::{Mail, Port};
 use chat_change::Change;
 use irc_line::{TagLimit, read_line};
 use memory::{NoMemory, Text};
-use shared_node::Naming;
 use std::alloc::Global;
-use std::sync::Wait;
 
 // A line by which somebody joins a channel (RFC 2812, section 3.2.1).
 #[derive(Clone, Copy)]
@@ -39,15 +38,7 @@ fn marker_question(alloc: Global, target: &[u8]) -> Result<Text, NoMemory> {
     }
 }
 
-impl<'a, J: Naming, R: Wait + Drop, W: Wait, X: Attachment, P: Port, G: Gate> Worker<
-    'a,
-    J,
-    R,
-    W,
-    X,
-    P,
-    G,
-> {
+impl<N: Node, X: Attachment, P: Port> Worker<N, X, P> {
     /// Those sessions of the network that joined a channel by this line of its server are told the channel's read marker.
     pub(crate) fn tell_mark_of_joined(
         &mut self,
@@ -125,7 +116,7 @@ impl<'a, J: Naming, R: Wait + Drop, W: Wait, X: Attachment, P: Port, G: Gate> Wo
                 clients,
                 ..
             } = self;
-            clients.tell_answer(desk, &mut node.pass, line, question.as_bytes());
+            clients.tell_answer(desk, node.pass(), line, question.as_bytes());
             let Some(next) = line.checked_add(1) else {
                 return Ok(());
             };

@@ -1,13 +1,12 @@
 //! The turns of peers.
+use crate::node::Node;
 use crate::station::WorkEnd;
 use crate::worker::Worker;
 use attach::Attachment;
-use bnc_ports::{Gate, Mail, Port, Reason};
+use bnc_ports::{Mail, Port, Reason};
 use chat_change::Change;
 use memory::NoMemory;
 use peer_session::{Arrived, Outcome, changes_of};
-use shared_node::Naming;
-use std::sync::Wait;
 use work_peers::Step;
 
 /// So many lines of a peer are taken before the others have their turn.
@@ -19,15 +18,7 @@ fn has_marks(changes: &[Change]) -> bool {
         .any(|change| matches!(change, Change::Mark { .. }))
 }
 
-impl<'a, J: Naming, R: Wait + Drop, W: Wait, X: Attachment, P: Port, G: Gate> Worker<
-    'a,
-    J,
-    R,
-    W,
-    X,
-    P,
-    G,
-> {
+impl<N: Node, X: Attachment, P: Port> Worker<N, X, P> {
     /// The turn of one peer.
     pub(crate) fn serve_peer(&mut self, line: usize) -> Result<(), WorkEnd> {
         for _ in 0..STEPS {
@@ -72,8 +63,7 @@ impl<'a, J: Naming, R: Wait + Drop, W: Wait, X: Attachment, P: Port, G: Gate> Wo
                 }
             }
             Ok(Outcome::Known | Outcome::Ignored) => {
-                self.peers
-                    .advance(&mut self.desk, line, &mut self.node.pass);
+                self.peers.advance(&mut self.desk, line, self.node.pass());
             }
             Err(NoMemory) => self.peers.close(&mut self.desk, line, Reason::NoMemory),
         }
@@ -84,7 +74,7 @@ impl<'a, J: Naming, R: Wait + Drop, W: Wait, X: Attachment, P: Port, G: Gate> Wo
     // done last: a marker that changed nothing isn't told again.
     fn catch_up(&mut self, is_told: bool) -> Result<(), WorkEnd> {
         for _ in 0..u64::MAX {
-            let Ok(delta) = self.node.pass.delta(self.desk.site.alloc, self.seen) else {
+            let Ok(delta) = self.node.pass().delta(self.desk.site.alloc, self.seen) else {
                 return Ok(());
             };
             if delta.is_empty() {
@@ -109,6 +99,6 @@ impl<'a, J: Naming, R: Wait + Drop, W: Wait, X: Attachment, P: Port, G: Gate> Wo
 
     /// Each peer is to have what was published.
     pub(crate) fn publish_to_peers(&mut self) {
-        self.peers.publish(&mut self.desk, &mut self.node.pass);
+        self.peers.publish(&mut self.desk, self.node.pass());
     }
 }

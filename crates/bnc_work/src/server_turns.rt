@@ -1,28 +1,20 @@
 //! The turns of networks' servers.
+use crate::node::Node;
 use crate::station::WorkEnd;
 use crate::worker::Worker;
 use attach::Attachment;
-use bnc_ports::{Gate, Mail, Port, Reason};
+use bnc_ports::{Mail, Port, Reason};
 use chat_change::{Change, Record};
 use memory::{NoMemory, Text};
-use shared_node::Naming;
+use shared_node::PutFault;
 use std::alloc::Global;
-use std::sync::Wait;
 use upstream_session::{Recipients, UpEffect};
 use work_servers::{Said, Step};
 
 /// So many lines of a server are taken before the others have their turn.
 const STEPS: usize = 64;
 
-impl<'a, J: Naming, R: Wait + Drop, W: Wait, X: Attachment, P: Port, G: Gate> Worker<
-    'a,
-    J,
-    R,
-    W,
-    X,
-    P,
-    G,
-> {
+impl<N: Node, X: Attachment, P: Port> Worker<N, X, P> {
     /// The turn of one server.
     pub(crate) fn serve_server(&mut self, line: usize) -> Result<(), WorkEnd> {
         for _ in 0..STEPS {
@@ -70,7 +62,8 @@ impl<'a, J: Naming, R: Wait + Drop, W: Wait, X: Attachment, P: Port, G: Gate> Wo
         }
     }
 
-    /// Does what a line of a server, or for it, comes to.
+    /// Does what a line of a server, or for it, comes to. Where the node refuses a change, the rest is left and the
+    /// connection is closed: nobody is told what the node doesn't have.
     pub(crate) fn do_server(&mut self, line: usize, effects: Vec<UpEffect>) -> Result<(), WorkEnd> {
         if let Some(standing) = self.servers.note_entry(&mut self.desk, line) {
             self.spread(standing, is_passed_on(&effects));
@@ -78,7 +71,12 @@ impl<'a, J: Naming, R: Wait + Drop, W: Wait, X: Attachment, P: Port, G: Gate> Wo
         for effect in effects {
             match effect {
                 UpEffect::Send(text) => self.servers.owe(line, text.as_bytes()),
-                UpEffect::Put(change) => self.put_from(line, change),
+                UpEffect::Put(change) => {
+                    if !self.put_from(line, change) {
+                        self.close_server(line, Reason::NoMemory);
+                        return Ok(());
+                    }
+                }
                 UpEffect::Relay(text, to) => self.pass_on(line, to, text)?,
                 UpEffect::Close => {
                     self.servers.end(line, Reason::Ended);
@@ -89,14 +87,19 @@ impl<'a, J: Naming, R: Wait + Drop, W: Wait, X: Attachment, P: Port, G: Gate> Wo
         Ok(())
     }
 
-    // Puts what a server's line came to. A message is told as it comes.
-    fn put_from(&mut self, line: usize, change: Change) {
+    // Puts what a server's line came to, and says whether the node has it. A message is told as it comes, also where it waits
+    // to be published.
+    fn put_from(&mut self, line: usize, change: Change) -> bool {
         let changes = [change];
-        let _ = self.node.put(&changes);
-        self.publish();
+        match self.put(&changes) {
+            Ok(()) => self.publish(),
+            Err(PutFault::Waiting) => {}
+            Err(PutFault::NoMemory { .. } | PutFault::Exhausted) => return false,
+        }
         if let Change::Post(message) = &changes[0] {
             self.tell_message(line, message);
         }
+        true
     }
 
     // Tells a message of a network to the sessions that hear it.

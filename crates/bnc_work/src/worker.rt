@@ -1,4 +1,5 @@
 //! One worker: what comes, and who has something to do.
+use crate::node::{GatedNode, Node};
 use crate::station::{Station, WorkEnd};
 use attach::Attachment;
 use bnc_ports::{Dial, Gate, Happening, Port};
@@ -21,10 +22,8 @@ const TIMERS: usize = 64;
 
 /// One worker.
 #[derive(Drop)]
-pub(crate) struct Worker<'a, J: Naming, R: Wait + Drop, W: Wait, X, P: Port, G: Gate> {
-    pub(crate) rt: &'a W,
-    pub(crate) gate: &'a G,
-    pub(crate) node: NodeTaker<'a, J, R, W>,
+pub(crate) struct Worker<N: Node, X, P: Port> {
+    pub(crate) node: N,
     pub(crate) desk: Desk<P>,
     pub(crate) clients: Clients<X>,
     pub(crate) servers: Servers,
@@ -56,9 +55,10 @@ pub fn work<J: Naming, R: Wait + Drop, W: Wait + AllocGlobal, X: Attachment, P: 
         return WorkEnd::Failed;
     };
     let mut worker = Worker {
-        rt,
-        gate,
-        node: NodeTaker::new(node, pass, rt),
+        node: GatedNode {
+            taker: NodeTaker::new(node, pass, rt),
+            gate,
+        },
         desk,
         clients,
         servers,
@@ -93,6 +93,7 @@ fn begin<X: Attachment, P: Port>(
     } = station;
     let clients = Clients::new(alloc, lobby);
     let servers = Servers::new(alloc, networks.len())?;
+    let count = peers.len();
     let peers = Peers::new(alloc, &terms, peers)?;
     let site = Site {
         alloc,
@@ -107,19 +108,11 @@ fn begin<X: Attachment, P: Port>(
         terms,
         retain_days,
     };
-    let desk = Desk::new(site, port)?;
+    let desk = Desk::new(site, port, count)?;
     Ok((desk, clients, servers, peers))
 }
 
-impl<'a, J: Naming, R: Wait + Drop, W: Wait, X: Attachment, P: Port, G: Gate> Worker<
-    'a,
-    J,
-    R,
-    W,
-    X,
-    P,
-    G,
-> {
+impl<N: Node, X: Attachment, P: Port> Worker<N, X, P> {
     // Connects to the servers of this worker's networks. The first worker connects to peers too, and has the floors put.
     fn open(&mut self) {
         let Worker {
@@ -137,7 +130,7 @@ impl<'a, J: Naming, R: Wait + Drop, W: Wait, X: Attachment, P: Port, G: Gate> Wo
 
     /// Asks the gate whether an answer may go out.
     pub(crate) fn ask_gate(&self) -> Result<(), WorkEnd> {
-        if self.gate.before_answer(self.desk.site.worker) {
+        if self.node.may_answer(self.desk.site.worker) {
             Ok(())
         } else {
             Err(WorkEnd::GateShut)
@@ -181,7 +174,7 @@ impl<'a, J: Naming, R: Wait + Drop, W: Wait, X: Attachment, P: Port, G: Gate> Wo
     fn take(&mut self, happening: Happening) -> Result<(), WorkEnd> {
         match happening {
             Happening::Client { line, ticket } => {
-                self.clients.admit(self.rt, &mut self.desk, line, ticket);
+                self.clients.admit(&self.node, &mut self.desk, line, ticket);
             }
             Happening::Peer { line } => self.peers.begin(&mut self.desk, line, None),
             Happening::Opened { line, what } => return self.opened(line, what),
@@ -263,8 +256,9 @@ impl<'a, J: Naming, R: Wait + Drop, W: Wait, X: Attachment, P: Port, G: Gate> Wo
                 peers.check_greeted(desk, line);
             }
             Timer::RetryPeer(place) => peers.dial(desk, place),
-            Timer::UnansweredPacket(line) => peers.check_answered(desk, line, &mut node.pass),
+            Timer::UnansweredPacket(line) => peers.check_answered(desk, line, node.pass()),
             Timer::Floors => self.put_floors(),
+            Timer::Publish => self.publish_waiting(),
         }
     }
 }
