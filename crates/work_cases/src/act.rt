@@ -20,6 +20,8 @@ pub enum Act<'a> {
 pub enum Turn<'a> {
     /// A client comes, to whom so many bytes may be owed.
     Client(usize),
+    /// A client comes whose attachment doesn't.
+    Stray,
     /// A node comes.
     Peer,
     /// The connection that was begun is there.
@@ -30,6 +32,8 @@ pub enum Turn<'a> {
     Line(&'a str),
     /// A line comes, with whatever comes next.
     Early(&'a str),
+    /// A line comes so many times, with whatever comes next.
+    Many(usize, &'a str),
     /// Bytes come that end no line.
     Part(&'a str),
     /// A line of so many bytes comes.
@@ -59,15 +63,30 @@ fn takes_in(text: &str) -> Option<Turn<'_>> {
     }
 }
 
+fn many_in(text: &str) -> Option<Turn<'_>> {
+    let (count, line) = cut(text);
+    Some(Turn::Many(number_in(count)?, line))
+}
+
+/// The connections to which an act happens one after another, the first and the last, and what happens to each. None where it
+/// happens to one.
+pub fn range_in(text: &str) -> Option<(usize, usize, &str)> {
+    let (word, rest) = cut(text);
+    let (first, last) = word.split_once("-")?;
+    Some((number_in(first)?, number_in(last)?, rest))
+}
+
 fn turn_in(text: &str) -> Option<Turn<'_>> {
     let (word, rest) = cut(text);
     match word {
         "client" => Some(Turn::Client(number_in(rest)?)),
+        "stray" => Some(Turn::Stray),
         "peer" => Some(Turn::Peer),
         "opens" => Some(Turn::Opens),
         "refused" => Some(Turn::Refused),
         "<" => Some(Turn::Line(rest)),
         "+" => Some(Turn::Early(rest)),
+        "many" => many_in(rest),
         "." => Some(Turn::Part(rest)),
         "long" => Some(Turn::Long(number_in(rest)?)),
         "ends" => Some(Turn::Ends),

@@ -164,6 +164,12 @@ impl Line {
     }
 }
 
+/// Of a longer line so many bytes are told.
+const TOLD: usize = 40;
+
+/// A line of more bytes is longer.
+const LONG: usize = 200;
+
 // Tells a line, which ends with a CR here, or bytes that end no line.
 fn tell_text(
     alloc: Global,
@@ -178,6 +184,18 @@ fn tell_text(
     };
     let start = format!(in alloc; "    {number} {mark} ")?;
     out.extend_from_slice(start.as_bytes())?;
+    if text.len() > LONG {
+        return tell_front(alloc, text, out);
+    }
     out.extend_from_slice(text)?;
     out.extend_from_slice(b"\n")
+}
+
+// Tells how a long text begins, and how many bytes it has.
+fn tell_front(alloc: Global, text: &[u8], out: &mut Vec<u8>) -> Result<(), AllocError> {
+    let count = format!(in alloc; "… ({} bytes)\n", text.len())?;
+    if let Some(front) = text.get(..TOLD) {
+        out.extend_from_slice(front)?;
+    }
+    out.extend_from_slice(count.as_bytes())
 }

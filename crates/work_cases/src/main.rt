@@ -15,11 +15,13 @@
 //! Acts begin a line:
 //!
 //!     1 client 1024       a client comes by connection 1, to whom 1,024 bytes may be owed
+//!     1 stray             a client comes whose attachment doesn't
 //!     1 peer              a node comes
 //!     10 opens            the connection that was begun under that number is there
 //!     10 refused          it can't be made
 //!     1 < line            a line comes, with CR LF
 //!     1 + line            a line comes, with what comes next
+//!     1 many 99 line      a line comes 99 times, with what comes next
 //!     1 . bytes           bytes come that end no line
 //!     1 long 9000         a line of so many bytes comes
 //!     1 ends              the other end sends nothing more
@@ -31,10 +33,13 @@
 //!     fail                the port fails
 //!     stop                the clock can't be read any more
 //!
+//! Where an act begins with `20-89` it happens to each of these connections, one after another.
+//!
 //! What comes of an act stands behind it, four spaces in. First comes, in its order, which place a client got, what the
 //! operator was told, which connections were begun, and what was told to the other worker; then, connection by connection,
 //! the lines that were sent, behind `>`, bytes that end no line, behind `.`, and whether it was closed. The last line of a
-//! case says how the work ended. A NUL is spelled `␀`, and a CR `␍`.
+//! case says how the work ended. A NUL is spelled `␀`, and a CR `␍`. A line of more than 200 bytes is told by the first 40 of
+//! them and their count.
 #![tactic(auto)]
 
 ghost use Rattle.shared_node.specs.Names.{IsNamed};

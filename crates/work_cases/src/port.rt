@@ -1,5 +1,5 @@
 //! A port of memory, which plays the acts of a case and tells what comes of them.
-use crate::act::{Act, Turn, act_in};
+use crate::act::{Act, Turn, act_in, range_in};
 use crate::line::Line;
 use crate::mail::{mail_in, tell_mail};
 use crate::setting::Setting;
@@ -16,7 +16,7 @@ use std::sync::Wait;
 const DIALED: usize = 10;
 
 /// So many connections a port has at most.
-const LINES: usize = 32;
+const LINES: usize = 128;
 
 /// A worker that asks more often than this what comes next does so for ever.
 const TURNS: u64 = 1_000_000;
@@ -27,6 +27,8 @@ pub struct MemoryPort<R: Wait + Drop> {
     rt: R,
     alloc: Global,
     acts: VecDeque<String>,
+    // the rest of an act that happens to several connections
+    parts: VecDeque<String>,
     turns: u64,
     clock: u64,
     // so many milliseconds of an act are still to pass
@@ -104,6 +106,7 @@ impl<R: Wait + Drop> MemoryPort<R> {
             rt,
             alloc,
             acts: acts_of(alloc, script)?,
+            parts: VecDeque::new(alloc),
             turns: 0,
             clock: setting.clock,
             to_pass: 0,
@@ -175,6 +178,9 @@ impl<R: Wait + Drop> MemoryPort<R> {
             self.clock = self.clock.saturating_add(time);
             return Ok(Happening::Nothing);
         }
+        if let Some(text) = self.parts.pop_front() {
+            return self.play_text(text.as_str());
+        }
         self.tell_lines()?;
         self.play_next()
     }
@@ -185,7 +191,18 @@ impl<R: Wait + Drop> MemoryPort<R> {
         };
         self.told.extend_from_slice(text.as_bytes())?;
         self.told.push(b'\n')?;
-        match act_in(text.as_str()) {
+        let Some((first, last, turn)) = range_in(text.as_str()) else {
+            return self.play_text(text.as_str());
+        };
+        for line in first..=last {
+            let part = format!(in self.alloc; "{line} {turn}")?;
+            self.parts.push_back(part)?;
+        }
+        Ok(Happening::Nothing)
+    }
+
+    fn play_text(&mut self, text: &str) -> Result<Happening, Error> {
+        match act_in(text) {
             Some(act) => self.play(act),
             None => Err(Error::from(AllocError)),
         }
@@ -205,6 +222,7 @@ impl<R: Wait + Drop> MemoryPort<R> {
     fn play_turn(&mut self, line: usize, turn: Turn<'_>) -> Result<Happening, Error> {
         match turn {
             Turn::Client(bound) => return self.bring_client(line, bound),
+            Turn::Stray => return self.bring_stray(line),
             Turn::Peer => return self.bring_peer(line),
             Turn::Opens => return self.end_dial(line, true),
             Turn::Refused => return self.end_dial(line, false),
@@ -213,6 +231,12 @@ impl<R: Wait + Drop> MemoryPort<R> {
             Turn::Long(count) => self.bring(line, long_line(self.alloc, count)?)?,
             Turn::Early(text) => {
                 self.bring(line, line_of(self.alloc, text)?)?;
+                return Ok(Happening::Nothing);
+            }
+            Turn::Many(count, text) => {
+                for _ in 0..count {
+                    self.bring(line, line_of(self.alloc, text)?)?;
+                }
                 return Ok(Happening::Nothing);
             }
             Turn::Ends => self.line(line)?.end(),
@@ -237,6 +261,16 @@ impl<R: Wait + Drop> MemoryPort<R> {
     fn bring_peer(&mut self, line: usize) -> Result<Happening, Error> {
         *self.line(line)? = Line::new(self.alloc, None);
         Ok(Happening::Peer { line })
+    }
+
+    // A client comes whose attachment isn't in the lobby.
+    fn bring_stray(&mut self, line: usize) -> Result<Happening, Error> {
+        *self.line(line)? = Line::new(self.alloc, None);
+        self.ticket = self.ticket.saturating_add(1);
+        Ok(Happening::Client {
+            line,
+            ticket: self.ticket,
+        })
     }
 
     // A client comes, if there is a place.
