@@ -2,10 +2,14 @@
 """Measures a running bouncer: what it relays and plays back for each second of processor time, how long a line takes, and
 what a message and an idle client cost in memory. It plays the network's server and the clients itself, over loopback.
 
-    bench/beside_znc.py bnc PROGRAM        starts PROGRAM serve with a configuration of its own
-    bench/beside_znc.py znc                starts Debian's znc with a configuration of its own
+    bench/beside_znc.py bnc PROGRAM            starts PROGRAM serve with a configuration of its own
+    bench/beside_znc.py znc                    starts Debian's znc with a configuration of its own
+    bench/beside_znc.py both PROGRAM ROUNDS    one after the other, so many times, and then the median and the range of each
 
-It prints one line a measure. Figures are of use beside those of the other bouncer in the same run of the machine alone.
+It prints one line a measure. Figures are of use beside those of the other bouncer in the same run of the machine alone. On a
+machine with other work let root run it at real-time priority, which the bouncers inherit:
+
+    chrt --rr 40 bench/beside_znc.py both PROGRAM 5
 """
 import os
 import selectors
@@ -19,7 +23,6 @@ import time
 SECRET = "s3cret"
 SERVER_PORT = 16700
 BOUNCER_PORT = 16667
-TICK = os.sysconf("SC_CLK_TCK")
 
 BNC = """name = "bnc.example"
 node = "n1"
@@ -90,6 +93,8 @@ class Bouncer:
 
     def __init__(self, kind, program):
         self.kind = kind
+        # what was measured: figures by their names
+        self.figures = {}
         self.home = tempfile.mkdtemp(prefix="bench-")
         if kind == "bnc":
             path = os.path.join(self.home, "one.toml")
@@ -112,10 +117,22 @@ class Bouncer:
         self.process = subprocess.Popen(command, stdout=self.log, stderr=self.log, **nobody)
 
     def seconds(self):
-        """Processor seconds so far."""
-        with open(f"/proc/{self.process.pid}/stat") as file:
-            fields = file.read().rsplit(")", 1)[1].split()
-        return (int(fields[11]) + int(fields[12])) / TICK
+        """Processor seconds of its threads so far."""
+        threads = f"/proc/{self.process.pid}/task"
+        nanoseconds = 0
+        for thread in os.listdir(threads):
+            try:
+                with open(f"{threads}/{thread}/schedstat") as file:
+                    nanoseconds += int(file.read().split()[0])
+            except FileNotFoundError:
+                # a thread that ended in between
+                continue
+        return nanoseconds / 1e9
+
+    def tell(self, measure, figure, unit):
+        """Prints a figure, and keeps it."""
+        self.figures[f"{measure}, {unit}"] = figure
+        print(f"{self.kind} {measure}: {figure:.0f} {unit}", flush=True)
 
     def resident(self):
         """Resident memory in bytes."""
@@ -165,6 +182,11 @@ class Server:
 
     def send(self, data):
         self.socket.sendall(data)
+
+    def close(self):
+        if self.socket:
+            self.socket.close()
+        self.listener.close()
 
 
 def line(number, body):
@@ -261,8 +283,7 @@ def relay(bouncer, server, attached, count):
     spent = bouncer.seconds() - before
     clients.close()
     time.sleep(0.5)
-    rate = count * attached / spent if spent else float("inf")
-    print(f"{bouncer.kind} relay to {attached} clients: {rate:.0f} lines a processor second ({spent:.2f} s)", flush=True)
+    bouncer.tell(f"relay to {attached} clients", count * attached / spent, "lines a processor second")
 
 
 def latency(bouncer, server, count=2000, pause=0.001):
@@ -277,8 +298,8 @@ def latency(bouncer, server, count=2000, pause=0.001):
     clients.wait_for(count) if min(clients.seen.values()) < count else None
     clients.close()
     stamps = sorted(clients.stamps)
-    half, most = stamps[len(stamps) // 2], stamps[len(stamps) * 99 // 100]
-    print(f"{bouncer.kind} latency: p50 {half / 1000:.0f} us, p99 {most / 1000:.0f} us", flush=True)
+    bouncer.tell("latency of half of the lines", stamps[len(stamps) // 2] / 1000, "us")
+    bouncer.tell("latency of 99 of 100 lines", stamps[len(stamps) * 99 // 100] / 1000, "us")
 
 
 def playback(bouncer, rounds=100):
@@ -303,7 +324,7 @@ def playback(bouncer, rounds=100):
             played += min(clients.seen.values())
             clients.close()
         spent = bouncer.seconds() - before
-    print(f"{bouncer.kind} playback: {played / spent:.0f} lines a processor second ({spent:.2f} s)", flush=True)
+    bouncer.tell("playback", played / spent, "lines a processor second")
 
 
 def idle_clients(bouncer, count=500):
@@ -311,7 +332,7 @@ def idle_clients(bouncer, count=500):
     clients = Clients(bouncer, count)
     clients.settle(1)
     after = bouncer.resident()
-    print(f"{bouncer.kind} idle client: {(after - before) / count:.0f} bytes resident", flush=True)
+    bouncer.tell("idle client", (after - before) / count, "bytes resident")
     clients.close()
     time.sleep(1)
 
@@ -324,14 +345,14 @@ def message_memory(bouncer, server, count=20000):
     before = bouncer.resident()
     flood(server, clients, count)
     after = bouncer.resident()
-    print(f"{bouncer.kind} message: {(after - before) / count:.0f} bytes resident", flush=True)
+    bouncer.tell("message", (after - before) / count, "bytes resident")
     clients.close()
 
 
-def main():
-    kind = sys.argv[1]
+def measure(kind, program):
+    """All figures of one bouncer, by their names."""
     server = Server()
-    bouncer = Bouncer(kind, sys.argv[2] if kind == "bnc" else None)
+    bouncer = Bouncer(kind, program)
     try:
         server.accept()
         wait_for_port(BOUNCER_PORT)
@@ -348,6 +369,31 @@ def main():
         message_memory(bouncer, server)
     finally:
         bouncer.stop()
+        server.close()
+    return bouncer.figures
+
+
+def summary(figures):
+    """The median, and the least and the greatest."""
+    figures = sorted(figures)
+    return figures[len(figures) // 2], f"{figures[len(figures) // 2]:.0f} ({figures[0]:.0f} to {figures[-1]:.0f})"
+
+
+def measure_both(program, rounds):
+    runs = [(measure("bnc", program), measure("znc", None)) for _ in range(rounds)]
+    for name in runs[0][0]:
+        ours, our_text = summary(bnc[name] for bnc, _ in runs)
+        theirs, their_text = summary(znc[name] for _, znc in runs)
+        ratio = ours / theirs if theirs else float("inf")
+        print(f"{name}: bnc {our_text}, znc {their_text}, ratio of the medians {ratio:.2f}", flush=True)
+
+
+def main():
+    kind = sys.argv[1]
+    if kind == "both":
+        measure_both(sys.argv[2], int(sys.argv[3]))
+    else:
+        measure(kind, sys.argv[2] if kind == "bnc" else None)
 
 
 if __name__ == "__main__":
