@@ -3,10 +3,11 @@ use Rattle.std.proofs.Common.{◌≡◌, ◌≢◌, refl, sym, ◌∙◌, ap, �
 use Rattle.std.specs.declared.cmp.Ordering.{Ordering}
 use Rattle.std.specs.declared.cmp.Ordering.TheVariants.{Less, Equal, Greater}
 use Rattle.std.specs.Ordering.{nat_cmp, ordering_then}
-use Rattle.std.specs.Int.{from_be_bytes, w64}
+use Rattle.std.specs.Int.{from_be_bytes, w128}
 use Rattle.std.proofs.Math.Nat.{mul-le-mul_right}
+use Rattle.std.proofs.lemmas.Nat.{pow-add}
 use Rattle.chat_change.specs.Order.{text_cmp}
-use Rattle.chat_change.specs.ShortText.{HasZerosFrom, leading, AreBytes, IsHeadOf}
+use Rattle.chat_change.specs.ShortText.{HasZerosFrom, leading, AreBytes, IsWordOf}
 
 rest_are : (k x : ℕ) (xs : List ℕ) → AreBytes (take (suc k) (x ∷ xs)) → AreBytes (take k xs)
 rest_are k x xs b i = b (suc i)
@@ -88,16 +89,37 @@ padded (suc k) zero xs z = sym (zeros (suc k) xs z)
 padded (suc k) (suc n) [] z = refl
 padded (suc k) (suc n) (x ∷ xs) z = ap (λ r. x * 256 ^ k + r) (padded k n xs (λ i l. z (suc i) (omega (arith, l))))
 
-pub from_eight : (xs : List ℕ) → 8 ≤ length xs → from_be_bytes w64 xs ≡ leading 8 xs
-from_eight [] l = absurd (omega (arith, l))
-from_eight (a ∷ []) l = absurd (omega (arith, l))
-from_eight (a ∷ b ∷ []) l = absurd (omega (arith, l))
-from_eight (a ∷ b ∷ c ∷ []) l = absurd (omega (arith, l))
-from_eight (a ∷ b ∷ c ∷ d ∷ []) l = absurd (omega (arith, l))
-from_eight (a ∷ b ∷ c ∷ d ∷ e ∷ []) l = absurd (omega (arith, l))
-from_eight (a ∷ b ∷ c ∷ d ∷ e ∷ f ∷ []) l = absurd (omega (arith, l))
-from_eight (a ∷ b ∷ c ∷ d ∷ e ∷ f ∷ g ∷ []) l = absurd (omega (arith, l))
-from_eight (a ∷ b ∷ c ∷ d ∷ e ∷ f ∷ g ∷ h ∷ xs) l = omega arith
+pub from_word : (xs : List ℕ) → 16 ≤ length xs → from_be_bytes w128 xs ≡ leading 16 xs
+from_word [] long = absurd (omega (arith, long))
+from_word (a ∷ []) long = absurd (omega (arith, long))
+from_word (a ∷ b ∷ []) long = absurd (omega (arith, long))
+from_word (a ∷ b ∷ c ∷ []) long = absurd (omega (arith, long))
+from_word (a ∷ b ∷ c ∷ d ∷ []) long = absurd (omega (arith, long))
+from_word (a ∷ b ∷ c ∷ d ∷ e ∷ []) long = absurd (omega (arith, long))
+from_word (a ∷ b ∷ c ∷ d ∷ e ∷ f ∷ []) long = absurd (omega (arith, long))
+from_word (a ∷ b ∷ c ∷ d ∷ e ∷ f ∷ g ∷ []) long = absurd (omega (arith, long))
+from_word (a ∷ b ∷ c ∷ d ∷ e ∷ f ∷ g ∷ h ∷ []) long = absurd (omega (arith, long))
+from_word (a ∷ b ∷ c ∷ d ∷ e ∷ f ∷ g ∷ h ∷ i ∷ []) long = absurd (omega (arith, long))
+from_word (a ∷ b ∷ c ∷ d ∷ e ∷ f ∷ g ∷ h ∷ i ∷ j ∷ []) long = absurd (omega (arith, long))
+from_word (a ∷ b ∷ c ∷ d ∷ e ∷ f ∷ g ∷ h ∷ i ∷ j ∷ k ∷ []) long = absurd (omega (arith, long))
+from_word (a ∷ b ∷ c ∷ d ∷ e ∷ f ∷ g ∷ h ∷ i ∷ j ∷ k ∷ l ∷ []) long = absurd (omega (arith, long))
+from_word (a ∷ b ∷ c ∷ d ∷ e ∷ f ∷ g ∷ h ∷ i ∷ j ∷ k ∷ l ∷ m ∷ []) long = absurd (omega (arith, long))
+from_word (a ∷ b ∷ c ∷ d ∷ e ∷ f ∷ g ∷ h ∷ i ∷ j ∷ k ∷ l ∷ m ∷ n ∷ []) long = absurd (omega (arith, long))
+from_word (a ∷ b ∷ c ∷ d ∷ e ∷ f ∷ g ∷ h ∷ i ∷ j ∷ k ∷ l ∷ m ∷ n ∷ o ∷ []) long = absurd (omega (arith, long))
+from_word (a ∷ b ∷ c ∷ d ∷ e ∷ f ∷ g ∷ h ∷ i ∷ j ∷ k ∷ l ∷ m ∷ n ∷ o ∷ p ∷ xs) long = omega arith
+
+-- ---- the same from a place on
+
+later_zeros : (p n : ℕ) (xs : List ℕ) → HasZerosFrom 0 xs → HasZerosFrom 0 (drop p xs)
+later_zeros zero n xs z = z
+later_zeros (suc p) n [] z = z
+later_zeros (suc p) n (x ∷ xs) z = later_zeros p n xs (λ i l. z (suc i) (omega arith))
+
+padded_from : (p k n : ℕ) (xs : List ℕ) → HasZerosFrom n xs → leading k (drop p (take n xs)) ≡ leading k (drop p xs)
+padded_from zero k n xs z = padded k n xs z
+padded_from (suc p) k zero xs z = zeros k [] (λ i l. refl) ∙ sym (zeros k (drop (suc p) xs) (later_zeros (suc p) 0 xs z))
+padded_from (suc p) k (suc n) [] z = refl
+padded_from (suc p) k (suc n) (x ∷ xs) z = padded_from p k n xs (λ i l. z (suc i) (omega (arith, l)))
 
 take_are : (k n : ℕ) (xs : List ℕ) → AreBytes (take k xs) → AreBytes (take k (take n xs))
 take_are zero n xs b i = omega arith
@@ -105,6 +127,12 @@ take_are (suc k) zero xs b i = omega arith
 take_are (suc k) (suc n) [] b i = omega arith
 take_are (suc k) (suc n) (x ∷ xs) b zero = b 0
 take_are (suc k) (suc n) (x ∷ xs) b (suc i) = take_are k n xs (rest_are k x xs b) i
+
+taken_are : (p k n : ℕ) (xs : List ℕ) → AreBytes (take k (drop p xs)) → AreBytes (take k (drop p (take n xs)))
+taken_are zero k n xs b = take_are k n xs b
+taken_are (suc p) k zero xs b = none_are k
+taken_are (suc p) k (suc n) [] b = none_are k
+taken_are (suc p) k (suc n) (x ∷ xs) b = taken_are p k n xs b
 
 whole : (k : ℕ) (xs : List ℕ) → leading k (take k xs) ≡ leading k xs
 whole zero xs = refl
@@ -117,14 +145,86 @@ once (suc k) [] b i = omega arith
 once (suc k) (x ∷ xs) b zero = b 0
 once (suc k) (x ∷ xs) b (suc i) = once k xs (rest_are k x (take k xs) b) i
 
--- the head of a text that stands in a row of bytes with zeros after it
-pub head_of : (n h : ℕ) (xs : List ℕ) → HasZerosFrom n xs → IsHeadOf (take 8 xs) h → IsHeadOf (take n xs) h
-head_of n h xs z is = (is.0 ∙ whole 8 xs ∙ sym (padded 8 n xs z), take_are 8 n xs (once 8 xs is.1))
+-- the word of a row of bytes is that of its first sixteen
+pub of_first : (n : ℕ) (xs : List ℕ) → IsWordOf (take 16 xs) n → IsWordOf xs n
+of_first n xs is = (is.0 ∙ whole 16 xs, once 16 xs is.1)
 
-pub heads_tell : (xs ys : List ℕ) (m n : ℕ) → IsHeadOf xs m → IsHeadOf ys n → m ≢ n → nat_cmp m n ≡ text_cmp xs ys
-heads_tell xs ys m n a b apart =
-    let k : leading 8 xs ≢ leading 8 ys = λ e. apart (a.0 ∙ e ∙ sym b.0) in
-    (λ i. nat_cmp (a.0 i) (b.0 i)) ∙ sym (told 8 xs ys a.1 b.1 k)
+-- a word of a text that stands in a row of bytes with zeros after it
+pub word_of : (p n h : ℕ) (xs : List ℕ) → HasZerosFrom n xs → IsWordOf (drop p xs) h → IsWordOf (drop p (take n xs)) h
+word_of p n h xs z is = (is.0 ∙ sym (padded_from p 16 n xs z), taken_are p 16 n xs is.1)
+
+-- ---- the words in turn tell how texts compare
+
+-- `i + k`, by the steps of `leading`
+abbrev pub more : ℕ → ℕ → ℕ
+more zero k = k
+more (suc i) k = suc (more i k)
+
+more_is : (i k : ℕ) → more i k ≡ i + k
+more_is zero k = omega arith
+more_is (suc i) k = omega (arith, more_is i k)
+
+power_of_sum : (i k : ℕ) → 256 ^ more i k ≡ 256 ^ i * 256 ^ k
+power_of_sum i k = ap (λ n. 256 ^ n) (more_is i k) ∙ pow-add 256 i k
+
+nothing_leads : (k : ℕ) → leading k [] ≡ 0
+nothing_leads k = zeros k [] (λ i l. refl)
+
+-- the number of the first bytes, and that of those after them
+in_two : (i k : ℕ) (s : List ℕ) → leading (more i k) s ≡ leading i s * 256 ^ k + leading k (drop i s)
+in_two zero k s = sym (nothing (256 ^ k) (leading k s))
+in_two (suc i) k [] = sym (nothing (256 ^ k) (leading k []) ∙ nothing_leads k)
+in_two (suc i) k (x ∷ s) = grind (arith, power_of_sum i k, in_two i k s)
+
+joined : (i k : ℕ) (s : List ℕ) → AreBytes (take i s) → AreBytes (take k (drop i s)) → AreBytes (take (more i k) s)
+joined zero k s a b j = b j
+joined (suc i) k [] a b j = none_are (suc (more i k)) j
+joined (suc i) k (x ∷ s) a b zero = a 0
+joined (suc i) k (x ∷ s) a b (suc j) = joined i k s (rest_are i x s a) b j
+
+pub fewer_are : (i k : ℕ) (s : List ℕ) → AreBytes (take (more i k) s) → AreBytes (take i s)
+fewer_are zero k s b j = none_are 0 j
+fewer_are (suc i) k [] b j = none_are (suc i) j
+fewer_are (suc i) k (x ∷ s) b zero = b 0
+fewer_are (suc i) k (x ∷ s) b (suc j) = fewer_are i k s (rest_are (more i k) x s b) j
+
+later_are : (i k : ℕ) (s : List ℕ) → AreBytes (take (more i k) s) → AreBytes (take k (drop i s))
+later_are zero k s b j = b j
+later_are (suc i) k [] b j = none_are k j
+later_are (suc i) k (x ∷ s) b j = later_are i k s (rest_are (more i k) x s b) j
+
+-- texts whose first bytes make one number do so with fewer of them
+pub fewer_same : (i k : ℕ) (s t : List ℕ) → AreBytes (take (more i k) s) → AreBytes (take (more i k) t) → leading (more i k) s ≡ leading (more i k) t → leading i s ≡ leading i t
+fewer_same i k s t a b e = by (nat_cmp (leading i s) (leading i t)) refl
+  where
+    p : ℕ
+    p = 256 ^ k
+
+    both : leading i s * p + leading k (drop i s) ≡ leading i t * p + leading k (drop i t)
+    both = sym (in_two i k s) ∙ e ∙ in_two i k t
+
+    by : (o : Ordering) → nat_cmp (leading i s) (leading i t) ≡ o → leading i s ≡ leading i t
+    by Less f = let apart = below p (leading i s) (leading i t) (leading k (drop i s)) (leading k (drop i t)) (grind (arith, f)) (within k (drop i s) (later_are i k s a)) in absurd (omega (arith, apart, both))
+    by Greater f = let apart = below p (leading i t) (leading i s) (leading k (drop i t)) (leading k (drop i s)) (grind (arith, f)) (within k (drop i t) (later_are i k t b)) in absurd (omega (arith, apart, both))
+    by Equal f = grind (arith, f)
+
+pub no_bytes : (s : List ℕ) → AreBytes (take 0 s)
+no_bytes s i = omega arith
+
+pub words_tell : (i : ℕ) (s t : List ℕ) (m n : ℕ) → AreBytes (take i s) → AreBytes (take i t) → leading i s ≡ leading i t → IsWordOf (drop i s) m → IsWordOf (drop i t) n → m ≢ n → nat_cmp m n ≡ text_cmp s t
+words_tell i s t m n a b same f g apart = shifted head m n ∙ (λ j. nat_cmp (own j) (others j)) ∙ sym (told (more i 16) s t (joined i 16 s a f.1) (joined i 16 t b g.1) differ)
+  where
+    head : ℕ
+    head = leading i s * 256 ^ 16
+
+    own : head + m ≡ leading (more i 16) s
+    own = ap (λ z. head + z) f.0 ∙ sym (in_two i 16 s)
+
+    others : head + n ≡ leading (more i 16) t
+    others = ap (λ z. head + z) g.0 ∙ ap (λ z. z * 256 ^ 16 + leading 16 (drop i t)) same ∙ sym (in_two i 16 t)
+
+    differ : leading (more i 16) s ≢ leading (more i 16) t
+    differ e = let is : head + m ≡ head + n = own ∙ e ∙ sym others in apart (omega (arith, is))
 
 -- ---- a text that was copied over zeros
 

@@ -15,6 +15,6 @@ leading (suc k) (b ∷ text) = b * 256 ^ k + leading k text
 abbrev pub AreBytes : List ℕ → Type 0
 AreBytes numbers = (i : ℕ) → get_or numbers i 0 < 256
 
--- the number that the first eight bytes of a text make
-abbrev pub IsHeadOf : List ℕ → ℕ → Type 0
-IsHeadOf text n = (n ≡ leading 8 text) × AreBytes (take 8 text)
+-- the number that the first sixteen bytes of a text make
+abbrev pub IsWordOf : List ℕ → ℕ → Type 0
+IsWordOf text n = (n ≡ leading 16 text) × AreBytes (take 16 text)

@@ -1,7 +1,7 @@
 //! Where the bytes of a message id lie.
-ghost use Rattle.std.specs.Prelude.{◌≡◌, ◌≤◌, length, IfOk};
+ghost use Rattle.std.specs.Prelude.{◌≡◌, ◌≤◌, drop, length, IfOk};
 ghost use Rattle.chat_change.specs.IdText.{bytes_of};
-ghost use Rattle.chat_change.specs.ShortText.{IsHeadOf};
+ghost use Rattle.chat_change.specs.ShortText.{IsWordOf};
 ghost use Rattle.chat_change.specs.Order.{text_cmp};
 
 use std::alloc::{AllocError, Global};
@@ -31,11 +31,17 @@ impl Model for ShortText {
     ghost invariant = { λ t. (t.length ≤ SHORT_LIMIT) × HasZerosFrom t.length t.bytes };
 }
 
-// Eight bytes as one number, the first counting most.
-fn number_of(bytes: [u8; 8]) -> u64
-    ensures { IsHeadOf bytes result }
+// How many bytes are compared at once. Two such words, of which the second ends with the room, cover it.
+const WORD: usize = 16;
+
+// Where the second word begins.
+const SECOND_WORD: usize = SHORT_LIMIT - WORD;
+
+// The bytes of a word as one number, the first counting most.
+fn number_of(bytes: [u8; WORD]) -> u128
+    ensures { IsWordOf bytes result }
 {
-    u64::from_be_bytes(bytes)
+    u128::from_be_bytes(bytes)
 }
 
 impl ShortText {
@@ -57,24 +63,39 @@ impl ShortText {
         &self.bytes[..self.length as usize]
     }
 
-    // The first eight bytes as one number, the first counting most. A shorter text has zeros in place of the others.
-    fn head(&self) -> u64
-        ensures { IsHeadOf self.now result }
+    // The first bytes as one number, the first counting most. Where the text ends before, there are zeros.
+    fn first_word(&self) -> u128
+        ensures { IsWordOf self.now result }
     {
-        match self.bytes.first_chunk::<8>() {
+        match self.bytes.first_chunk::<WORD>() {
             Some(bytes) => number_of(*bytes),
             None => unreachable!(),
         }
     }
 
-    // How two texts compare, byte by byte. Where their heads differ, these tell, without a look at each byte.
+    // The same of the last bytes.
+    fn second_word(&self) -> u128
+        ensures { IsWordOf (drop SECOND_WORD self.now) result }
+    {
+        match self.bytes.last_chunk::<WORD>() {
+            Some(bytes) => number_of(*bytes),
+            None => unreachable!(),
+        }
+    }
+
+    // How two texts compare, byte by byte. Where their words differ, these tell, without a look at each byte.
     fn order(&self, other: &ShortText) -> Ordering
         ensures { result ≡ text_cmp self.now other.now }
     {
-        let own = self.head();
-        let others = other.head();
+        let own = self.first_word();
+        let others = other.first_word();
         if own != others {
             return own.cmp(&others);
+        }
+        let own_second = self.second_word();
+        let others_second = other.second_word();
+        if own_second != others_second {
+            return own_second.cmp(&others_second);
         }
         self.as_bytes().cmp(other.as_bytes())
     }
