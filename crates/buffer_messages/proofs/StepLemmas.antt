@@ -1,10 +1,10 @@
 -- The steps by which the two maps of a buffer change, each of which keeps them in agreement.
-use Rattle.std.proofs.Common.{◌≡◌, refl, sym, ◌∙◌, ap, subst, ℕ, List, Bool, true, false, cond, Option, Some, None, nat_eq, ◌≤◌, ◌<◌, is_some, arith, length, [], ◌∷◌}
+use Rattle.std.proofs.Common.{◌≡◌, ◌≢◌, refl, sym, ◌∙◌, ap, subst, ℕ, List, Bool, true, false, cond, Option, Some, None, nat_eq, ◌≤◌, ◌<◌, is_some, arith, length, [], ◌∷◌}
 use Rattle.std.proofs.lemmas.Bool.{false≢true}
 use Rattle.std.proofs.lemmas.Option.{same_Some}
 use Rattle.std.specs.declared.cmp.Ordering.{Ordering}
 use Rattle.std.specs.Ordering.{is_gt, ordering_then, nat_cmp}
-use Rattle.std.specs.Option.{IsSome, option_map}
+use Rattle.std.specs.Option.{IsSome, IfSome, option_map}
 use Rattle.std.specs.Map.{lookup}
 use Rattle.std.specs.BTreeMap as tree
 use Rattle.std.specs.FinMap as finite
@@ -15,12 +15,12 @@ use Rattle.chat_change.proofs.CallerLemmas.{text_total}
 use Rattle.chat_history.specs.Cut.{cut_cmp, of_record}
 use Rattle.chat_history.specs.declared.cut.Spot.{Spot}
 use Rattle.ordered_maps.specs.MapView.{held_by, IsSetTo, IsWith, IsWithout}
-use Rattle.ordered_maps.proofs.CallerLemmas.{get-held_by}
+use Rattle.ordered_maps.proofs.CallerLemmas.{get-held_by, unchanged}
 use Rattle.buffer_messages.specs.declared.standing.Standing.{Standing}
 use Rattle.buffer_messages.specs.declared.standing.Standing.TheVariants.{Kept, Gone}
 use Rattle.buffer_messages.specs.Messages.{Messages, kept_in, kept_moment, number_of, IsFrom}
 use Rattle.buffer_messages.specs.Agreement.{BySpot, ById, place, Agree}
-use Rattle.buffer_messages.proofs.AgreementLemmas.{same_id, same_id_is, settled, unkept_none, kept_elsewhere, its_place, its_message, kept_stands, set_elsewhere, set_here}
+use Rattle.buffer_messages.proofs.AgreementLemmas.{agree_alike, same_id, same_id_is, settled, unkept_none, kept_elsewhere, its_place, its_message, kept_stands, set_elsewhere, set_here}
 
 -- what is held of a message, as it is found
 pub found : (ids : ById) (s : Messages) (m : List ℕ) → held_by ids ≡ s → tree.get text_cmp ids m ≡ finite.get s m
@@ -81,6 +81,15 @@ module _ (m n : BySpot) (ids : ById) (a : Agree m ids) (r : Record) (fits : r.at
           (λ q apart. set_elsewhere n u None (place before r.id) r.id refl out q apart ∙ lands q apart)
           (λ t. set_here n u None before r.id out t ∙ ap (cond (nat_eq t before) None) (there t)
           ∙ no_longer t (nat_eq t before) (nat_eq t r.at) refl refl (λ e. kept_elsewhere m ids a r.id before kept t e)) (refl, fits) stands a
+
+    -- the old record left its place, where that was another one
+    pub left_agree : (u : BySpot) (o : Option ℕ) → kept_moment (tree.get text_cmp ids r.id) ≡ o → (o ≡ None → u.entries ≡ n.entries) → (o ≡ Some r.at → u.entries ≡ n.entries) → IfSome o (λ t. t ≢ r.at → IsWithout cut_cmp n (place t r.id) u) → Agree u jds
+    left_agree u None kept first same moved = agree_alike n u jds jds (unchanged cut_cmp n u (first refl)) (λ _. refl) (first_agree kept)
+    left_agree u (Some t) kept first same moved =
+        elim (nat_eq t r.at) as (λ b. nat_eq t r.at ≡ b → Agree u jds) [
+          | true ↦ λ e. let is : t ≡ r.at = grind (arith, e) in agree_alike n u jds jds (unchanged cut_cmp n u (same (ap Some is))) (λ _. refl) (same_agree (kept ∙ ap Some is))
+          | false ↦ λ e. moved_agree u t e (moved (λ is. let yes : nat_eq t r.at ≡ true = grind (arith, is) in false≢true (sym e ∙ yes))) kept
+        ] refl
 
 -- ---- a message goes
 

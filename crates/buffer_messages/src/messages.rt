@@ -1,13 +1,15 @@
 //! The messages of one buffer, in two maps that agree.
 
-ghost use Rattle.std.specs.Prelude.{◌≡◌, ◌<◌, None, IsTrue, IsSome, false, IfOk, IfSome};
+ghost use Rattle.std.specs.Prelude.{◌≡◌, ◌≢◌, ◌<◌, Some, None, IsTrue, IsSome, false, IfOk, IfSome};
+ghost use Rattle.std.specs.Prelude.{OnOk, OnErr};
 ghost use Rattle.std.specs.FinMap as map;
 ghost use Rattle.std.specs.BTreeMap as tree;
 ghost use Rattle.std.specs.Map.Iter.{deref};
 ghost use Rattle.chat_change.specs.Order.{text_cmp};
 ghost use Rattle.std.specs.Option.{option_map};
-ghost use Rattle.chat_history.specs.Cut.{of_record};
-ghost use Rattle.ordered_maps.specs.MapView.{IsSetTo};
+ghost use Rattle.chat_history.specs.Cut.{of_record, cut_cmp};
+ghost use Rattle.ordered_maps.specs.MapView.{IsSetTo, IsWithout};
+ghost use Rattle.buffer_messages.specs.Agreement.{place};
 ghost use Rattle.buffer_messages.specs.Messages as spec;
 ghost use Rattle.buffer_messages.specs.declared.standing.Standing.TheVariants as standing;
 
@@ -86,17 +88,6 @@ fn copies_of(post: &Record) -> Result<Copies, AllocError>
     })
 }
 
-// The moment of the record that was kept of a message.
-fn moment_in(standing: Option<Standing>) -> Option<Moment>
-    ensures { result ≡ spec.kept_moment standing }
-{
-    match &standing {
-        Some(Standing::Kept(post, _)) => Some(post.at()),
-        Some(Standing::Gone(_, _)) => None,
-        None => None,
-    }
-}
-
 // Makes what is held of a message what it was before. It takes no memory.
 fn restore(by_id: &mut BTreeMap<MsgId, Standing>, id: &MsgId, before: Option<Standing>)
     requires held { IsSome (tree.get text_cmp by_id.old id.now) }
@@ -136,12 +127,14 @@ impl Messages {
         }
     }
 
-    /// Keeps a record under a number, in place of what was held of its message. Where there is no memory nothing has
-    /// changed.
-    pub fn post(&mut self, post: Record, number: u64) -> bool
-        ensures placed { IsTrue result →
-            self.new ≡ map.insert self.old post.id (standing.Kept post number) }
-        ensures refused { result ≡ false → self.new ≡ self.old }
+    /// Keeps a record under a number, in place of what was held of its message, and answers the number that that had. Where
+    /// there is no memory nothing has changed.
+    pub fn post(&mut self, post: Record, number: u64) -> Result<Option<u64>, AllocError>
+        ensures before { IfOk result (λ before. before ≡
+            option_map spec.number_of (map.get self.old post.id)) }
+        ensures placed { OnOk result
+            (self.new ≡ map.insert self.old post.id (standing.Kept post number)) }
+        ensures refused { OnErr result (self.new ≡ self.old) }
     {
         let at = post.at();
         // without it nothing says that the moment is at most the greatest, as the maps' agreement does of each record
@@ -156,49 +149,48 @@ impl Messages {
         ) = copies_of(&post)
         else {
             discard(post);
-            return false;
+            return Err(AllocError);
         };
         let Ok(before) = exchange(&mut self.by_id, id, Standing::Kept(post, number)) else {
             discard(spot);
             discard(name);
             discard(copy);
-            return false;
+            return Err(AllocError);
         };
         if !put(&mut self.by_spot, spot, copy) {
             restore(&mut self.by_id, &name, before);
             discard(name);
-            return false;
+            return Err(AllocError);
         }
-        let Some(before) = moment_in(before) else {
-            discard(name);
-            return true;
-        };
-        if before.ms() != at.ms() {
-            let old = Spot {
-                at: before,
-                id: Some(name),
-            };
-            take_out(&mut self.by_spot, &old);
-            discard(old);
-        } else {
-            discard(name);
-        }
-        true
+        let earlier = number_in(&before);
+        leave_place(&mut self.by_spot, moment_in(before), name, at);
+        Ok(earlier)
     }
 
-    /// Notes that a message was redacted, and lets its record go. Where there is no memory nothing has changed.
-    pub fn redact(&mut self, id: MsgId, at: Option<Moment>, number: u64) -> bool
-        ensures placed { IsTrue result →
-            self.new ≡ map.insert self.old id (standing.Gone at number) }
-        ensures refused { result ≡ false → self.new ≡ self.old }
+    /// Notes that a message was redacted, lets its record go, and answers the number that what was held of the message had.
+    /// Where there is no memory nothing has changed.
+    pub fn redact(
+        &mut self,
+        id: MsgId,
+        at: Option<Moment>,
+        number: u64,
+    ) -> Result<Option<u64>, AllocError>
+        ensures before { IfOk result (λ before. before ≡
+            option_map spec.number_of (map.get self.old id)) }
+        ensures placed { OnOk result
+            (self.new ≡ map.insert self.old id (standing.Gone at number)) }
+        ensures refused { OnErr result (self.new ≡ self.old) }
     {
+        let before = number_of(&self.by_id, &id);
         match self.kept_moment(&id) {
-            Some(stood) => {
-                self.let_go(stood, id, at, number);
-                true
+            Some(stood) => self.let_go(stood, id, at, number),
+            None => {
+                if !self.note(id, at, number) {
+                    return Err(AllocError);
+                }
             }
-            None => self.note(id, at, number),
         }
+        Ok(before)
     }
 
     // Notes that a message was redacted of which no record is kept.
@@ -243,7 +235,7 @@ impl Messages {
         }
         let (spot, post) = self.by_spot.pop_first()?;
         discard(spot);
-        let number = number_in(&self.by_id, post.id());
+        let number = number_of(&self.by_id, post.id());
         take_out(&mut self.by_id, post.id());
         discard(post);
         number
@@ -251,9 +243,50 @@ impl Messages {
 }
 
 // The number of the piece of a message.
-fn number_in(by_id: &BTreeMap<MsgId, Standing>, id: &MsgId) -> Option<u64>
+fn number_of(by_id: &BTreeMap<MsgId, Standing>, id: &MsgId) -> Option<u64>
     ensures { result ≡ option_map spec.number_of (tree.get text_cmp by_id.now id.now) }
 {
     let standing = by_id.get(id)?;
     Some(standing.number())
+}
+
+// The number of what was held of a message.
+fn number_in(standing: &Option<Standing>) -> Option<u64>
+    ensures { result ≡ option_map spec.number_of standing.now }
+{
+    match standing {
+        Some(standing) => Some(standing.number()),
+        None => None,
+    }
+}
+
+// The moment of the record that was kept of a message.
+fn moment_in(standing: Option<Standing>) -> Option<Moment>
+    ensures { result ≡ spec.kept_moment standing }
+{
+    match &standing {
+        Some(Standing::Kept(post, _)) => Some(post.at()),
+        Some(Standing::Gone(_, _)) => None,
+        None => None,
+    }
+}
+
+// Takes out the record of a message that stood at another moment than the new one. It takes no memory.
+fn leave_place(by_spot: &mut BTreeMap<Spot, Record>, before: Option<Moment>, id: MsgId, at: Moment)
+    ensures first { before ≡ None → by_spot.new.entries ≡ by_spot.old.entries }
+    ensures same { before ≡ Some at → by_spot.new.entries ≡ by_spot.old.entries }
+    ensures moved { IfSome before (λ t. t ≢ at →
+        IsWithout cut_cmp by_spot.old (place t id) by_spot.new) }
+{
+    match before {
+        Some(before) if before.ms() != at.ms() => {
+            let spot = Spot {
+                at: before,
+                id: Some(id),
+            };
+            take_out(by_spot, &spot);
+            discard(spot);
+        }
+        _ => discard(id),
+    }
 }

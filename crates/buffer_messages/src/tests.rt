@@ -25,19 +25,25 @@ enum Step {
     TakeBelow(u64),
 }
 
-fn is_done(alloc: Global, messages: &mut Messages, step: Step, number: u64) -> Result<bool, Fail> {
+// Does it, and answers the number that went.
+fn number_gone(
+    alloc: Global,
+    messages: &mut Messages,
+    step: Step,
+    number: u64,
+) -> Result<Option<u64>, Fail> {
     match step {
         Step::Keep(id, ms) => {
             let post = record(alloc, id, ms)?;
-            Ok(messages.post(post, number))
+            Ok(messages.post(post, number)?)
         }
         Step::Redact(id) => {
             let id = MsgId::new(alloc, id)?;
-            Ok(messages.redact(id, None, number))
+            Ok(messages.redact(id, None, number)?)
         }
         Step::TakeBelow(ms) => {
             let floor = Moment::from_ms(ms).ok_or("no moment")?;
-            Ok(messages.remove_first_below(floor).is_some())
+            Ok(messages.remove_first_below(floor))
         }
     }
 }
@@ -50,27 +56,30 @@ fn has_id(post: Option<&Record>, id: &[u8]) -> bool {
     }
 }
 
-// Each step, whether it is done, and the ids of the first and of the last record after it.
-static STEPS: [(Step, bool, &[u8], &[u8]); 10] = [
-    (Step::TakeBelow(9000), false, b"", b""),
-    (Step::Keep(b"m2", 2000), true, b"m2", b"m2"),
-    (Step::Keep(b"m1", 2000), true, b"m1", b"m2"),
-    (Step::Keep(b"m3", 1000), true, b"m3", b"m2"),
-    (Step::Keep(b"m3", 3000), true, b"m1", b"m3"),
-    (Step::Redact(b"m1"), true, b"m2", b"m3"),
-    (Step::Redact(b"m9"), true, b"m2", b"m3"),
-    (Step::TakeBelow(2000), false, b"m2", b"m3"),
-    (Step::TakeBelow(2001), true, b"m3", b"m3"),
-    (Step::Redact(b"m3"), true, b"", b""),
+// Each step, the number of the earlier step that it takes the place of, and the ids of the first and of the last record
+// after it.
+static STEPS: [(Step, Option<u64>, &[u8], &[u8]); 12] = [
+    (Step::TakeBelow(9000), None, b"", b""),
+    (Step::Keep(b"m2", 2000), None, b"m2", b"m2"),
+    (Step::Keep(b"m1", 2000), None, b"m1", b"m2"),
+    (Step::Keep(b"m3", 1000), None, b"m3", b"m2"),
+    (Step::Keep(b"m3", 3000), Some(3), b"m1", b"m3"),
+    (Step::Redact(b"m1"), Some(2), b"m2", b"m3"),
+    (Step::Redact(b"m9"), None, b"m2", b"m3"),
+    (Step::TakeBelow(2000), None, b"m2", b"m3"),
+    (Step::TakeBelow(2001), Some(1), b"m3", b"m3"),
+    (Step::Keep(b"m3", 3000), Some(4), b"m3", b"m3"),
+    (Step::Redact(b"m3"), Some(9), b"", b""),
+    (Step::Keep(b"m9", 500), Some(6), b"m9", b"m9"),
 ];
 
 #[test]
 fn records_come_and_go(rt: HostRuntime) -> Result<(), Fail> {
     let mut messages = Messages::new(rt.alloc());
-    for (number, (step, done, first, last)) in STEPS.iter().enumerate() {
+    for (number, (step, gone, first, last)) in STEPS.iter().enumerate() {
         assert_eq!(rt;
-            is_done(rt.alloc(), &mut messages, *step, number as u64)?,
-            *done,
+            number_gone(rt.alloc(), &mut messages, *step, number as u64)?,
+            *gone,
             "step {number}"
         );
         assert!(rt;

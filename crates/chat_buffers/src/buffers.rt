@@ -1,6 +1,6 @@
 //! The numbered pieces of many buffers.
 
-ghost use Rattle.std.specs.Prelude.{◌≡◌, IsTrue, IfOk, Some, None, false, IfSome};
+ghost use Rattle.std.specs.Prelude.{◌≡◌, IfOk, OnOk, OnErr, Some, None, IfSome};
 ghost use Rattle.std.specs.FinMap as map;
 ghost use Rattle.chat_change.specs.Key as key;
 ghost use Rattle.chat_change.specs.Key.{key_of, key_buffer, value_of};
@@ -111,38 +111,43 @@ impl Buffers {
         }
     }
 
-    /// Puts a piece under its key. A floor forgets the moments of redactions that lie below it, and leaves the records. Where
-    /// there is no memory nothing has changed.
-    pub fn enter(&mut self, number: u64, change: Change) -> bool
+    /// Puts a piece under its key, and answers the number that the key had. A floor forgets the moments of redactions that
+    /// lie below it, and leaves the records. Where there is no memory nothing has changed.
+    pub fn enter(&mut self, number: u64, change: Change) -> Result<Option<u64>, AllocError>
         requires fits { FitsStore self.old change }
-        ensures entered { IsTrue result → IsEntered self.old number change self.new }
-        ensures refused { result ≡ false → self.new ≡ self.old }
+        ensures before { IfOk result (λ before. before ≡ spec.number_at self.old (key_of change)) }
+        ensures entered { OnOk result (IsEntered self.old number change self.new) }
+        ensures refused { OnErr result (self.new ≡ self.old) }
     {
         let Some(held) = self.held.get_mut(change.key().buffer()) else {
-            return self.enter_first(number, change);
+            self.enter_first(number, change)?;
+            return Ok(None);
         };
         settle(held, number, change)
     }
 
     // Puts the first piece of a buffer.
-    fn enter_first(&mut self, number: u64, change: Change) -> bool
+    fn enter_first(&mut self, number: u64, change: Change) -> Result<(), AllocError>
         requires fits { FitsStore self.old change }
         requires absent { (k : key.Key) → key_buffer k ≡ key_buffer (key_of change) →
             map.get self.old k ≡ None }
-        ensures entered { IsTrue result → IsEntered self.old number change self.new }
-        ensures refused { result ≡ false → self.new ≡ self.old }
+        ensures entered { OnOk result (IsEntered self.old number change self.new) }
+        ensures refused { OnErr result (self.new ≡ self.old) }
     {
         let Ok(buffer) = change.key().buffer().try_clone() else {
             discard(change);
-            return false;
+            return Err(AllocError);
         };
         let mut held = nothing_held(self.alloc);
-        if !settle(&mut held, number, change) {
+        let Ok(_) = settle(&mut held, number, change) else {
             discard(buffer);
             discard(held);
-            return false;
+            return Err(AllocError);
+        };
+        if !put(&mut self.held, buffer, held) {
+            return Err(AllocError);
         }
-        put(&mut self.held, buffer, held)
+        Ok(())
     }
 
     /// Takes the oldest record of a buffer out where it stands before a floor, and answers the number of its piece. None

@@ -1,8 +1,8 @@
 //! What is held of one buffer.
 
-ghost use Rattle.std.specs.Prelude.{◌≡◌, IsTrue, Some, None, false};
+ghost use Rattle.std.specs.Prelude.{◌≡◌, IfOk, OnOk, OnErr, Some, None};
 ghost use Rattle.std.specs.Option.{option_map};
-ghost use Rattle.chat_change.specs.Key.{Key};
+ghost use Rattle.chat_change.specs.Key.{Key, key_of};
 ghost use Rattle.chat_history.specs.Retention as spec;
 ghost use Rattle.chat_buffers.specs.Held.{Fits, Settles, held_piece, floor_moment};
 
@@ -84,12 +84,18 @@ pub(crate) fn at_or_above(floor: &Option<Stamp>, at: Option<Moment>) -> Option<M
     }
 }
 
-/// Puts a piece under its key. A floor forgets the moments of redactions that lie below it, and leaves the records. Where
-/// there is no memory nothing has changed.
-pub(crate) fn settle(held: &mut Held, number: u64, change: Change) -> bool
+/// Puts a piece under its key, and answers the number that the key had. A floor forgets the moments of redactions that lie
+/// below it, and leaves the records. Where there is no memory nothing has changed.
+pub(crate) fn settle(
+    held: &mut Held,
+    number: u64,
+    change: Change,
+) -> Result<Option<u64>, AllocError>
     requires fits { Fits held.old change }
-    ensures settled { IsTrue result → Settles (Some held.old) number change held.new }
-    ensures refused { result ≡ false → held.new ≡ held.old }
+    ensures before { IfOk result (λ before. before ≡
+        option_map (λ p. p.number) (held_piece (Some held.old) (key_of change))) }
+    ensures settled { OnOk result (Settles (Some held.old) number change held.new) }
+    ensures refused { OnErr result (held.new ≡ held.old) }
 {
     match change {
         Change::Post(post) => held.messages.post(post, number),
@@ -99,13 +105,15 @@ pub(crate) fn settle(held: &mut Held, number: u64, change: Change) -> bool
         }
         Change::Mark { buffer, at } => {
             discard(buffer);
+            let before = number_of(&held.marker);
             held.marker = Some(Stamp { at, number });
-            true
+            Ok(before)
         }
         Change::Floor { buffer, at } => {
             discard(buffer);
+            let before = number_of(&held.floor);
             held.floor = Some(Stamp { at, number });
-            true
+            Ok(before)
         }
     }
 }

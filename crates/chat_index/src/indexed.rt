@@ -101,15 +101,14 @@ impl Indexed {
             discard(change);
             return false;
         };
-        let before = self.buffers.number(&change.key());
         if !put(&mut self.index, number, place) {
             discard(change);
             return false;
         }
-        if !self.buffers.enter(number, change) {
+        let Ok(before) = self.buffers.enter(number, change) else {
             take_out(&mut self.index, &number);
             return false;
-        }
+        };
         if let Some(before) = before {
             take_out(&mut self.index, &before);
         }

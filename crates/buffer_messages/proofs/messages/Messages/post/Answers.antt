@@ -1,138 +1,95 @@
-use Rattle.std.proofs.Common.{rules, ◌≡◌, ◌≤◌, ◌∙◌, refl, sym, ap, subst, Some, false, nat_eq}
+use Rattle.std.proofs.Common.{rules, ◌≡◌, ◌≢◌, ◌≤◌, ◌∙◌, refl, sym, ap, subst, ℕ, Some, Option, List}
 use Rattle.std.specs.FinMap as map
 use Rattle.std.specs.BTreeMap as tree
-use Rattle.std.specs.Option.{IsSome}
+use Rattle.std.specs.Option.{IsSome, IfSome, option_map}
 use Rattle.irc_time.specs.Time.{greatest}
+use Rattle.chat_change.specs.Record.{Record}
 use Rattle.chat_change.specs.Order.{text_cmp}
 use Rattle.chat_change.proofs.CallerLemmas.{text_total, text_exact}
 use Rattle.chat_history.specs.Cut.{cut_cmp, of_record}
 use Rattle.ordered_maps.specs.MapView.{IsSetTo, IsWith, IsWithout}
 use Rattle.ordered_maps.proofs.CallerLemmas.{unchanged, held_alike, inserted, written}
+use Rattle.buffer_messages.specs.declared.messages.Copies.{Copies}
+use Rattle.buffer_messages.specs.declared.standing.Standing.{Standing}
 use Rattle.buffer_messages.specs.declared.standing.Standing.TheVariants as standing
-use Rattle.buffer_messages.specs.Messages.{Messages, kept_moment}
-use Rattle.buffer_messages.specs.Agreement.{place}
+use Rattle.buffer_messages.specs.Messages.{Messages, kept_moment, number_of}
+use Rattle.buffer_messages.specs.Agreement.{BySpot, ById, place}
 use Rattle.buffer_messages.proofs.AgreementLemmas.{agree_alike}
-use Rattle.buffer_messages.proofs.StepLemmas.{put_back, first_agree, same_agree, moved_agree}
+use Rattle.buffer_messages.proofs.StepLemmas.{found, put_back, left_agree}
 use Rattle.buffer_messages.proofs.messages.Messages.post.Goals as goal
 
+abbrev made_of : Record → Copies
+made_of r = record { spot = of_record r; id = r.id; name = r.id; post = r }
+
+-- what is said of the copies is said of the record
+module _ (r : Record) (f : Copies) (made : f ≡ made_of r) (ids jds : ById) (n : ℕ) where
+  stands : IsWith text_cmp ids f.id (standing.Kept r n) jds → IsWith text_cmp ids r.id (standing.Kept r n) jds
+  stands = subst (λ g. IsWith text_cmp ids g.id (standing.Kept r n) jds) made
+
+  was : (o : Option Standing) → o ≡ tree.get text_cmp ids f.id → o ≡ tree.get text_cmp ids r.id
+  was o e = e ∙ ap (λ g. tree.get text_cmp ids g.id) made
+
+  named : IsWith text_cmp ids f.id (standing.Kept r n) jds → IsSome (tree.get text_cmp jds f.name)
+  named up = subst (λ g. IsSome (tree.get text_cmp jds g.name)) (sym made) (subst IsSome (sym (written text_total ids jds r.id (standing.Kept r n) (stands up))) refl)
+
+  restored : (kds : ById) (o : Option Standing) → IsWith text_cmp ids f.id (standing.Kept r n) jds → o ≡ tree.get text_cmp ids f.id → IsSetTo text_cmp jds f.name o kds → (q : List ℕ) → tree.get text_cmp kds q ≡ tree.get text_cmp ids q
+  restored kds o up e back = put_back ids jds kds r.id (standing.Kept r n) o (stands up) (subst (λ g. IsSetTo text_cmp jds g.name o kds) made back) (was o e)
+
+filed : (r : Record) (f : Copies) → f ≡ made_of r → (m n : BySpot) → IsWith cut_cmp m f.spot f.post n → IsWith cut_cmp m (of_record r) r n
+filed r f made m n = subst (λ g. IsWith cut_cmp m g.spot g.post n) made
+
 pub restore-requires : goal.restore-requires
-restore-requires c =
+restore-requires c = record { held = named c.args.post c.in-Ok.field-0 c.in-Ok.ensures c.self.inside.by_id c.exchange.new.map c.args.number c.in-Ok-exchange.ensures.put }
+
+pub invariant_of-self : goal.invariant_of-self
+invariant_of-self c =
+    let m = c.self.inside.by_spot in
     let ids = c.self.inside.by_id in
-    let jds = c.exchange.new.map in
-    let r = c.args.post in
-    let made = c.in-Ok.ensures in
-    let stands : IsWith text_cmp ids r.id (standing.Kept r c.args.number) jds =
-    subst (λ f. IsWith text_cmp ids f.id (standing.Kept r c.args.number) jds) made c.in-Ok-exchange.ensures.put in
-    record { held = subst (λ f. IsSome (tree.get text_cmp jds f.name)) (sym made) (subst IsSome (sym (written text_total ids jds r.id (standing.Kept r c.args.number) stands)) refl) }
+    agree_alike m m ids c.exchange.new.map (λ q. refl) (unchanged text_cmp ids c.exchange.new.map c.in_default-exchange.ensures.refused) c.self.invariant
 
 pub invariant_of-self-then-not-put : goal.invariant_of-self-then-not-put
 invariant_of-self-then-not-put c =
     let m = c.self.inside.by_spot in
     let n = c.put.new.map in
     let ids = c.self.inside.by_id in
-    let jds = c.exchange.new.map in
-    let r = c.args.post in
-    let made = c.in-Ok.ensures in
-    let stands : IsWith text_cmp ids r.id (standing.Kept r c.args.number) jds =
-    subst (λ f. IsWith text_cmp ids f.id (standing.Kept r c.args.number) jds) made c.in-Ok-exchange.ensures.put in
-    let was : c.in-Ok-exchange.before ≡ tree.get text_cmp ids r.id = c.in-Ok-exchange.ensures.before ∙ ap (λ f. tree.get text_cmp ids f.id) made in
-    let back : IsSetTo text_cmp jds r.id c.in-Ok-exchange.before c.restore.new.by_id =
-    subst (λ f. IsSetTo text_cmp jds f.name c.in-Ok-exchange.before c.restore.new.by_id) made c.restore.ensures in
-    agree_alike m n ids c.restore.new.by_id (unchanged cut_cmp m n (c.if-not-put.ensures.refused refl)) (put_back ids jds c.restore.new.by_id r.id (standing.Kept r c.args.number) c.in-Ok-exchange.before stands back was) c.self.invariant
+    agree_alike m n ids c.restore.new.by_id (unchanged cut_cmp m n (c.if-not-put.ensures.refused refl))
+    (restored c.args.post c.in-Ok.field-0 c.in-Ok.ensures ids c.exchange.new.map c.args.number c.restore.new.by_id c.in-Ok-exchange.before c.in-Ok-exchange.ensures.put c.in-Ok-exchange.ensures.before c.restore.ensures) c.self.invariant
 
 pub returns-then-not-put-clause-refused : goal.returns-then-not-put-clause-refused
-returns-then-not-put-clause-refused c _ =
+returns-then-not-put-clause-refused c =
     let ids = c.self.inside.by_id in
-    let jds = c.exchange.new.map in
-    let r = c.args.post in
-    let made = c.in-Ok.ensures in
-    let stands : IsWith text_cmp ids r.id (standing.Kept r c.args.number) jds =
-    subst (λ f. IsWith text_cmp ids f.id (standing.Kept r c.args.number) jds) made c.in-Ok-exchange.ensures.put in
-    let was : c.in-Ok-exchange.before ≡ tree.get text_cmp ids r.id = c.in-Ok-exchange.ensures.before ∙ ap (λ f. tree.get text_cmp ids f.id) made in
-    let back : IsSetTo text_cmp jds r.id c.in-Ok-exchange.before c.restore.new.by_id =
-    subst (λ f. IsSetTo text_cmp jds f.name c.in-Ok-exchange.before c.restore.new.by_id) made c.restore.ensures in
-    held_alike text_total text_exact ids c.restore.new.by_id (put_back ids jds c.restore.new.by_id r.id (standing.Kept r c.args.number) c.in-Ok-exchange.before stands back was) ∙ c.self.view_is
+    held_alike text_total text_exact ids c.restore.new.by_id
+    (restored c.args.post c.in-Ok.field-0 c.in-Ok.ensures ids c.exchange.new.map c.args.number c.restore.new.by_id c.in-Ok-exchange.before c.in-Ok-exchange.ensures.put c.in-Ok-exchange.ensures.before c.restore.ensures)
+    ∙ c.self.view_is
 
-pub invariant_of-self-in_default-moment_in : goal.invariant_of-self-in_default-moment_in
-invariant_of-self-in_default-moment_in c =
+pub invariant_of-self-2 : goal.invariant_of-self-2
+invariant_of-self-2 c =
     let m = c.self.inside.by_spot in
     let n = c.put.new.map in
     let ids = c.self.inside.by_id in
     let jds = c.exchange.new.map in
     let r = c.args.post in
-    let made = c.in-Ok.ensures in
-    let stands : IsWith text_cmp ids r.id (standing.Kept r c.args.number) jds =
-    subst (λ f. IsWith text_cmp ids f.id (standing.Kept r c.args.number) jds) made c.in-Ok-exchange.ensures.put in
-    let was : c.in-Ok-exchange.before ≡ tree.get text_cmp ids r.id = c.in-Ok-exchange.ensures.before ∙ ap (λ f. tree.get text_cmp ids f.id) made in
+    let f = c.in-Ok.field-0 in
     let fits : r.at ≤ greatest = search rules in
-    let up : IsWith cut_cmp m (of_record r) r n = subst (λ f. IsWith cut_cmp m f.spot f.post n) made (c.if-not-put.ensures.put refl) in
-    first_agree m n ids c.self.invariant r fits up jds c.args.number stands (ap kept_moment (sym was) ∙ sym c.in_default-moment_in.ensures)
+    let kept = ap kept_moment (sym (was r f c.in-Ok.ensures ids jds c.args.number c.in-Ok-exchange.before c.in-Ok-exchange.ensures.before)) ∙ sym c.moment_in.ensures in
+    let up = filed r f c.in-Ok.ensures m n (c.if-not-put.ensures.put refl) in
+    let there = stands r f c.in-Ok.ensures ids jds c.args.number c.in-Ok-exchange.ensures.put in
+    left_agree m n ids c.self.invariant r fits up jds c.args.number there c.leave_place.new.by_spot c.moment_in.result kept c.leave_place.ensures.first
+    (subst (λ x. c.moment_in.result ≡ Some x → c.leave_place.new.by_spot.entries ≡ n.entries) c.at-at.ensures c.leave_place.ensures.same)
+    (subst (λ x. IfSome c.moment_in.result (λ t. t ≢ x → IsWithout cut_cmp n (place t r.id) c.leave_place.new.by_spot)) c.at-at.ensures
+    (subst (λ g. IfSome c.moment_in.result (λ t. t ≢ c.at-at.result → IsWithout cut_cmp n (place t g.name) c.leave_place.new.by_spot)) c.in-Ok.ensures c.leave_place.ensures.moved))
 
-pub returns-in_default-moment_in-clause-placed : goal.returns-in_default-moment_in-clause-placed
-returns-in_default-moment_in-clause-placed c _ =
+pub returns-clause-before : goal.returns-clause-before
+returns-clause-before c =
+    let ids = c.self.inside.by_id in
+    let r = c.args.post in
+    c.number_in-earlier.ensures
+    ∙ ap (option_map number_of) (was r c.in-Ok.field-0 c.in-Ok.ensures ids c.exchange.new.map c.args.number c.in-Ok-exchange.before c.in-Ok-exchange.ensures.before ∙ found ids c.args.self.now r.id c.self.view_is)
+
+pub returns-clause-placed : goal.returns-clause-placed
+returns-clause-placed c =
     let ids = c.self.inside.by_id in
     let jds = c.exchange.new.map in
     let r = c.args.post in
-    let made = c.in-Ok.ensures in
-    let stands : IsWith text_cmp ids r.id (standing.Kept r c.args.number) jds =
-    subst (λ f. IsWith text_cmp ids f.id (standing.Kept r c.args.number) jds) made c.in-Ok-exchange.ensures.put in
-    inserted text_total text_exact ids jds r.id (standing.Kept r c.args.number) stands
-    ∙ ap (λ (s : Messages). map.insert s r.id (standing.Kept r c.args.number)) c.self.view_is
-
-pub invariant_of-self-then-ms : goal.invariant_of-self-then-ms
-invariant_of-self-then-ms c =
-    let m = c.self.inside.by_spot in
-    let n = c.put.new.map in
-    let ids = c.self.inside.by_id in
-    let jds = c.exchange.new.map in
-    let r = c.args.post in
-    let made = c.in-Ok.ensures in
-    let stands : IsWith text_cmp ids r.id (standing.Kept r c.args.number) jds =
-    subst (λ f. IsWith text_cmp ids f.id (standing.Kept r c.args.number) jds) made c.in-Ok-exchange.ensures.put in
-    let was : c.in-Ok-exchange.before ≡ tree.get text_cmp ids r.id = c.in-Ok-exchange.ensures.before ∙ ap (λ f. tree.get text_cmp ids f.id) made in
-    let kept = ap kept_moment (sym was) ∙ sym c.in-Some.ensures in
-    let fits : r.at ≤ greatest = search rules in
-    let up : IsWith cut_cmp m (of_record r) r n = subst (λ f. IsWith cut_cmp m f.spot f.post n) made (c.if-not-put.ensures.put refl) in
-    let apart : nat_eq c.in-Some.before r.at ≡ false = search rules in
-    let out : IsWithout cut_cmp n (place c.in-Some.before r.id) c.take_out.new.map =
-    subst (λ f. IsWithout cut_cmp n (place c.in-Some.before f.name) c.take_out.new.map) made c.take_out.ensures in
-    moved_agree m n ids c.self.invariant r fits up jds c.args.number stands c.take_out.new.map c.in-Some.before apart out kept
-
-pub invariant_of-self-else-ms : goal.invariant_of-self-else-ms
-invariant_of-self-else-ms c =
-    let m = c.self.inside.by_spot in
-    let n = c.put.new.map in
-    let ids = c.self.inside.by_id in
-    let jds = c.exchange.new.map in
-    let r = c.args.post in
-    let made = c.in-Ok.ensures in
-    let stands : IsWith text_cmp ids r.id (standing.Kept r c.args.number) jds =
-    subst (λ f. IsWith text_cmp ids f.id (standing.Kept r c.args.number) jds) made c.in-Ok-exchange.ensures.put in
-    let was : c.in-Ok-exchange.before ≡ tree.get text_cmp ids r.id = c.in-Ok-exchange.ensures.before ∙ ap (λ f. tree.get text_cmp ids f.id) made in
-    let kept = ap kept_moment (sym was) ∙ sym c.in-Some.ensures in
-    let fits : r.at ≤ greatest = search rules in
-    let up : IsWith cut_cmp m (of_record r) r n = subst (λ f. IsWith cut_cmp m f.spot f.post n) made (c.if-not-put.ensures.put refl) in
-    let same : c.in-Some.before ≡ r.at = search rules in
-    same_agree m n ids c.self.invariant r fits up jds c.args.number stands (kept ∙ ap Some same)
-
-pub returns-then-ms-clause-placed : goal.returns-then-ms-clause-placed
-returns-then-ms-clause-placed c _ =
-    let ids = c.self.inside.by_id in
-    let jds = c.exchange.new.map in
-    let r = c.args.post in
-    let made = c.in-Ok.ensures in
-    let stands : IsWith text_cmp ids r.id (standing.Kept r c.args.number) jds =
-    subst (λ f. IsWith text_cmp ids f.id (standing.Kept r c.args.number) jds) made c.in-Ok-exchange.ensures.put in
-    inserted text_total text_exact ids jds r.id (standing.Kept r c.args.number) stands
-    ∙ ap (λ (s : Messages). map.insert s r.id (standing.Kept r c.args.number)) c.self.view_is
-
-pub returns-else-ms-clause-placed : goal.returns-else-ms-clause-placed
-returns-else-ms-clause-placed c _ =
-    let ids = c.self.inside.by_id in
-    let jds = c.exchange.new.map in
-    let r = c.args.post in
-    let made = c.in-Ok.ensures in
-    let stands : IsWith text_cmp ids r.id (standing.Kept r c.args.number) jds =
-    subst (λ f. IsWith text_cmp ids f.id (standing.Kept r c.args.number) jds) made c.in-Ok-exchange.ensures.put in
-    inserted text_total text_exact ids jds r.id (standing.Kept r c.args.number) stands
+    inserted text_total text_exact ids jds r.id (standing.Kept r c.args.number) (stands r c.in-Ok.field-0 c.in-Ok.ensures ids jds c.args.number c.in-Ok-exchange.ensures.put)
     ∙ ap (λ (s : Messages). map.insert s r.id (standing.Kept r c.args.number)) c.self.view_is

@@ -39,12 +39,12 @@ returns-clause-one c =
     let at = c.in_ok-spot.ensures.value in
     let out = c.in_ok-spot.ensures.updates.0 in
     let stands : IsWithout text_cmp ids r.id new = subst (λ x. IsWithout text_cmp ids x new) c.id-2.ensures c.take_out.ensures in
-    let number : option_map number_of (tree.get text_cmp ids r.id) ≡ c.number_in-number.result =
-    ap (λ x. option_map number_of (tree.get text_cmp ids x)) (sym c.id.ensures) ∙ sym c.number_in-number.ensures in
+    let number : option_map number_of (tree.get text_cmp ids r.id) ≡ c.number_of-number.result =
+    ap (λ x. option_map number_of (tree.get text_cmp ids x)) (sym c.id.ensures) ∙ sym c.number_of-number.ensures in
     let low : c.in-Some.spot.now.at < c.args.floor = search rules in
     let under = not_after k.at c.in-Some.spot.now.at _ (c.in_ok-spot.ensures.least c.in-Some.spot.now (search rules)) in
     let same : k.at ≡ r.at = ap (λ s. s.at) (its_place m ids c.self.invariant k r at) in
-    elim c.number_in-number.result as (λ o. c.number_in-number.result ≡ o → IfSome o (λ n. TakesOne c.args.self.now c.args.floor n (held_by new))) [
+    elim c.number_of-number.result as (λ o. c.number_of-number.result ≡ o → IfSome o (λ n. TakesOne c.args.self.now c.args.floor n (held_by new))) [
       | None ↦ λ _. tt
       | Some n ↦ λ g. record {
         post = r;
@@ -62,8 +62,8 @@ returns-clause-done c none =
     let r = c.in_ok-spot.post in
     let new = c.take_out.new.map in
     let stands : IsWithout text_cmp ids r.id new = subst (λ x. IsWithout text_cmp ids x new) c.id-2.ensures c.take_out.ensures in
-    let number : option_map number_of (tree.get text_cmp ids r.id) ≡ c.number_in-number.result =
-    ap (λ x. option_map number_of (tree.get text_cmp ids x)) (sym c.id.ensures) ∙ sym c.number_in-number.ensures in
+    let number : option_map number_of (tree.get text_cmp ids r.id) ≡ c.number_of-number.result =
+    ap (λ x. option_map number_of (tree.get text_cmp ids x)) (sym c.id.ensures) ∙ sym c.number_of-number.ensures in
     absurd (was_known m c.pop_first.new.self ids new c.self.invariant k r c.in_ok-spot.ensures.value c.in_ok-spot.ensures.updates.0 stands (tree.get text_cmp ids r.id) refl (number ∙ none))
 
 pub returns-clause-kept : goal.returns-clause-kept
@@ -74,6 +74,6 @@ returns-clause-kept c none =
     let r = c.in_ok-spot.post in
     let new = c.take_out.new.map in
     let stands : IsWithout text_cmp ids r.id new = subst (λ x. IsWithout text_cmp ids x new) c.id-2.ensures c.take_out.ensures in
-    let number : option_map number_of (tree.get text_cmp ids r.id) ≡ c.number_in-number.result =
-    ap (λ x. option_map number_of (tree.get text_cmp ids x)) (sym c.id.ensures) ∙ sym c.number_in-number.ensures in
+    let number : option_map number_of (tree.get text_cmp ids r.id) ≡ c.number_of-number.result =
+    ap (λ x. option_map number_of (tree.get text_cmp ids x)) (sym c.id.ensures) ∙ sym c.number_of-number.ensures in
     absurd (was_known m c.pop_first.new.self ids new c.self.invariant k r c.in_ok-spot.ensures.value c.in_ok-spot.ensures.updates.0 stands (tree.get text_cmp ids r.id) refl (number ∙ none))

@@ -1,4 +1,4 @@
-use Rattle.std.proofs.Common.{◌≡◌, ◌∙◌, refl, sym, ap, subst, ℕ, Some, None, true, false, cond}
+use Rattle.std.proofs.Common.{◌≡◌, ◌∙◌, refl, sym, ap, subst, ℕ, Some, None, cond}
 use Rattle.std.specs.FinMap as map
 use Rattle.std.specs.BTreeMap as tree
 use Rattle.chat_change.specs.declared.change.Change.{Change}
@@ -22,30 +22,30 @@ settles_first bs s is x n h w absent nothing settles k e =
     ∙ ap (λ p. cond (same_key k (key_of x)) (Some (record { number = n; change = x })) (beside x p))
     (nothing k ∙ sym (sym (has_here bs s (key_buffer (key_of x)) (tree.get buffer_cmp bs (key_buffer (key_of x))) is refl k e) ∙ absent k e))
 
+-- where the buffer found no room
 pub invariant_of-self : goal.invariant_of-self
-invariant_of-self c =
+invariant_of-self c = subst (λ es. IsKeyedStore (store_in (map.from_entries es))) (sym (c.if-not-put.ensures.refused refl)) c.self.invariant
+
+pub invariant_of-self-2 : goal.invariant_of-self-2
+invariant_of-self-2 c =
     let bs = c.self.inside.held in
     let x = c.args.change in
     let b = key_buffer (key_of x) in
     let w = c.settle.new.held in
     let named = c.in-Ok.ensures ∙ c.buffer.ensures ∙ ap key_buffer c.key.ensures in
     let new = c.put.new.map in
-    elim c.put.result as (λ t. c.put.result ≡ t → IsKeyedStore (seen new)) [
-      | true ↦ λ e.
-          let up = changed_at buffer_cmp bs new (Some w) c.in-Ok.buffer b named (c.put.ensures.put e) in
-          let settles = settles_first bs c.args.self.now c.self.view_is x c.args.number c.nothing_held-held.result w c.requires.absent c.nothing_held-held.ensures (c.settle.ensures.settled c.if-not-settle.false) in
-          entered_keyed (seen bs) c.args.number x (seen new) (entered bs new x c.args.number (tree.get buffer_cmp bs b) w refl up settles) c.self.invariant
-      | false ↦ λ e. subst (λ es. IsKeyedStore (store_in (map.from_entries es))) (sym (c.put.ensures.refused e)) c.self.invariant
-    ] refl
+    let up = changed_at buffer_cmp bs new (Some w) c.in-Ok.buffer b named (c.if-not-put.ensures.put refl) in
+    let settles = settles_first bs c.args.self.now c.self.view_is x c.args.number c.nothing_held-held.result w c.requires.absent c.nothing_held-held.ensures c.in-Ok-settle.ensures.settled in
+    entered_keyed (seen bs) c.args.number x (seen new) (entered bs new x c.args.number (tree.get buffer_cmp bs b) w refl up settles) c.self.invariant
 
 pub returns-clause-entered : goal.returns-clause-entered
-returns-clause-entered c done =
+returns-clause-entered c =
     let bs = c.self.inside.held in
     let x = c.args.change in
     let b = key_buffer (key_of x) in
     let w = c.settle.new.held in
     let named = c.in-Ok.ensures ∙ c.buffer.ensures ∙ ap key_buffer c.key.ensures in
     let new = c.put.new.map in
-    let up = changed_at buffer_cmp bs new (Some w) c.in-Ok.buffer b named (c.put.ensures.put done) in
-    let settles = settles_first bs c.args.self.now c.self.view_is x c.args.number c.nothing_held-held.result w c.requires.absent c.nothing_held-held.ensures (c.settle.ensures.settled c.if-not-settle.false) in
+    let up = changed_at buffer_cmp bs new (Some w) c.in-Ok.buffer b named (c.if-not-put.ensures.put refl) in
+    let settles = settles_first bs c.args.self.now c.self.view_is x c.args.number c.nothing_held-held.result w c.requires.absent c.nothing_held-held.ensures c.in-Ok-settle.ensures.settled in
     subst (λ s. IsEntered s c.args.number x (seen new)) c.self.view_is (entered bs new x c.args.number (tree.get buffer_cmp bs b) w refl up settles)

@@ -16,12 +16,12 @@ invariant_of-self c =
     let index = c.self.inside.index in
     (c.self.invariant.0, indexed_alike s index c.put.new.map c.self.invariant.1 (unchanged nat_cmp index c.put.new.map (c.if-not-put.ensures.refused refl)))
 
-pub invariant_of-self-then-not-enter : goal.invariant_of-self-then-not-enter
-invariant_of-self-then-not-enter c =
+pub invariant_of-self-in_default-enter : goal.invariant_of-self-in_default-enter
+invariant_of-self-in_default-enter c =
     let s = c.self.inside.buffers in
     let index = c.self.inside.index in
     let fresh = subst (λ s. IsFresh s c.args.number) (sym c.self.view_is) c.requires.fresh in
-    subst (λ x. IsKeyedStore x × IsIndexed x c.take_out.new.map) (sym (c.if-not-enter.ensures.refused refl)) (
+    subst (λ x. IsKeyedStore x × IsIndexed x c.take_out.new.map) (sym c.in_default-enter.ensures.refused) (
       c.self.invariant.0,
       indexed_alike s index c.take_out.new.map c.self.invariant.1
           (index_restored index c.put.new.map c.take_out.new.map c.args.number c.in-Ok.place (unlisted_number s c.args.number fresh index c.self.invariant.1) (c.if-not-put.ensures.put refl) c.take_out.ensures),
@@ -33,9 +33,9 @@ invariant_of-self-in-Some c =
     let n = c.args.number in
     let index = c.self.inside.index in
     let fresh = subst (λ s. IsFresh s n) (sym c.self.view_is) c.requires.fresh in
-    let entered = c.if-not-enter.ensures.entered refl in
+    let entered = c.in-Ok-enter.ensures.entered in
     let place = c.in-Ok.ensures in
-    let had : number_at s (key_of c.args.change) ≡ Some c.in-Some.before = ap (number_at s) (sym c.key.ensures) ∙ sym c.in-Some.ensures in (
+    let had : number_at s (key_of c.args.change) ≡ Some c.in-Some.before = sym c.in-Ok-enter.ensures.before ∙ c.in-Some.is in (
       entered_keyed s n c.args.change c.enter.new.self entered c.self.invariant.0,
       indexed_after s c.enter.new.self n c.args.change entered fresh index c.self.invariant.1 c.take_out-in-Some.new.map (Some c.in-Some.before) had
           (λ q. c.take_out-in-Some.ensures q
@@ -48,9 +48,9 @@ invariant_of-self-in_default-before c =
     let n = c.args.number in
     let index = c.self.inside.index in
     let fresh = subst (λ s. IsFresh s n) (sym c.self.view_is) c.requires.fresh in
-    let entered = c.if-not-enter.ensures.entered refl in
+    let entered = c.in-Ok-enter.ensures.entered in
     let place = c.in-Ok.ensures in
-    let had : number_at s (key_of c.args.change) ≡ None = ap (number_at s) (sym c.key.ensures) ∙ sym c.in_default-before.ensures in (
+    let had : number_at s (key_of c.args.change) ≡ None = sym c.in-Ok-enter.ensures.before ∙ c.in_default-before.is in (
       entered_keyed s n c.args.change c.enter.new.self entered c.self.invariant.0,
       indexed_after s c.enter.new.self n c.args.change entered fresh index c.self.invariant.1 c.put.new.map None had
           (λ q. c.if-not-put.ensures.put refl q ∙ ap (λ p. cond (eq_by_cmp nat_cmp n q) (Some p) (tree.get nat_cmp index q)) place),
