@@ -1,15 +1,18 @@
 //! Times puts and asks of a shared node, beside those of a plain state and in several threads, when it is called with the
-//! argument `run`. It prints how many nanoseconds each round took, in which every thread puts or asks once.
+//! argument `run`, and pages of plain states of 1,000 and of 1,000,000 messages, with the argument `pages`. It prints how
+//! many nanoseconds each round took, in which every thread puts or asks once.
 #![tactic(auto)]
 
 ghost use Rattle.shared_node.specs.Names.{IsNamed};
 
+mod pages;
 mod plain;
 mod rounds;
 mod threads;
 
 use anyhow::Error;
 use chat_batch::Facts;
+use pages::time_pages;
 use plain::time_state;
 use rounds::facts;
 use shared_node::{Naming, SharedNode, Unnamed};
@@ -24,9 +27,9 @@ use threads::time_node;
 /// How many passes the node has, each for a thread.
 const PASSES: usize = 4;
 
-fn is_asked(rt: &impl Runtime) -> Result<bool, Error> {
+fn is_asked(rt: &impl Runtime, what: &str) -> Result<bool, Error> {
     for word in env::args(rt)? {
-        if word.as_str() == "run" {
+        if word.as_str() == what {
             return Ok(true);
         }
     }
@@ -45,8 +48,14 @@ fn bench<J: Naming + Send + Sync, R: Runtime<A = Global> + Threads + Wait + Send
 }
 
 fn main(rt: HostRuntime) -> Result<(), Error> {
-    if !is_asked(&rt)? {
-        println!(rt; "node_bench run: times puts and asks of a shared node")?;
+    if is_asked(&rt, "pages")? {
+        time_pages(&rt, rt.alloc(), 1_000)?;
+        return time_pages(&rt, rt.alloc(), 1_000_000);
+    }
+    if !is_asked(&rt, "run")? {
+        println!(rt;
+            "node_bench run|pages: times puts and asks of a shared node, or pages of states"
+        )?;
         return Ok(());
     }
     let facts = facts(rt.alloc())?;

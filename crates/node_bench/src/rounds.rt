@@ -37,7 +37,8 @@ pub fn mark(buffer: &Buffer, ms: u64) -> Result<Change, Error> {
     Ok(Change::Mark { buffer, at })
 }
 
-fn post(alloc: Global, ms: u64) -> Result<Change, Error> {
+/// The message of a moment.
+pub fn post(alloc: Global, ms: u64) -> Result<Change, Error> {
     let id = format!(in alloc; "m{ms}")?;
     let at = Moment::from_ms(ms).ok_or(AllocError)?;
     let message = Message {
