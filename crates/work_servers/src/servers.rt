@@ -9,6 +9,11 @@ use upstream_session::Upstream;
 use work_desk::Fate;
 use work_lines::Pipe;
 
+// The serial number of the first id that the node makes for a network. Messages of one millisecond are ordered by the bytes of
+// their ids. So that they stand in the order in which they came, all numbers have 13 digits: the next longer one comes after 9
+// million million messages. With a node's name of two letters an id has 30 bytes.
+const FIRST_SERIAL: u64 = 1_000_000_000_000;
+
 /// Where a network's session is taken up.
 #[derive(Clone, Copy)]
 struct Slot {
@@ -33,7 +38,7 @@ impl Servers {
     pub fn new(alloc: Global, networks: usize) -> Result<Servers, NoMemory> {
         let slot = Slot {
             line: None,
-            serial: 1,
+            serial: FIRST_SERIAL,
         };
         let Ok(slots) = vec![in alloc; slot; networks] else {
             return Err(NoMemory);
@@ -62,7 +67,7 @@ impl Servers {
     pub(crate) fn serial_of(&self, network: usize) -> u64 {
         match self.slots.get(network) {
             Some(slot) => slot.serial,
-            None => 1,
+            None => FIRST_SERIAL,
         }
     }
 
