@@ -2,21 +2,21 @@
 //! node.
 #![tactic(auto)]
 
-ghost use Rattle.std.specs.Prelude.{◌≡◌, ◌≢◌, ◌↔◌, None, Ok, Err, IfOk, IfErr, IsTrue};
+ghost use Rattle.std.specs.Prelude.{◌≡◌, ◌≢◌, ◌↔◌, ◌⊎◌, None, Ok, Err, IfOk, IfErr, IsTrue};
 ghost use Rattle.chat_change.specs.Faults.{buffer_fault};
 ghost use Rattle.bnc.specs.Status.{status_of};
 
 use attach::{Boxed, RingClient};
-use bnc_serve::{Prepared, Unnamed, prepare, run_node};
+use bnc_serve::{Prepared, ServeFault, Unnamed, prepare, run_node};
 use bnc_server::{ReplayFault, replay};
 use chat_change::{Buffer, ChangeFault};
 use node_config::{Config, ConfigFault};
 use serving::{config_at, end_of_run, path_in};
 use std::alloc::Global;
-use std::env;
 use std::io::{BufWriter, ErrorKind, Read, Write};
 use std::marker::Brand;
 use std::process::ExitCode;
+use std::{env, fmt};
 
 mod serving;
 #[cfg(test)]
@@ -26,46 +26,66 @@ const USAGE: &str = "usage: bnc replay <account> <network> <nick> | bnc serve <c
 
 /// Why the program ends before its work is done.
 #[derive(Clone, Copy, Debug, PartialEq, Eq)]
-enum End {
+enum End<'a> {
     /// The words are no command, or a name is refused.
     Usage,
     /// There was no memory.
     NoMemory,
-    /// Standard input or output failed, or a node can take no further change; the file can't be read, or the system gives no
-    /// socket or thread, or a worker failed.
+    /// Standard input or output failed, or a node can take no further change.
     Device,
+    /// That file can't be read.
+    File(&'a str, ErrorKind),
+    /// A node can't begin.
+    Node(ServeFault),
+    /// A worker of a node failed.
+    Worker,
     /// The configuration is refused.
     Config(ConfigFault),
 }
 
-impl End {
+impl End<'_> {
     fn status(self) -> u8
-        ensures { result ≡ status_of self }
+        ensures { result ≡ status_of self.entry }
     {
         match self {
             End::Usage => 2,
             End::NoMemory => 3,
-            End::Device => 4,
+            End::Device | End::File(_, _) | End::Node(_) | End::Worker => 4,
             End::Config(_) => 5,
         }
     }
 
-    /// What is told on standard error.
+    /// The first line that is told on standard error.
     fn text(self) -> &'static str {
         match self {
             End::Usage => USAGE,
             End::NoMemory => "no memory",
-            End::Device => "read or write failed",
+            End::Device | End::File(_, _) | End::Node(_) | End::Worker => "read or write failed",
             End::Config(_) => "config refused",
         }
     }
 }
 
+/// What is told on standard error: the first line, and where more is known a second one that says what failed, or what is
+/// wrong in the configuration.
+impl fmt::Display for End<'_> {
+    fn fmt<W: fmt::Write>(&self, f: &mut fmt::Formatter<W>) -> Result<(), fmt::Error> {
+        f.write_str(self.text())?;
+        match *self {
+            End::Usage | End::NoMemory | End::Device => Ok(()),
+            End::File(path, kind) => write!(f, "\ncan't read {path}: {kind}"),
+            End::Node(fault) => write!(f, "\n{fault}"),
+            End::Worker => f.write_str("\na worker failed"),
+            End::Config(fault) => write!(f, "\n{fault}"),
+        }
+    }
+}
+
 /// How the program ends, by what answering the script and the last flush came to.
-fn end_of(answered: Result<(), ReplayFault>, flushed: bool) -> Result<(), End>
+fn end_of(answered: Result<(), ReplayFault>, flushed: bool) -> Result<(), End<'static>>
     ensures done { (result ≡ Ok tt) ↔ ((answered ≡ Ok tt) × IsTrue flushed) }
     ensures no_memory { (result ≡ Err End.NoMemory) ↔ (answered ≡ Err ReplayFault.NoMemory) }
-    ensures not_words { result ≢ Err End.Usage }
+    ensures device { result ≢ Ok tt → result ≢ Err End.NoMemory → result ≡ Err End.Device }
 {
     match answered {
         Ok(()) => { if flushed { Ok(()) } else { Err(End::Device) } }
@@ -76,9 +96,9 @@ fn end_of(answered: Result<(), ReplayFault>, flushed: bool) -> Result<(), End>
 }
 
 /// The end of a program whose words can't be had: a word that isn't text is no command.
-fn end_without_words(kind: ErrorKind) -> End
+fn end_without_words(kind: ErrorKind) -> End<'static>
     ensures no_memory { (result ≡ End.NoMemory) ↔ (kind ≡ ErrorKind.OutOfMemory) }
-    ensures usage { result ≢ End.Device }
+    ensures usage { kind ≢ ErrorKind.OutOfMemory → result ≡ End.Usage }
 {
     if kind == ErrorKind::OutOfMemory {
         End::NoMemory
@@ -108,10 +128,10 @@ fn names_in<'a>(words: &'a [String]) -> Option<Names<'a>> {
 }
 
 /// The names that the words give, if a node can have them.
-fn chosen<'a>(alloc: Global, words: &'a [String]) -> Result<Names<'a>, End>
+fn chosen<'a>(alloc: Global, words: &'a [String]) -> Result<Names<'a>, End<'a>>
     ensures lawful { IfOk result
         (λ names. buffer_fault names.account.now names.network.now names.nick.now ≡ None) }
-    ensures refused { IfErr result (λ end. end ≢ End.Device) }
+    ensures refused { IfErr result (λ end. (end ≡ End.Usage) ⊎ (end ≡ End.NoMemory)) }
 {
     match names_in(words) {
         None => Err(End::Usage),
@@ -129,7 +149,7 @@ fn answer<In: Read, Out: Write + Drop>(
     reader: &mut In,
     writer: Out,
     names: Names<'_>,
-) -> Result<(), End>
+) -> Result<(), End<'static>>
     requires { buffer_fault names.account.now names.network.now names.nick.now ≡ None }
 {
     let Ok(mut writer) = BufWriter::new(alloc, writer) else {
@@ -148,7 +168,7 @@ fn answer<In: Read, Out: Write + Drop>(
 }
 
 /// The words behind the program's name.
-fn words(rt: &HostRuntime) -> Result<Vec<String>, End> {
+fn words(rt: &HostRuntime) -> Result<Vec<String>, End<'static>> {
     let all = match env::args(rt) {
         Ok(all) => all,
         Err(e) => return Err(end_without_words(e.kind())),
@@ -161,13 +181,12 @@ fn words(rt: &HostRuntime) -> Result<Vec<String>, End> {
 }
 
 /// Does what the words say but for a node, which `main` runs: of that it answers the configuration.
-fn command(rt: &HostRuntime) -> Result<Option<Config>, End> {
-    let words = words(rt)?;
-    if let Some(path) = path_in(&words) {
+fn command<'a>(rt: &HostRuntime, words: &'a [String]) -> Result<Option<Config>, End<'a>> {
+    if let Some(path) = path_in(words) {
         let config = config_at(rt, path)?;
         return Ok(Some(config));
     }
-    match chosen(rt.alloc(), &words) {
+    match chosen(rt.alloc(), words) {
         Ok(names) => {
             answer(rt.alloc(), &mut rt.stdin(), rt.stdout(), names)?;
             Ok(None)
@@ -176,20 +195,21 @@ fn command(rt: &HostRuntime) -> Result<Option<Config>, End> {
     }
 }
 
-/// Tells why the program ends: in a line, and for a configuration in a second one what is wrong there.
-fn exit(rt: &HostRuntime, done: Result<(), End>) -> ExitCode {
+/// Tells why the program ends.
+fn exit(rt: &HostRuntime, done: Result<(), End<'_>>) -> ExitCode {
     let Err(end) = done else {
         return ExitCode::from(0);
     };
-    let _ = rt.eprintln(end.text());
-    if let End::Config(fault) = end {
-        let _ = rt.eprintln(fault);
-    }
+    let _ = rt.eprintln(end);
     ExitCode::from(end.status())
 }
 
 fn main(rt: HostRuntime) -> ExitCode {
-    let config = match command(&rt) {
+    let words = match words(&rt) {
+        Ok(words) => words,
+        Err(end) => return exit(&rt, Err(end)),
+    };
+    let config = match command(&rt, &words) {
         Ok(Some(config)) => config,
         Ok(None) => return ExitCode::from(0),
         Err(end) => return exit(&rt, Err(end)),

@@ -1,5 +1,5 @@
 //! Why a node can't begin.
-ghost use Rattle.std.specs.Prelude.{◌≡◌, ◌↔◌};
+ghost use Rattle.std.specs.Prelude.{◌≡◌, ◌≢◌, ◌↔◌};
 
 use attach::PlacesFault;
 use bnc_work::StartFault;
@@ -8,6 +8,7 @@ use shared_node::NodeFault;
 use std::alloc::AllocError;
 use std::io;
 use std::io::ErrorKind;
+use std::net::SocketAddr;
 use thiserror::Error;
 
 /// Why a node can't begin.
@@ -16,20 +17,46 @@ pub enum ServeFault {
     /// There was no memory.
     #[error("no memory")]
     NoMemory,
-    /// The system gave no socket, as where an address is taken, or no clock or thread.
-    #[error("the system gave no socket, clock or thread")]
-    System,
+    /// The node can't listen at that address, as where somebody else does.
+    #[error("can't listen at {0}: {1}")]
+    NoListener(SocketAddr, ErrorKind),
+    /// The system gave no socket.
+    #[error("no socket: {0}")]
+    NoSocket(ErrorKind),
+    /// The clock can't be read.
+    #[error("the clock can't be read")]
+    NoClock,
+    /// The system gave no thread.
+    #[error("no thread")]
+    NoThread,
+    /// A node can't have so many workers or places.
+    #[error("too many workers or places")]
+    BadCount,
 }
 
 impl ServeFault {
-    /// The fault of a call of the system that failed so.
+    /// The fault where the system gives no socket for that reason.
     pub fn of(kind: ErrorKind) -> ServeFault
-        ensures { (result ≡ ServeFault.NoMemory) ↔ (kind ≡ ErrorKind.OutOfMemory) }
+        ensures no_memory { (result ≡ ServeFault.NoMemory) ↔ (kind ≡ ErrorKind.OutOfMemory) }
+        ensures socket { kind ≢ ErrorKind.OutOfMemory → result ≡ ServeFault.NoSocket kind }
     {
         if kind == ErrorKind::OutOfMemory {
             ServeFault::NoMemory
         } else {
-            ServeFault::System
+            ServeFault::NoSocket(kind)
+        }
+    }
+
+    /// The fault where the node can't listen at an address for that reason.
+    pub fn at(address: SocketAddr, kind: ErrorKind) -> ServeFault
+        ensures no_memory { (result ≡ ServeFault.NoMemory) ↔ (kind ≡ ErrorKind.OutOfMemory) }
+        ensures listener { kind ≢ ErrorKind.OutOfMemory
+            → result ≡ ServeFault.NoListener address kind }
+    {
+        if kind == ErrorKind::OutOfMemory {
+            ServeFault::NoMemory
+        } else {
+            ServeFault::NoListener(address, kind)
         }
     }
 }
@@ -72,8 +99,8 @@ impl From<NodeFault> for ServeFault {
     fn from(fault: NodeFault) -> ServeFault {
         match fault {
             NodeFault::NoMemory => ServeFault::NoMemory,
-            NodeFault::BadCount => ServeFault::System,
-            NodeFault::NoReader => ServeFault::System,
+            NodeFault::BadCount => ServeFault::BadCount,
+            NodeFault::NoReader => ServeFault::BadCount,
         }
     }
 }
@@ -88,7 +115,7 @@ impl From<PlacesFault> for ServeFault {
     fn from(fault: PlacesFault) -> ServeFault {
         match fault {
             PlacesFault::NoMemory => ServeFault::NoMemory,
-            PlacesFault::BadCount => ServeFault::System,
+            PlacesFault::BadCount => ServeFault::BadCount,
         }
     }
 }
@@ -103,7 +130,7 @@ impl From<StartFault> for ServeFault {
     fn from(fault: StartFault) -> ServeFault {
         match fault {
             StartFault::NoMemory => ServeFault::NoMemory,
-            StartFault::NoThread => ServeFault::System,
+            StartFault::NoThread => ServeFault::NoThread,
         }
     }
 }

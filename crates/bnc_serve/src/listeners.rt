@@ -35,6 +35,13 @@ pub(crate) enum Caller {
     Nobody,
 }
 
+fn listener_at<R: Net>(rt: &R, address: SocketAddr) -> Result<TcpListener, ServeFault> {
+    match TcpListener::bind(rt, address) {
+        Ok(listener) => Ok(listener),
+        Err(error) => Err(ServeFault::at(address, error.kind())),
+    }
+}
+
 // The sockets on which a node accepts clients and peers.
 #[derive(Drop)]
 pub(crate) struct Listeners {
@@ -54,8 +61,8 @@ impl Listeners {
         clients: SocketAddr,
         peers: SocketAddr,
     ) -> Result<Listeners, ServeFault> {
-        let mut clients = TcpListener::bind(rt, clients)?;
-        let mut peers = TcpListener::bind(rt, peers)?;
+        let mut clients = listener_at(rt, clients)?;
+        let mut peers = listener_at(rt, peers)?;
         let poll = Poll::new(rt)?;
         let events = Events::with_capacity(rt.alloc(), EVENTS)?;
         let registry = poll.registry();

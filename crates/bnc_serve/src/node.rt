@@ -47,7 +47,7 @@ pub fn prepare<R: Net + Wait + Clock + Eprint + AllocGlobal + Copy + Drop, X: At
 ) -> Result<Prepared<R, X>, ServeFault> {
     let listeners = Listeners::open(rt, config.listen, config.peer_listen)?;
     let Some(incarnation) = now_ms(rt) else {
-        return Err(ServeFault::System);
+        return Err(ServeFault::NoClock);
     };
     let Crew { posts, doors } = Crew::new(rt, config, incarnation)?;
     let front = Front {
@@ -118,7 +118,7 @@ where
     listeners.tell(rt);
     let reception = Reception::new(listeners, clerk, bound, doors);
     if !receive_in_a_thread(*rt, reception, boxed) {
-        return Err(ServeFault::System);
+        return Err(ServeFault::NoThread);
     }
     let ends = work_all(rt, &node, jobs, &Open)?;
     Ok(ends)
