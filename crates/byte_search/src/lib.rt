@@ -11,6 +11,10 @@ pub fn find_byte(bytes: &[u8], byte: u8) -> Option<usize>
     ensures place { result ≡ position (λ b. b == byte) bytes.now }
     ensures within { IfSome result (λ at. at < length bytes.now) }
 {
+    // a search by vectors takes its time to begin
+    if bytes.is_empty() {
+        return None;
+    }
     bytes.find_byte(byte)
 }
 

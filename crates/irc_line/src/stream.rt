@@ -118,6 +118,10 @@ impl Feeder {
         ensures progress { HasRoom self.old → 0 < length piece.now → 0 < result }
         ensures after_more { next_item self.old ≡ None → 0 < length piece.now → 0 < result }
     {
+        // what is left of a piece that was taken whole
+        if piece.is_empty() {
+            return 0;
+        }
         let mut skipped = 0;
         if self.in_long_line {
             let Some(at) = find_byte(piece, b'\n') else {
