@@ -6,9 +6,9 @@ use Rattle.irc_line.specs.declared.line.TagLimit.{TagLimit}
 use Rattle.irc_line.specs.Line.{HasNoSpace}
 use Rattle.irc_line.specs.Stream.{items, line}
 use Rattle.irc_line.specs.Text.{Parts, text_of, line_text}
-use Rattle.irc_line.specs.CanStand.{CanStand, ReadsBack}
+use Rattle.irc_line.specs.CanStand.{CanStand}
 use Rattle.irc_line.specs.Lines.{AreLines, AreCutOut, ReadBack}
-use Rattle.irc_line.proofs.TextLemmas.{cut, reads_back, good_append}
+use Rattle.irc_line.proofs.TextLemmas.{cut, reads_back}
 
 all-append : {A : Type 0} (P : A → Type 0) (xs ys : List A) → AllByRecursion P xs → AllByRecursion P ys → AllByRecursion P (xs ++ ys)
 all-append P [] ys p q = q

@@ -1,12 +1,12 @@
 -- The parameters of a line that is read have no NUL, CR or LF.
 use Rattle.std.proofs.Common.{◌≡◌, ℕ, ◌+◌, Bool, true, false, List, [], ◌∷◌, ◌++◌, drop, Option, None, Some, refl, sym, ap, ◌∙◌, subst}
-use Rattle.std.specs.Prelude.{◌==◌, ◌||◌, MatchBool}
+use Rattle.std.specs.Prelude.{◌==◌, MatchBool}
 use Rattle.std.specs.List.{AllByRecursion, list_any}
 use Rattle.std.proofs.lemmas.List.Folds.{list_any-append}
 use Rattle.std.proofs.lemmas.Bool.{or_parts}
 use Rattle.irc_line.specs.declared.line.LineFault.TheVariants.{BadByte}
 use Rattle.irc_line.specs.declared.line.TagLimit.{TagLimit}
-use Rattle.irc_line.specs.Line.{Reading, colon, is_bad, most_middles, SkipsSpaces, SplitsWord, SplitsTags, SplitsSource, HasParameters, HasHead, Reads}
+use Rattle.irc_line.specs.Line.{Reading, colon, is_bad, most_middles, SkipsSpaces, SplitsWord, SplitsTags, SplitsSource, HasParameters, Reads}
 use Rattle.irc_line.specs.CanStand.{HasNoBadByte}
 
 append_parts : (a b : List ℕ) → HasNoBadByte (a ++ b) → HasNoBadByte a × HasNoBadByte b
