@@ -11,10 +11,19 @@ pub fn find_byte(bytes: &[u8], byte: u8) -> Option<usize>
     ensures place { result ≡ position (λ b. b == byte) bytes.now }
     ensures within { IfSome result (λ at. at < length bytes.now) }
 {
-    // a search by vectors takes its time to begin
-    if bytes.is_empty() {
-        return None;
+    match bytes {
+        [] => None,
+        [only] => (*only == byte).then_some(0),
+        _ => find_by_vectors(bytes, byte),
     }
+}
+
+// It stands apart, since a search by vectors takes its time to begin.
+#[inline(never)]
+fn find_by_vectors(bytes: &[u8], byte: u8) -> Option<usize>
+    ensures place { result ≡ position (λ b. b == byte) bytes.now }
+    ensures within { IfSome result (λ at. at < length bytes.now) }
+{
     bytes.find_byte(byte)
 }
 

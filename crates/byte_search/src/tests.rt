@@ -4,6 +4,9 @@ use super::find_byte;
 #[test]
 fn finds_the_first(rt: HostRuntime) {
     assert_eq!(rt; find_byte(b"", b' '), None);
+    assert_eq!(rt; find_byte(b" ", b' '), Some(0));
+    assert_eq!(rt; find_byte(b"P", b' '), None);
+    assert_eq!(rt; find_byte(b"P ", b' '), Some(1));
     assert_eq!(rt; find_byte(b"PING", b' '), None);
     assert_eq!(rt; find_byte(b"PING :a b", b' '), Some(4));
     let mut long = [b'x'; 200];
