@@ -5,9 +5,12 @@ what a message and an idle client cost in memory. It plays the network's server 
     bench/beside_znc.py bnc PROGRAM            starts PROGRAM serve with a configuration of its own
     bench/beside_znc.py znc                    starts Debian's znc with a configuration of its own
     bench/beside_znc.py both PROGRAM ROUNDS    one after the other, so many times, and then the median and the range of each
+    bench/beside_znc.py turns PROGRAM ROUNDS   both at once: relays 2,000 lines by one and then by the other, so many times,
+                                               and tells the median of the ratios
 
-It prints one line a measure. Figures are of use beside those of the other bouncer in the same run of the machine alone. On a
-machine with other work let root run it at real-time priority, which the bouncers inherit:
+It prints one line a measure. Figures are of use beside those of the other bouncer in the same run of the machine alone. Where
+the machine is now faster and now slower, `turns` compares what was measured one right after the other. On a machine with
+other work let root run it at real-time priority, which the bouncers inherit:
 
     chrt --rr 40 bench/beside_znc.py both PROGRAM 5
 """
@@ -21,8 +24,9 @@ import tempfile
 import time
 
 SECRET = "s3cret"
-SERVER_PORT = 16700
-BOUNCER_PORT = 16667
+# where the network's server listens for each bouncer, and where the bouncer does
+SERVER_PORTS = {"bnc": 16700, "znc": 16710}
+BOUNCER_PORTS = {"bnc": 16667, "znc": 16677}
 
 BNC = """name = "bnc.example"
 node = "n1"
@@ -93,17 +97,19 @@ class Bouncer:
 
     def __init__(self, kind, program):
         self.kind = kind
+        self.server_port = SERVER_PORTS[kind]
+        self.port = BOUNCER_PORTS[kind]
         # what was measured: figures by their names
         self.figures = {}
         self.home = tempfile.mkdtemp(prefix="bench-")
         if kind == "bnc":
             path = os.path.join(self.home, "one.toml")
-            text = BNC.format(bouncer=BOUNCER_PORT, server=SERVER_PORT, secret=SECRET)
+            text = BNC.format(bouncer=self.port, server=self.server_port, secret=SECRET)
             command = [program, "serve", path]
         else:
             path = os.path.join(self.home, "configs", "znc.conf")
             os.makedirs(os.path.dirname(path))
-            text = ZNC.format(bouncer=BOUNCER_PORT, server=SERVER_PORT, secret=SECRET)
+            text = ZNC.format(bouncer=self.port, server=self.server_port, secret=SECRET)
             command = ["znc", "--foreground", "--datadir", self.home]
         with open(path, "w") as file:
             file.write(text)
@@ -156,8 +162,8 @@ class Bouncer:
 class Server:
     """The network's server: it takes one connection and greets it."""
 
-    def __init__(self):
-        self.listener = socket.create_server(("127.0.0.1", SERVER_PORT))
+    def __init__(self, port):
+        self.listener = socket.create_server(("127.0.0.1", port))
         self.socket = None
 
     def accept(self):
@@ -207,7 +213,7 @@ class Clients:
             self.add()
 
     def add(self):
-        client = socket.create_connection(("127.0.0.1", BOUNCER_PORT))
+        client = socket.create_connection(("127.0.0.1", self.bouncer.port))
         client.sendall(self.bouncer.login().encode())
         client.setblocking(False)
         self.selector.register(client, selectors.EVENT_READ)
@@ -274,13 +280,18 @@ def flood(server, clients, count, piece=200):
         clients.wait_for(min(first + piece, count))
 
 
-def relay(bouncer, server, attached, count):
-    clients = Clients(bouncer, attached)
-    clients.settle()
+def flood_seconds(bouncer, server, clients, count):
+    """The processor seconds that a flood takes."""
     clients.reset()
     before = bouncer.seconds()
     flood(server, clients, count)
-    spent = bouncer.seconds() - before
+    return bouncer.seconds() - before
+
+
+def relay(bouncer, server, attached, count):
+    clients = Clients(bouncer, attached)
+    clients.settle()
+    spent = flood_seconds(bouncer, server, clients, count)
     clients.close()
     time.sleep(0.5)
     bouncer.tell(f"relay to {attached} clients", count * attached / spent, "lines a processor second")
@@ -349,14 +360,25 @@ def message_memory(bouncer, server, count=20000):
     clients.close()
 
 
-def measure(kind, program):
-    """All figures of one bouncer, by their names."""
-    server = Server()
+def begin(kind, program):
+    """A bouncer with its server, once it listens."""
+    server = Server(SERVER_PORTS[kind])
     bouncer = Bouncer(kind, program)
     try:
         server.accept()
-        wait_for_port(BOUNCER_PORT)
+        wait_for_port(bouncer.port)
         time.sleep(0.5)
+    except BaseException:
+        bouncer.stop()
+        server.close()
+        raise
+    return bouncer, server
+
+
+def measure(kind, program):
+    """All figures of one bouncer, by their names."""
+    bouncer, server = begin(kind, program)
+    try:
         if kind == "bnc":
             idle_clients(bouncer)
         relay(bouncer, server, 1, 20000)
@@ -373,10 +395,11 @@ def measure(kind, program):
     return bouncer.figures
 
 
-def summary(figures):
+def summary(figures, digits=0):
     """The median, and the least and the greatest."""
     figures = sorted(figures)
-    return figures[len(figures) // 2], f"{figures[len(figures) // 2]:.0f} ({figures[0]:.0f} to {figures[-1]:.0f})"
+    median, least, greatest = (round(it, digits) for it in (figures[len(figures) // 2], figures[0], figures[-1]))
+    return figures[len(figures) // 2], f"{median:.{digits}f} ({least:.{digits}f} to {greatest:.{digits}f})"
 
 
 def measure_both(program, rounds):
@@ -388,9 +411,40 @@ def measure_both(program, rounds):
         print(f"{name}: bnc {our_text}, znc {their_text}, ratio of the medians {ratio:.2f}", flush=True)
 
 
+def measure_by_turns(program, rounds, count=2000):
+    """Relay to 1, 10 and 100 clients by both, in turns. The first two rounds warm up and aren't counted."""
+    pairs = [begin("bnc", program), begin("znc", None)]
+    try:
+        for attached in (1, 10, 100):
+            clients = [Clients(bouncer, attached) for bouncer, _ in pairs]
+            for each in clients:
+                each.settle()
+            ratios, spent = [], [[], []]
+            for done in range(rounds + 2):
+                seconds = [
+                    flood_seconds(bouncer, server, each, max(count // attached, 200))
+                    for (bouncer, server), each in zip(pairs, clients)
+                ]
+                if done >= 2:
+                    ratios.append(seconds[1] / seconds[0])
+                    for kept, now in zip(spent, seconds):
+                        kept.append(now * 1e9 / max(count // attached, 200) / attached)
+            for each in clients:
+                each.close()
+            time.sleep(1)
+            (_, ours), (_, theirs), (_, text) = summary(spent[0]), summary(spent[1]), summary(ratios, 2)
+            print(f"relay to {attached} clients, ns a line: bnc {ours}, znc {theirs}, znc / bnc {text}", flush=True)
+    finally:
+        for bouncer, server in pairs:
+            bouncer.stop()
+            server.close()
+
+
 def main():
     kind = sys.argv[1]
-    if kind == "both":
+    if kind == "turns":
+        measure_by_turns(sys.argv[2], int(sys.argv[3]))
+    elif kind == "both":
         measure_both(sys.argv[2], int(sys.argv[3]))
     else:
         measure(kind, sys.argv[2] if kind == "bnc" else None)

@@ -5,7 +5,8 @@ client still gets in.
     bench/soak.py PROGRAM [SECONDS [CLIENTS]]      600 seconds and 1,000 clients, where nothing else is said
 
 Some clients register and ask for pages, some leave in the middle of a page, some send garbage, some say nothing, and some
-never read. The network's server talks all the while.
+never read. The network's server talks all the while. With MALLOC_MMAP_THRESHOLD_=131072 in the environment the memory of a
+client's ring goes back to the system as the client leaves, so what is resident afterwards is what the program holds.
 """
 import os
 import random
@@ -14,7 +15,7 @@ import sys
 import threading
 import time
 
-from beside_znc import BOUNCER_PORT, Bouncer, Clients, Server, line, wait_for_port
+from beside_znc import Clients, begin, line
 
 
 def descriptors(process):
@@ -23,7 +24,7 @@ def descriptors(process):
 
 def visit(bouncer, kind, until):
     """One client's visit. What the bouncer closes is no failure here."""
-    client = socket.create_connection(("127.0.0.1", BOUNCER_PORT))
+    client = socket.create_connection(("127.0.0.1", bouncer.port))
     client.settimeout(5)
     try:
         if kind == "garbage":
@@ -75,11 +76,8 @@ def main():
     program = sys.argv[1]
     seconds = int(sys.argv[2]) if len(sys.argv) > 2 else 600
     count = int(sys.argv[3]) if len(sys.argv) > 3 else 1000
-    server = Server()
-    bouncer = Bouncer("bnc", program)
+    bouncer, server = begin("bnc", program)
     try:
-        server.accept()
-        wait_for_port(BOUNCER_PORT)
         for number in range(300):
             server.send(line(number, b"x" * 40))
         time.sleep(2)
