@@ -19,6 +19,8 @@ use std::io::{ErrorKind, Write};
 /// That it fails only where the writer failed can't be said of an unknown writer, since nothing in `Write` tells that one
 /// has failed: the tests show it of a writer that takes one byte at a time and is interrupted at every second write, and
 /// of one that fails at some write.
+// Most texts are a few bytes, for which a call takes longer than the write.
+#[inline(always)]
 pub fn put<W: Write>(writer: &mut W, bytes: &[u8]) -> io::Result<()>
     ensures { Writes W.contents writer.old writer.new result bytes.now }
 {
