@@ -177,7 +177,7 @@ fn each_end_has_its_words(rt: HostRuntime) -> Result<(), Fail> {
 #[test]
 fn what_failed_is_told(rt: HostRuntime) -> Result<(), Fail> {
     let at = SocketAddr::from((Ipv4Addr::LOCALHOST, 6670));
-    let rows: [(End<'_>, &str); 7] = [
+    let rows: [(End<'_>, &str); 8] = [
         (
             End::File("etc/bnc.toml", ErrorKind::PermissionDenied),
             "can't read etc/bnc.toml: permission denied",
@@ -196,6 +196,7 @@ fn what_failed_is_told(rt: HostRuntime) -> Result<(), Fail> {
             End::from(ServeFault::BadCount),
             "too many workers or places",
         ),
+        (End::from(ServeFault::NoReader), "no place for a reader"),
         (End::Worker, "a worker failed"),
     ];
     for (end, what) in rows {

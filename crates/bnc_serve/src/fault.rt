@@ -32,6 +32,9 @@ pub enum ServeFault {
     /// A node can't have so many workers or places.
     #[error("too many workers or places")]
     BadCount,
+    /// A worker has no place from which to read what the node holds.
+    #[error("no place for a reader")]
+    NoReader,
 }
 
 impl ServeFault {
@@ -100,7 +103,7 @@ impl From<NodeFault> for ServeFault {
         match fault {
             NodeFault::NoMemory => ServeFault::NoMemory,
             NodeFault::BadCount => ServeFault::BadCount,
-            NodeFault::NoReader => ServeFault::BadCount,
+            NodeFault::NoReader => ServeFault::NoReader,
         }
     }
 }
