@@ -11,8 +11,9 @@ use std::alloc::Global;
 use upstream_session::{Recipients, UpEffect};
 use work_servers::{Said, Step};
 
-/// So many lines of a server are taken before the others have their turn.
-const STEPS: usize = 64;
+/// So many lines of a server are taken before the others have their turn: about as many as one read brings, so that what
+/// they come to is written to each client at once.
+const STEPS: usize = 128;
 
 impl<N: Node, X: Attachment, P: Port> Worker<N, X, P> {
     /// The turn of one server.
