@@ -9,8 +9,8 @@ use Rattle.std.specs.BTreeMap as tree
 use Rattle.std.proofs.lemmas.Cmp.{tied_itself}
 use Rattle.irc_time.specs.Time.{greatest}
 use Rattle.chat_change.specs.Record.{Record}
-use Rattle.chat_change.specs.Order.{text_cmp}
-use Rattle.chat_change.proofs.CallerLemmas.{text_total, text_exact}
+use Rattle.chat_change.specs.Order.{id_cmp}
+use Rattle.chat_change.proofs.CallerLemmas.{id_total, id_exact}
 use Rattle.chat_history.specs.Choice.{keep}
 use Rattle.chat_history.specs.Cut.{cut_cmp, cut_total, of_record}
 use Rattle.chat_history.specs.declared.cut.Spot.{Spot}
@@ -22,13 +22,13 @@ use Rattle.buffer_messages.proofs.SpotLemmas.{spot_exact}
 
 -- one id is another
 abbrev pub same_id : List ℕ → List ℕ → Bool
-same_id = eq_by_cmp text_cmp
+same_id = eq_by_cmp id_cmp
 
 pub same_id_is : (a b : List ℕ) → same_id a b ≡ true → a ≡ b
-same_id_is a b e = text_exact a b ((Equal-is (text_cmp a b)).0 e)
+same_id_is a b e = id_exact a b ((Equal-is (id_cmp a b)).0 e)
 
 pub same_id_itself : (a : List ℕ) → same_id a a ≡ true
-same_id_itself a = ap is_eq (tied_itself text_total a)
+same_id_itself a = ap is_eq (tied_itself id_total a)
 
 pub same_spot_is : (a b : Spot) → eq_by_cmp cut_cmp a b ≡ true → a ≡ b
 same_spot_is a b e = spot_exact a b ((Equal-is (cut_cmp a b)).0 e)
@@ -51,19 +51,19 @@ module _ (files new : BySpot) (ids jds : ById) (id : List ℕ) (o : Option Stand
     (elsewhere : (q : Spot) → (q.id ≡ Some id → ⊥) → tree.get cut_cmp new q ≡ tree.get cut_cmp files q)
     (here : (t : ℕ) → tree.get cut_cmp new (place t id) ≡ record_at t o)
     (bears : IfSome (kept_in o) (λ r. (r.id ≡ id) × (r.at ≤ greatest)))
-    (stands : IsSetTo text_cmp ids id o jds) where
-  same_in : Agree files ids → (t : ℕ) (m : List ℕ) → tree.get cut_cmp new (place t m) ≡ record_at t (tree.get text_cmp jds m)
+    (stands : IsSetTo id_cmp ids id o jds) where
+  same_in : Agree files ids → (t : ℕ) (m : List ℕ) → tree.get cut_cmp new (place t m) ≡ record_at t (tree.get id_cmp jds m)
   same_in a t m =
-      elim (same_id id m) as (λ b. same_id id m ≡ b → tree.get cut_cmp new (place t m) ≡ record_at t (cond b o (tree.get text_cmp ids m))) [
+      elim (same_id id m) as (λ b. same_id id m ≡ b → tree.get cut_cmp new (place t m) ≡ record_at t (cond b o (tree.get id_cmp ids m))) [
         | true ↦ λ e. subst (λ i. tree.get cut_cmp new (place t i) ≡ record_at t o) (same_id_is id m e) (here t)
         | false ↦ λ e. elsewhere (place t m) (some_apart id m e) ∙ a.same t m
       ] refl
       ∙ ap (record_at t) (sym (stands m))
 
-  bears_in : Agree files ids → (m : List ℕ) → IfSome (kept_in (tree.get text_cmp jds m)) (λ r. (r.id ≡ m) × (r.at ≤ greatest))
+  bears_in : Agree files ids → (m : List ℕ) → IfSome (kept_in (tree.get id_cmp jds m)) (λ r. (r.id ≡ m) × (r.at ≤ greatest))
   bears_in a m =
       subst (λ x. IfSome (kept_in x) (λ r. (r.id ≡ m) × (r.at ≤ greatest))) (sym (stands m))
-      (elim (same_id id m) as (λ b. same_id id m ≡ b → IfSome (kept_in (cond b o (tree.get text_cmp ids m))) (λ r. (r.id ≡ m) × (r.at ≤ greatest))) [
+      (elim (same_id id m) as (λ b. same_id id m ≡ b → IfSome (kept_in (cond b o (tree.get id_cmp ids m))) (λ r. (r.id ≡ m) × (r.at ≤ greatest))) [
         | true ↦ λ e. subst (λ i. IfSome (kept_in o) (λ r. (r.id ≡ i) × (r.at ≤ greatest))) (same_id_is id m e) bears
         | false ↦ λ _. a.bears m
       ] refl)
@@ -77,7 +77,7 @@ module _ (files new : BySpot) (ids jds : ById) (id : List ℕ) (o : Option Stand
 
 -- ---- the maps where nothing has changed
 
-pub agree_alike : (files new : BySpot) (ids jds : ById) → ((q : Spot) → tree.get cut_cmp new q ≡ tree.get cut_cmp files q) → ((m : List ℕ) → tree.get text_cmp jds m ≡ tree.get text_cmp ids m) → Agree files ids → Agree new jds
+pub agree_alike : (files new : BySpot) (ids jds : ById) → ((q : Spot) → tree.get cut_cmp new q ≡ tree.get cut_cmp files q) → ((m : List ℕ) → tree.get id_cmp jds m ≡ tree.get id_cmp ids m) → Agree files ids → Agree new jds
 agree_alike files new ids jds e f a = record {
   none = λ t. e (record { at = t; id = None }) ∙ a.none t;
   same = λ t m. e (place t m) ∙ a.same t m ∙ ap (record_at t) (sym (f m));
@@ -98,11 +98,11 @@ elsewhere_none t u None e f = cc e
 elsewhere_none t u (Some r) e f = let is : r.at ≡ u = same_Some r.at u e in ap (λ b. cond b (Some r) None) (ap (nat_eq t) is ∙ f)
 
 module _ (files : BySpot) (ids : ById) (a : Agree files ids) (id : List ℕ) where
-  pub unkept_none : kept_moment (tree.get text_cmp ids id) ≡ None → (t : ℕ) → tree.get cut_cmp files (place t id) ≡ None
-  unkept_none e t = a.same t id ∙ no_record t (kept_in (tree.get text_cmp ids id)) e
+  pub unkept_none : kept_moment (tree.get id_cmp ids id) ≡ None → (t : ℕ) → tree.get cut_cmp files (place t id) ≡ None
+  unkept_none e t = a.same t id ∙ no_record t (kept_in (tree.get id_cmp ids id)) e
 
-  pub kept_elsewhere : (u : ℕ) → kept_moment (tree.get text_cmp ids id) ≡ Some u → (t : ℕ) → nat_eq t u ≡ false → tree.get cut_cmp files (place t id) ≡ None
-  kept_elsewhere u e t f = a.same t id ∙ elsewhere_none t u (kept_in (tree.get text_cmp ids id)) e f
+  pub kept_elsewhere : (u : ℕ) → kept_moment (tree.get id_cmp ids id) ≡ Some u → (t : ℕ) → nat_eq t u ≡ false → tree.get cut_cmp files (place t id) ≡ None
+  kept_elsewhere u e t f = a.same t id ∙ elsewhere_none t u (kept_in (tree.get id_cmp ids id)) e f
 
 -- ---- the message of a record that stands somewhere
 
@@ -115,31 +115,31 @@ kept_here t r (Some s) e =
     ] refl e
 
 module _ (files : BySpot) (ids : ById) (a : Agree files ids) (k : Spot) (r : Record) (is : tree.get cut_cmp files k ≡ Some r) where
-  with_id : (o : Option (List ℕ)) → k.id ≡ o → (k ≡ of_record r) × (kept_in (tree.get text_cmp ids r.id) ≡ Some r)
+  with_id : (o : Option (List ℕ)) → k.id ≡ o → (k ≡ of_record r) × (kept_in (tree.get id_cmp ids r.id) ≡ Some r)
   with_id None e =
       let none : tree.get cut_cmp files k ≡ None = (λ i. tree.get cut_cmp files (record { at = k.at; id = e i })) ∙ a.none k.at in
       cc (none, is)
   with_id (Some m) e =
       let there : tree.get cut_cmp files (place k.at m) ≡ Some r = (λ i. tree.get cut_cmp files (record { at = k.at; id = sym e i })) ∙ is in
-      let both = kept_here k.at r (kept_in (tree.get text_cmp ids m)) (sym (a.same k.at m) ∙ there) in
+      let both = kept_here k.at r (kept_in (tree.get id_cmp ids m)) (sym (a.same k.at m) ∙ there) in
       let bears = subst (λ o. IfSome o (λ x. (x.id ≡ m) × (x.at ≤ greatest))) both.0 (a.bears m) in (
         (λ i. record { at = sym both.1 i; id = (e ∙ ap Some (sym bears.0)) i }),
-        ap (λ x. kept_in (tree.get text_cmp ids x)) bears.0 ∙ both.0,
+        ap (λ x. kept_in (tree.get id_cmp ids x)) bears.0 ∙ both.0,
       )
 
   pub its_place : k ≡ of_record r
   its_place = (with_id k.id refl).0
 
-  pub its_message : kept_in (tree.get text_cmp ids r.id) ≡ Some r
+  pub its_message : kept_in (tree.get id_cmp ids r.id) ≡ Some r
   its_message = (with_id k.id refl).1
 
 -- a kept record stands where it is filed
-pub kept_stands : (files : BySpot) (ids : ById) → Agree files ids → (m : List ℕ) (r : Record) → kept_in (tree.get text_cmp ids m) ≡ Some r → (r.id ≡ m) × (tree.get cut_cmp files (of_record r) ≡ Some r)
+pub kept_stands : (files : BySpot) (ids : ById) → Agree files ids → (m : List ℕ) (r : Record) → kept_in (tree.get id_cmp ids m) ≡ Some r → (r.id ≡ m) × (tree.get cut_cmp files (of_record r) ≡ Some r)
 kept_stands files ids a m r e =
     let bears = subst (λ o. IfSome o (λ x. (x.id ≡ m) × (x.at ≤ greatest))) e (a.bears m) in
     (bears.0, ap (λ i. tree.get cut_cmp files (place r.at i)) bears.0 ∙ a.same r.at m ∙ ap (keep (λ (x : Record). nat_eq r.at x.at)) e ∙ ap (λ b. cond b (Some r) None) (itself r.at))
 
-pub kept_small : (files : BySpot) (ids : ById) → Agree files ids → (m : List ℕ) (r : Record) → kept_in (tree.get text_cmp ids m) ≡ Some r → r.at ≤ greatest
+pub kept_small : (files : BySpot) (ids : ById) → Agree files ids → (m : List ℕ) (r : Record) → kept_in (tree.get id_cmp ids m) ≡ Some r → r.at ≤ greatest
 kept_small files ids a m r e = (subst (λ o. IfSome o (λ x. (x.id ≡ m) × (x.at ≤ greatest))) e (a.bears m)).1
 
 -- ---- two spots of one message

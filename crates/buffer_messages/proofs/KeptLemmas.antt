@@ -13,7 +13,7 @@ use Rattle.std.specs.BTreeMap as tree
 use Rattle.std.specs.FinMap as finite
 use Rattle.irc_time.specs.Time.{greatest}
 use Rattle.chat_change.specs.Record.{Record}
-use Rattle.chat_change.proofs.CallerLemmas.{text_total}
+use Rattle.chat_change.proofs.CallerLemmas.{id_total}
 use Rattle.chat_history.specs.Choice.{Among}
 use Rattle.chat_history.specs.Cut.{cut_cmp, cut_total, of_record}
 use Rattle.chat_history.specs.Visible.{by_spot}
@@ -65,10 +65,10 @@ module _ (m : BySpot) (ids : ById) (a : Agree m ids) where
   ms = held_by ids
 
   stands : (r : Record) → IsKept ms r → tree.get cut_cmp m (of_record r) ≡ Some r
-  stands r held = (kept_stands m ids a r.id r (ap kept_in (sym (get-held_by text_total ids r.id)) ∙ held)).1
+  stands r held = (kept_stands m ids a r.id r (ap kept_in (sym (get-held_by id_total ids r.id)) ∙ held)).1
 
   is_kept : (k : Spot) (r : Record) → tree.get cut_cmp m k ≡ Some r → IsKept ms r
-  is_kept k r is = ap kept_in (get-held_by text_total ids r.id) ∙ its_message m ids a k r is
+  is_kept k r is = ap kept_in (get-held_by id_total ids r.id) ∙ its_message m ids a k r is
 
   -- the record at the least spot is the first
   pub first_is : (k : Spot) (r : Record) → tree.get cut_cmp m k ≡ Some r → tree.IsLowerBound cut_cmp m k → IsFirstKept ms (Some r)
@@ -81,7 +81,7 @@ module _ (m : BySpot) (ids : ById) (a : Agree m ids) where
   none_first none r held = nothing m.entries (of_record r) r none (stands r held)
 
   pub none_past : (t : ℕ) → greatest < t + 1 → (r : Record) → IsKept ms r → nat_lt t r.at ≡ false
-  none_past t last r held = not_past t r.at greatest last (kept_small m ids a r.id r (ap kept_in (sym (get-held_by text_total ids r.id)) ∙ held))
+  none_past t last r held = not_past t r.at greatest last (kept_small m ids a r.id r (ap kept_in (sym (get-held_by id_total ids r.id)) ∙ held))
     where
       not_past : (t u g : ℕ) → g < t + 1 → u ≤ g → nat_lt t u ≡ false
       not_past t u g l s = grind (arith, l, s)

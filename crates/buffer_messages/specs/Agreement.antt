@@ -4,7 +4,7 @@ use Rattle.std.specs.Option.{IfSome}
 use Rattle.std.specs.BTreeMap as tree
 use Rattle.irc_time.specs.Time.{greatest}
 use Rattle.chat_change.specs.Record.{Record}
-use Rattle.chat_change.specs.Order.{text_cmp}
+use Rattle.chat_change.specs.Order.{id_cmp}
 use Rattle.chat_history.specs.Choice.{keep}
 use Rattle.chat_history.specs.Cut.{cut_cmp}
 use Rattle.chat_history.specs.declared.cut.Spot.{Spot}
@@ -31,7 +31,7 @@ pub record Agree (files : BySpot) (ids : ById) : Type 0 where
   pub none : (t : ℕ) → tree.get cut_cmp files (record { at = t; id = None }) ≡ None
   -- a message has its kept record where that stands, and none elsewhere
   pub same : (t : ℕ) (m : List ℕ) →
-      tree.get cut_cmp files (place t m) ≡ record_at t (tree.get text_cmp ids m)
+      tree.get cut_cmp files (place t m) ≡ record_at t (tree.get id_cmp ids m)
   -- a kept record is under its own id, and its moment is at most the greatest there is
   pub bears : (m : List ℕ) →
-      IfSome (kept_in (tree.get text_cmp ids m)) (λ r. (r.id ≡ m) × (r.at ≤ greatest))
+      IfSome (kept_in (tree.get id_cmp ids m)) (λ r. (r.id ≡ m) × (r.at ≤ greatest))

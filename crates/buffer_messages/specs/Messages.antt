@@ -4,7 +4,7 @@ use Rattle.std.specs.Coded.{Coded}
 use Rattle.std.specs.Option.{option_map}
 use Rattle.std.specs.FinMap as finite
 use Rattle.chat_change.specs.Record.{Record}
-use Rattle.chat_change.specs.Order.{text_cmp}
+use Rattle.chat_change.specs.Order.{id_cmp}
 use Rattle.chat_history.specs.Codes.{coded_text}
 use Rattle.buffer_messages.specs.declared.standing.Standing.{Standing}
 use Rattle.buffer_messages.specs.declared.standing.Standing.TheVariants.{Kept, Gone}
@@ -12,7 +12,7 @@ use Rattle.buffer_messages.specs.contracts.standing.Standing as standing
 
 -- under each id what is held of its message
 abbrev pub Messages : Type 0
-Messages = finite.FinMap text_cmp Standing
+Messages = finite.FinMap id_cmp Standing
 
 abbrev pub coded_messages : Coded Messages
 coded_messages = finite.code coded_text (standing.the_row).coded

@@ -5,7 +5,7 @@ ghost use Rattle.std.specs.Prelude.{OnOk, OnErr};
 ghost use Rattle.std.specs.FinMap as map;
 ghost use Rattle.std.specs.BTreeMap as tree;
 ghost use Rattle.std.specs.Map.Iter.{deref};
-ghost use Rattle.chat_change.specs.Order.{text_cmp};
+ghost use Rattle.chat_change.specs.Order.{id_cmp};
 ghost use Rattle.std.specs.Option.{option_map};
 ghost use Rattle.chat_history.specs.Cut.{of_record, cut_cmp};
 ghost use Rattle.ordered_maps.specs.MapView.{IsSetTo, IsWithout};
@@ -90,8 +90,8 @@ fn copies_of(post: &Record) -> Result<Copies, AllocError>
 
 // Makes what is held of a message what it was before. It takes no memory.
 fn restore(by_id: &mut BTreeMap<MsgId, Standing>, id: &MsgId, before: Option<Standing>)
-    requires held { IsSome (tree.get text_cmp by_id.old id.now) }
-    ensures { IsSetTo text_cmp by_id.old id.now before by_id.new }
+    requires held { IsSome (tree.get id_cmp by_id.old id.now) }
+    ensures { IsSetTo id_cmp by_id.old id.now before by_id.new }
 {
     match before {
         Some(before) => overwrite(by_id, id, before),
@@ -244,7 +244,7 @@ impl Messages {
 
 // The number of the piece of a message.
 fn number_of(by_id: &BTreeMap<MsgId, Standing>, id: &MsgId) -> Option<u64>
-    ensures { result ≡ option_map spec.number_of (tree.get text_cmp by_id.now id.now) }
+    ensures { result ≡ option_map spec.number_of (tree.get id_cmp by_id.now id.now) }
 {
     let standing = by_id.get(id)?;
     Some(standing.number())

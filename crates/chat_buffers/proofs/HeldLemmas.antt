@@ -8,19 +8,19 @@ use Rattle.std.specs.List.{filter_map, flat_map, list_any, cons_option}
 use Rattle.std.specs.Option.{option_map}
 use Rattle.std.specs.FinMap as finite
 use Rattle.chat_change.specs.Buffer.{Buffer}
-use Rattle.chat_change.specs.Order.{buffer_cmp, text_cmp}
+use Rattle.chat_change.specs.Order.{buffer_cmp, id_cmp}
 use Rattle.chat_change.specs.Key.{Key, FloorOf, MarkerOf, MessageOf, key_cmp, key_buffer, same_key}
 use Rattle.chat_history.specs.Retention.{same_buffer}
 use Rattle.chat_buffers.specs.Store.{Numbered}
-use Rattle.chat_change.proofs.CallerLemmas.{key_total, same_key_itself, same_key_is, buffer_exact, text_exact}
+use Rattle.chat_change.proofs.CallerLemmas.{key_total, same_key_itself, same_key_is, buffer_exact, id_exact}
 use Rattle.chat_buffers.specs.declared.held.Held.{Held}
 use Rattle.chat_buffers.specs.Held.{ByBuffer, held_piece, piece_in, held_floor, numbered, tabulated, keys_of, store_in}
 
 abbrev pub same_id : List ℕ → List ℕ → Bool
-same_id = eq_by_cmp text_cmp
+same_id = eq_by_cmp id_cmp
 
 pub same_id_is : (a b : List ℕ) → same_id a b ≡ true → a ≡ b
-same_id_is a b e = text_exact a b ((Equal-is (text_cmp a b)).0 e)
+same_id_is a b e = id_exact a b ((Equal-is (id_cmp a b)).0 e)
 
 pub same_buffer_is : (b d : Buffer) → same_buffer b d ≡ true → b ≡ d
 same_buffer_is b d e = buffer_exact b d ((Equal-is (buffer_cmp b d)).0 e)

@@ -10,7 +10,7 @@ use Rattle.std.specs.FinMap as finite
 use Rattle.chat_change.specs.Buffer.{Buffer}
 use Rattle.chat_change.specs.Record.{Record}
 use Rattle.chat_change.specs.Order.{buffer_cmp}
-use Rattle.chat_change.proofs.CallerLemmas.{buffer_total, buffer_exact, text_total, key_total, key_exact, same_key_is, same_key_itself}
+use Rattle.chat_change.proofs.CallerLemmas.{buffer_total, buffer_exact, id_total, key_total, key_exact, same_key_is, same_key_itself}
 use Rattle.chat_change.specs.declared.change.Change.{Change}
 use Rattle.chat_change.specs.declared.change.Change.TheVariants.{Post, Redact, Mark, Floor}
 use Rattle.chat_change.specs.Key.{Key, FloorOf, MarkerOf, MessageOf, key_buffer, key_of, same_key}
@@ -33,7 +33,7 @@ pub not_same : (k l : Key) → (k ≡ l → ⊥) → same_key k l ≡ false
 not_same k l h = elim (same_key k l) as (λ t. same_key k l ≡ t → t ≡ false) [ true ↦ λ e. absurd (h (same_key_is k l e)) | false ↦ λ _. refl ] refl
 
 same_id_itself : (a : List ℕ) → same_id a a ≡ true
-same_id_itself a = ap is_eq (tied_itself text_total a)
+same_id_itself a = ap is_eq (tied_itself id_total a)
 
 same_buffer_itself : (b : Buffer) → same_buffer b b ≡ true
 same_buffer_itself b = ap is_eq (tied_itself buffer_total b)
@@ -75,7 +75,7 @@ module _ (h : Held) (n : ℕ) where
   post_settles r ms is (FloorOf b) e = stays (FloorOf b) (MessageOf r.buffer r.id) _ _ (λ is. cc is)
   post_settles r ms is (MarkerOf b) e = stays (MarkerOf b) (MessageOf r.buffer r.id) _ _ (λ is. cc is)
   post_settles r ms is (MessageOf b m) e =
-      ap (option_map (numbered b m (held_floor h))) (ap (λ (x : Messages). finite.get x m) is ∙ finite.get-insert text_total h.messages r.id (Kept r n) m)
+      ap (option_map (numbered b m (held_floor h))) (ap (λ (x : Messages). finite.get x m) is ∙ finite.get-insert id_total h.messages r.id (Kept r n) m)
       ∙ kept_at b m r (same_id m r.id) (finite.get h.messages m)
       ∙ ap (λ a. cond a (Some (record { number = n; change = Post r })) (held_piece (Some h) (MessageOf b m))) (sym (ap (λ d. same_key (MessageOf b m) (MessageOf d r.id)) (sym e) ∙ same_message b m r.id))
 
@@ -83,7 +83,7 @@ module _ (h : Held) (n : ℕ) where
   redact_settles d i t ms rests is (FloorOf b) e = stays (FloorOf b) (MessageOf d i) _ _ (λ is. cc is)
   redact_settles d i t ms rests is (MarkerOf b) e = stays (MarkerOf b) (MessageOf d i) _ _ (λ is. cc is)
   redact_settles d i t ms rests is (MessageOf b m) e =
-      ap (option_map (numbered b m (held_floor h))) (ap (λ (x : Messages). finite.get x m) is ∙ finite.get-insert text_total h.messages i (Gone t n) m)
+      ap (option_map (numbered b m (held_floor h))) (ap (λ (x : Messages). finite.get x m) is ∙ finite.get-insert id_total h.messages i (Gone t n) m)
       ∙ gone_at b m i t (same_id m i) (finite.get h.messages m) rests refl
       ∙ ap (λ x. cond (same_id m i) (Some (record { number = n; change = Redact x i t })) (held_piece (Some h) (MessageOf b m))) e
       ∙ ap (λ a. cond a (Some (record { number = n; change = Redact d i t })) (held_piece (Some h) (MessageOf b m))) (sym (ap (λ d. same_key (MessageOf b m) (MessageOf d i)) (sym e) ∙ same_message b m i))
@@ -257,7 +257,7 @@ module _ (h : Held) (b : Buffer) (i : List ℕ) (ms : Messages) (is : ms ≡ fin
   taken_here (FloorOf d) e = gone_stays (FloorOf d) (MessageOf b i) _ (λ is. cc is)
   taken_here (MarkerOf d) e = gone_stays (MarkerOf d) (MessageOf b i) _ (λ is. cc is)
   taken_here (MessageOf d m) e =
-      ap (option_map (numbered d m (held_floor h))) (ap (λ (x : Messages). finite.get x m) is ∙ finite.get-remove text_total h.messages i m)
+      ap (option_map (numbered d m (held_floor h))) (ap (λ (x : Messages). finite.get x m) is ∙ finite.get-remove id_total h.messages i m)
       ∙ none_at (numbered d m (held_floor h)) (same_id m i) (finite.get h.messages m)
       ∙ ap (λ a. cond a None (held_piece (Some h) (MessageOf d m))) (sym (ap (λ x. same_key (MessageOf d m) (MessageOf x i)) (sym e) ∙ same_message d m i))
 

@@ -13,7 +13,7 @@ use Rattle.chat_change.specs.Message.{Message, kind_letter, message_texts}
 use Rattle.chat_change.specs.Record.{Record}
 use Rattle.chat_change.specs.declared.message.Kind.{Kind}
 use Rattle.chat_change.specs.declared.message.Kind.TheVariants.{Privmsg, Notice}
-use Rattle.chat_change.specs.Order.{text_cmp, texts_cmp, buffer_cmp, message_cmp, record_texts, latest_first, record_cmp, GoesBefore}
+use Rattle.chat_change.specs.Order.{text_cmp, id_cmp, texts_cmp, buffer_cmp, message_cmp, record_texts, latest_first, record_cmp, GoesBefore}
 use Rattle.std.proofs.lemmas.Map.Views.{tells_apart}
 
 pub on_exact : {K J : Type 0} (f : K → J) {R : J → J → Ordering} → ((x y : K) → f x ≡ f y → x ≡ y) → CmpEqualImpliesEq R → CmpEqualImpliesEq (on f R)
@@ -24,6 +24,12 @@ text_total = lists_total nat_cmp_total
 
 pub text_exact : CmpEqualImpliesEq text_cmp
 text_exact = slice_cmp-IsAntisymmetric exact_unsigned
+
+pub id_total : IsTotalOrder id_cmp
+id_total = back_total text_total
+
+pub id_exact : CmpEqualImpliesEq id_cmp
+id_exact a b e = sym (text_exact b a e)
 
 pub texts_total : IsTotalOrder texts_cmp
 texts_total = lists_total text_total

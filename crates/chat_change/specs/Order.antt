@@ -12,6 +12,10 @@ use Rattle.chat_change.specs.Record.{Record}
 abbrev pub text_cmp : List ℕ → List ℕ → Ordering
 text_cmp = slice_cmp nat_cmp
 
+-- ids, the greatest first
+abbrev pub id_cmp : List ℕ → List ℕ → Ordering
+id_cmp = flip_args text_cmp
+
 -- lists of texts are compared text by text
 abbrev pub texts_cmp : List (List ℕ) → List (List ℕ) → Ordering
 texts_cmp = slice_cmp text_cmp

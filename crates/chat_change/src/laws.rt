@@ -10,7 +10,7 @@ ghost use Rattle.chat_change.specs.Buffer.{Buffer, buffer_of, IsLawfulBuffer};
 ghost use Rattle.chat_change.specs.Message.{Message, line_of, IsLawfulMessage};
 ghost use Rattle.chat_change.specs.Record.{Record};
 ghost use Rattle.chat_change.specs.Faults.{buffer_fault, id_fault, record_fault};
-ghost use Rattle.chat_change.specs.Order.{text_cmp, buffer_cmp, record_cmp, GoesBefore};
+ghost use Rattle.chat_change.specs.Order.{text_cmp, id_cmp, buffer_cmp, record_cmp, GoesBefore};
 ghost use Rattle.chat_change.specs.declared.faults.ChangeFault.TheVariants as fault;
 
 use crate::message::LINE_LIMIT;
@@ -39,11 +39,12 @@ pub fn buffers_are_ordered_by_their_names()
     ensures equality { (a b : Buffer) → IsTrue (eq_by_cmp buffer_cmp a b) ↔ (a ≡ b) }
 {}
 
-/// Message ids are ordered byte by byte, and only equal ids tie.
+/// Message ids are compared byte by byte, and only equal ids tie. Among the keys of a map the greatest stands first.
 pub fn ids_are_ordered_by_their_bytes()
     ensures total { IsTotalOrder text_cmp }
     ensures exact { (a b : List ℕ) → text_cmp a b ≡ Equal → a ≡ b }
     ensures equality { (a b : List ℕ) → IsTrue (eq_by_cmp text_cmp a b) ↔ (a ≡ b) }
+    ensures greatest_first { (a b : List ℕ) → id_cmp a b ≡ text_cmp b a }
 {}
 
 /// The makers refuse exactly what has no lawful parts, and what they make is lawful.

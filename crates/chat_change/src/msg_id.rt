@@ -3,7 +3,7 @@ ghost use Rattle.std.specs.Prelude.{◌≡◌, ◌↔◌, IsTrue, true, ℕ, Lis
 ghost use Rattle.chat_change.specs.Words as spec;
 ghost use Rattle.chat_change.specs.Faults.{id_fault, fault_or_no_memory};
 ghost use Rattle.chat_change.specs.IdText.{bytes_of};
-ghost use Rattle.chat_change.specs.Order.{text_cmp};
+ghost use Rattle.chat_change.specs.Order.{text_cmp, id_cmp};
 
 use crate::faults::ChangeFault;
 use crate::id_text::IdText;
@@ -80,8 +80,8 @@ impl MsgId {
         self.as_bytes() == other.as_bytes()
     }
 
-    // How two ids compare, byte by byte.
-    fn order(&self, other: &MsgId) -> Ordering
+    /// How two ids compare, byte by byte.
+    pub fn text_order(&self, other: &MsgId) -> Ordering
         ensures { result ≡ text_cmp self.now other.now }
     {
         self.text.order(&other.text)
@@ -98,7 +98,7 @@ impl PartialEq for MsgId {
     ghost laws = { Prim.search (comparing, rules) };
 
     fn eq(&self, other: &MsgId) -> bool {
-        self.order(other).is_eq()
+        self.text_order(other).is_eq()
     }
 }
 
@@ -114,7 +114,7 @@ impl PartialOrd for MsgId {
     ghost use Rattle.std.specs.Cmp.Rules.{comparing};
     ghost use Rattle.std.specs.Ordering.{as_partial_cmp};
 
-    ghost partial_cmp = { as_partial_cmp text_cmp };
+    ghost partial_cmp = { as_partial_cmp id_cmp };
 
     ghost laws = { Prim.search (comparing, rules) };
 
@@ -123,11 +123,13 @@ impl PartialOrd for MsgId {
     }
 }
 
+/// The greatest id comes first. The ids that a node makes rise, and a map looks at its first keys first: so the place of
+/// a new one is found at once.
 impl Ord for MsgId {
     ghost use Rattle.std.proofs.Common.{rules};
     ghost use Rattle.std.specs.Cmp.Rules.{comparing};
 
-    ghost cmp = { text_cmp };
+    ghost cmp = { id_cmp };
 
     ghost total = { Prim.search (comparing, rules) };
 
@@ -136,7 +138,7 @@ impl Ord for MsgId {
     ghost matches_eq = { Prim.search (comparing, rules) };
 
     fn cmp(&self, other: &MsgId) -> Ordering {
-        self.order(other)
+        other.text_order(self)
     }
 }
 

@@ -63,7 +63,7 @@ impl Spot {
             },
             Some(own) => match &other.id {
                 None => Ordering::Greater,
-                Some(others) => own.cmp(others),
+                Some(others) => own.text_order(others),
             },
         }
     }
@@ -74,7 +74,7 @@ impl Spot {
     {
         let id = match &self.id {
             None => Ordering::Less,
-            Some(own) => own.cmp(post.id()),
+            Some(own) => own.text_order(post.id()),
         };
         self.at.ms().cmp(&post.at().ms()).then(id)
     }

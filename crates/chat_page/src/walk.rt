@@ -16,7 +16,7 @@ fn order_to(spot: &Spot, record: &Record) -> Ordering
 {
     let id = match &spot.id {
         None => Ordering::Less,
-        Some(id) => id.cmp(record.id()),
+        Some(id) => id.text_order(record.id()),
     };
     spot.at.ms().cmp(&record.at().ms()).then(id)
 }

@@ -155,12 +155,16 @@ pub fn told_buffers(alloc: Global, text: &str) -> Result<Vec<u8>, Error> {
     told_order(alloc, one.cmp(&other), one.is_same(&other), one == other)
 }
 
-/// `ids`: two message ids with ` < ` between them.
+/// `ids`: two message ids with ` < ` between them. Among the keys of a map they stand the other way round.
 pub fn told_ids(alloc: Global, text: &str) -> Result<Vec<u8>, Error> {
     let (one, other) = text.split_once(" < ").unwrap_or((text, ""));
     let one = MsgId::new(alloc, one.as_bytes())?;
     let other = MsgId::new(alloc, other.as_bytes())?.try_clone()?;
-    told_order(alloc, one.cmp(&other), one.is_same(&other), one == other)
+    let order = one.text_order(&other);
+    if order != other.cmp(&one) {
+        return Ok(Vec::from_slice(alloc, b"differ")?);
+    }
+    told_order(alloc, order, one.is_same(&other), one == other)
 }
 
 fn kind_of(letter: &str) -> Kind {

@@ -1,7 +1,7 @@
 use Rattle.std.proofs.Common.{◌≡◌, ◌∙◌, refl, ap, Some, None}
 use Rattle.std.specs.FinMap as map
 use Rattle.std.specs.Option.{option_map}
-use Rattle.chat_change.specs.Order.{text_cmp}
+use Rattle.chat_change.specs.Order.{id_cmp}
 use Rattle.chat_change.specs.Key.{Key, FloorOf, MarkerOf, MessageOf}
 use Rattle.buffer_messages.specs.Messages.{Messages}
 use Rattle.chat_buffers.specs.Held.{held_piece, held_floor, numbered}
@@ -11,7 +11,7 @@ use Rattle.chat_buffers.proofs.held.nothing_held.Goals as goal
 nothing : (h : Held) → h.floor ≡ None → h.marker ≡ None → h.messages ≡ map.empty → (k : Key) → held_piece (Some h) k ≡ None
 nothing h f m e (FloorOf b) = ap (option_map _) f
 nothing h f m e (MarkerOf b) = ap (option_map _) m
-nothing h f m e (MessageOf b i) = ap (option_map (numbered b i (held_floor h))) (ap (λ (x : Messages). map.get x i) e ∙ map.get-empty text_cmp i)
+nothing h f m e (MessageOf b i) = ap (option_map (numbered b i (held_floor h))) (ap (λ (x : Messages). map.get x i) e ∙ map.get-empty id_cmp i)
 
 pub returns : goal.returns
 returns c = nothing (record { messages = c.new.result; floor = None; marker = None }) refl refl c.new.ensures

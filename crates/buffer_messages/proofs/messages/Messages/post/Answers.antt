@@ -4,8 +4,8 @@ use Rattle.std.specs.BTreeMap as tree
 use Rattle.std.specs.Option.{IsSome, IfSome, option_map}
 use Rattle.irc_time.specs.Time.{greatest}
 use Rattle.chat_change.specs.Record.{Record}
-use Rattle.chat_change.specs.Order.{text_cmp}
-use Rattle.chat_change.proofs.CallerLemmas.{text_total, text_exact}
+use Rattle.chat_change.specs.Order.{id_cmp}
+use Rattle.chat_change.proofs.CallerLemmas.{id_total, id_exact}
 use Rattle.chat_history.specs.Cut.{cut_cmp, of_record}
 use Rattle.ordered_maps.specs.MapView.{IsSetTo, IsWith, IsWithout}
 use Rattle.ordered_maps.proofs.CallerLemmas.{unchanged, held_alike, inserted, written}
@@ -23,17 +23,17 @@ made_of r = record { spot = of_record r; id = r.id; name = r.id; post = r }
 
 -- what is said of the copies is said of the record
 module _ (r : Record) (f : Copies) (made : f ≡ made_of r) (ids jds : ById) (n : ℕ) where
-  stands : IsWith text_cmp ids f.id (standing.Kept r n) jds → IsWith text_cmp ids r.id (standing.Kept r n) jds
-  stands = subst (λ g. IsWith text_cmp ids g.id (standing.Kept r n) jds) made
+  stands : IsWith id_cmp ids f.id (standing.Kept r n) jds → IsWith id_cmp ids r.id (standing.Kept r n) jds
+  stands = subst (λ g. IsWith id_cmp ids g.id (standing.Kept r n) jds) made
 
-  was : (o : Option Standing) → o ≡ tree.get text_cmp ids f.id → o ≡ tree.get text_cmp ids r.id
-  was o e = e ∙ ap (λ g. tree.get text_cmp ids g.id) made
+  was : (o : Option Standing) → o ≡ tree.get id_cmp ids f.id → o ≡ tree.get id_cmp ids r.id
+  was o e = e ∙ ap (λ g. tree.get id_cmp ids g.id) made
 
-  named : IsWith text_cmp ids f.id (standing.Kept r n) jds → IsSome (tree.get text_cmp jds f.name)
-  named up = subst (λ g. IsSome (tree.get text_cmp jds g.name)) (sym made) (subst IsSome (sym (written text_total ids jds r.id (standing.Kept r n) (stands up))) refl)
+  named : IsWith id_cmp ids f.id (standing.Kept r n) jds → IsSome (tree.get id_cmp jds f.name)
+  named up = subst (λ g. IsSome (tree.get id_cmp jds g.name)) (sym made) (subst IsSome (sym (written id_total ids jds r.id (standing.Kept r n) (stands up))) refl)
 
-  restored : (kds : ById) (o : Option Standing) → IsWith text_cmp ids f.id (standing.Kept r n) jds → o ≡ tree.get text_cmp ids f.id → IsSetTo text_cmp jds f.name o kds → (q : List ℕ) → tree.get text_cmp kds q ≡ tree.get text_cmp ids q
-  restored kds o up e back = put_back ids jds kds r.id (standing.Kept r n) o (stands up) (subst (λ g. IsSetTo text_cmp jds g.name o kds) made back) (was o e)
+  restored : (kds : ById) (o : Option Standing) → IsWith id_cmp ids f.id (standing.Kept r n) jds → o ≡ tree.get id_cmp ids f.id → IsSetTo id_cmp jds f.name o kds → (q : List ℕ) → tree.get id_cmp kds q ≡ tree.get id_cmp ids q
+  restored kds o up e back = put_back ids jds kds r.id (standing.Kept r n) o (stands up) (subst (λ g. IsSetTo id_cmp jds g.name o kds) made back) (was o e)
 
 filed : (r : Record) (f : Copies) → f ≡ made_of r → (m n : BySpot) → IsWith cut_cmp m f.spot f.post n → IsWith cut_cmp m (of_record r) r n
 filed r f made m n = subst (λ g. IsWith cut_cmp m g.spot g.post n) made
@@ -45,7 +45,7 @@ pub invariant_of-self : goal.invariant_of-self
 invariant_of-self c =
     let m = c.self.inside.by_spot in
     let ids = c.self.inside.by_id in
-    agree_alike m m ids c.exchange.new.map (λ q. refl) (unchanged text_cmp ids c.exchange.new.map c.in_default-exchange.ensures.refused) c.self.invariant
+    agree_alike m m ids c.exchange.new.map (λ q. refl) (unchanged id_cmp ids c.exchange.new.map c.in_default-exchange.ensures.refused) c.self.invariant
 
 pub invariant_of-self-then-not-put : goal.invariant_of-self-then-not-put
 invariant_of-self-then-not-put c =
@@ -58,7 +58,7 @@ invariant_of-self-then-not-put c =
 pub returns-then-not-put-clause-refused : goal.returns-then-not-put-clause-refused
 returns-then-not-put-clause-refused c =
     let ids = c.self.inside.by_id in
-    held_alike text_total text_exact ids c.restore.new.by_id
+    held_alike id_total id_exact ids c.restore.new.by_id
     (restored c.args.post c.in-Ok.field-0 c.in-Ok.ensures ids c.exchange.new.map c.args.number c.restore.new.by_id c.in-Ok-exchange.before c.in-Ok-exchange.ensures.put c.in-Ok-exchange.ensures.before c.restore.ensures)
     ∙ c.self.view_is
 
@@ -91,5 +91,5 @@ returns-clause-placed c =
     let ids = c.self.inside.by_id in
     let jds = c.exchange.new.map in
     let r = c.args.post in
-    inserted text_total text_exact ids jds r.id (standing.Kept r c.args.number) (stands r c.in-Ok.field-0 c.in-Ok.ensures ids jds c.args.number c.in-Ok-exchange.ensures.put)
+    inserted id_total id_exact ids jds r.id (standing.Kept r c.args.number) (stands r c.in-Ok.field-0 c.in-Ok.ensures ids jds c.args.number c.in-Ok-exchange.ensures.put)
     ∙ ap (λ (s : Messages). map.insert s r.id (standing.Kept r c.args.number)) c.self.view_is

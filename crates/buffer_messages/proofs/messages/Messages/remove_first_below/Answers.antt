@@ -2,8 +2,8 @@ use Rattle.std.proofs.Common.{rules, ◌≡◌, ◌≤◌, ◌<◌, ◌∙◌, r
 use Rattle.std.specs.FinMap as map
 use Rattle.std.specs.BTreeMap as tree
 use Rattle.std.specs.Option.{IfSome, option_map}
-use Rattle.chat_change.specs.Order.{text_cmp}
-use Rattle.chat_change.proofs.CallerLemmas.{text_total, text_exact}
+use Rattle.chat_change.specs.Order.{id_cmp}
+use Rattle.chat_change.proofs.CallerLemmas.{id_total, id_exact}
 use Rattle.ordered_maps.specs.MapView.{held_by, IsWithout}
 use Rattle.ordered_maps.proofs.CallerLemmas.{removed}
 use Rattle.buffer_messages.specs.Messages.{Messages, number_of, IsFrom, TakesOne}
@@ -26,7 +26,7 @@ pub invariant_of-self-2 : goal.invariant_of-self-2
 invariant_of-self-2 c =
     let ids = c.self.inside.by_id in
     let r = c.in_ok-spot.post in
-    let stands : IsWithout text_cmp ids r.id c.take_out.new.map = subst (λ x. IsWithout text_cmp ids x c.take_out.new.map) c.id-2.ensures c.take_out.ensures in
+    let stands : IsWithout id_cmp ids r.id c.take_out.new.map = subst (λ x. IsWithout id_cmp ids x c.take_out.new.map) c.id-2.ensures c.take_out.ensures in
     taken_agree c.self.inside.by_spot c.pop_first.new.self ids c.take_out.new.map c.self.invariant c.in_ok-spot.spot r c.in_ok-spot.ensures.value c.in_ok-spot.ensures.updates.0 stands
 
 pub returns-clause-one : goal.returns-clause-one
@@ -38,9 +38,9 @@ returns-clause-one c =
     let new = c.take_out.new.map in
     let at = c.in_ok-spot.ensures.value in
     let out = c.in_ok-spot.ensures.updates.0 in
-    let stands : IsWithout text_cmp ids r.id new = subst (λ x. IsWithout text_cmp ids x new) c.id-2.ensures c.take_out.ensures in
-    let number : option_map number_of (tree.get text_cmp ids r.id) ≡ c.number_of-number.result =
-    ap (λ x. option_map number_of (tree.get text_cmp ids x)) (sym c.id.ensures) ∙ sym c.number_of-number.ensures in
+    let stands : IsWithout id_cmp ids r.id new = subst (λ x. IsWithout id_cmp ids x new) c.id-2.ensures c.take_out.ensures in
+    let number : option_map number_of (tree.get id_cmp ids r.id) ≡ c.number_of-number.result =
+    ap (λ x. option_map number_of (tree.get id_cmp ids x)) (sym c.id.ensures) ∙ sym c.number_of-number.ensures in
     let low : c.in-Some.spot.now.at < c.args.floor = search rules in
     let under = not_after k.at c.in-Some.spot.now.at _ (c.in_ok-spot.ensures.least c.in-Some.spot.now (search rules)) in
     let same : k.at ≡ r.at = ap (λ s. s.at) (its_place m ids c.self.invariant k r at) in
@@ -49,8 +49,8 @@ returns-clause-one c =
       | Some n ↦ λ g. record {
         post = r;
         low = (let l : r.at < c.args.floor = omega (arith, low, under, same) in l);
-        was = sym (found ids c.args.self.now r.id c.self.view_is) ∙ was_kept m c.pop_first.new.self ids new c.self.invariant k r at out stands n (tree.get text_cmp ids r.id) refl (number ∙ g);
-        left = removed text_total text_exact ids new r.id stands ∙ ap (λ (s : Messages). map.remove s r.id) c.self.view_is;
+        was = sym (found ids c.args.self.now r.id c.self.view_is) ∙ was_kept m c.pop_first.new.self ids new c.self.invariant k r at out stands n (tree.get id_cmp ids r.id) refl (number ∙ g);
+        left = removed id_total id_exact ids new r.id stands ∙ ap (λ (s : Messages). map.remove s r.id) c.self.view_is;
       }
     ] refl
 
@@ -61,10 +61,10 @@ returns-clause-done c none =
     let k = c.in_ok-spot.spot in
     let r = c.in_ok-spot.post in
     let new = c.take_out.new.map in
-    let stands : IsWithout text_cmp ids r.id new = subst (λ x. IsWithout text_cmp ids x new) c.id-2.ensures c.take_out.ensures in
-    let number : option_map number_of (tree.get text_cmp ids r.id) ≡ c.number_of-number.result =
-    ap (λ x. option_map number_of (tree.get text_cmp ids x)) (sym c.id.ensures) ∙ sym c.number_of-number.ensures in
-    absurd (was_known m c.pop_first.new.self ids new c.self.invariant k r c.in_ok-spot.ensures.value c.in_ok-spot.ensures.updates.0 stands (tree.get text_cmp ids r.id) refl (number ∙ none))
+    let stands : IsWithout id_cmp ids r.id new = subst (λ x. IsWithout id_cmp ids x new) c.id-2.ensures c.take_out.ensures in
+    let number : option_map number_of (tree.get id_cmp ids r.id) ≡ c.number_of-number.result =
+    ap (λ x. option_map number_of (tree.get id_cmp ids x)) (sym c.id.ensures) ∙ sym c.number_of-number.ensures in
+    absurd (was_known m c.pop_first.new.self ids new c.self.invariant k r c.in_ok-spot.ensures.value c.in_ok-spot.ensures.updates.0 stands (tree.get id_cmp ids r.id) refl (number ∙ none))
 
 pub returns-clause-kept : goal.returns-clause-kept
 returns-clause-kept c none =
@@ -73,7 +73,7 @@ returns-clause-kept c none =
     let k = c.in_ok-spot.spot in
     let r = c.in_ok-spot.post in
     let new = c.take_out.new.map in
-    let stands : IsWithout text_cmp ids r.id new = subst (λ x. IsWithout text_cmp ids x new) c.id-2.ensures c.take_out.ensures in
-    let number : option_map number_of (tree.get text_cmp ids r.id) ≡ c.number_of-number.result =
-    ap (λ x. option_map number_of (tree.get text_cmp ids x)) (sym c.id.ensures) ∙ sym c.number_of-number.ensures in
-    absurd (was_known m c.pop_first.new.self ids new c.self.invariant k r c.in_ok-spot.ensures.value c.in_ok-spot.ensures.updates.0 stands (tree.get text_cmp ids r.id) refl (number ∙ none))
+    let stands : IsWithout id_cmp ids r.id new = subst (λ x. IsWithout id_cmp ids x new) c.id-2.ensures c.take_out.ensures in
+    let number : option_map number_of (tree.get id_cmp ids r.id) ≡ c.number_of-number.result =
+    ap (λ x. option_map number_of (tree.get id_cmp ids x)) (sym c.id.ensures) ∙ sym c.number_of-number.ensures in
+    absurd (was_known m c.pop_first.new.self ids new c.self.invariant k r c.in_ok-spot.ensures.value c.in_ok-spot.ensures.updates.0 stands (tree.get id_cmp ids r.id) refl (number ∙ none))
