@@ -13,19 +13,25 @@ fn fault_letter(fault: LinkFault) -> u8 {
     }
 }
 
+fn line_letter(line: &PeerLine) -> u8 {
+    match line {
+        PeerLine::Word(_) => b'W',
+        PeerLine::Hello(_) => b'H',
+        PeerLine::Head(_) => b'D',
+        PeerLine::Change(_) => b'C',
+        PeerLine::Ack(_) => b'A',
+    }
+}
+
 /// The first word of the line that is read.
 pub fn letter_of(alloc: Global, line: &[u8]) -> u8 {
     match read_peer(alloc, line) {
-        Ok(PeerLine::Word(_)) => b'W',
-        Ok(PeerLine::Hello(_)) => b'H',
-        Ok(PeerLine::Head(_)) => b'D',
-        Ok(PeerLine::Change(_)) => b'C',
-        Ok(PeerLine::Ack(_)) => b'A',
+        Ok(line) => line_letter(&line),
         Err(fault) => fault_letter(fault),
     }
 }
 
-fn arrived_letter(arrived: Arrived) -> u8 {
+fn arrived_letter(arrived: &Arrived) -> u8 {
     match arrived {
         Arrived::Word(_) => b'W',
         Arrived::Hello(_) => b'H',
@@ -42,7 +48,7 @@ pub fn arrival_of(alloc: Global, gather: &mut Gather, line: &[u8]) -> u8 {
     };
     match gather.push(alloc, line) {
         Ok(None) => b'.',
-        Ok(Some(arrived)) => arrived_letter(arrived),
+        Ok(Some(arrived)) => arrived_letter(&arrived),
         Err(fault) => fault_letter(fault),
     }
 }

@@ -21,12 +21,17 @@ pub fn new_link(alloc: Global) -> Result<Link, Error> {
     link(alloc, b"n1", b"n2")
 }
 
-/// A state with one marker.
-fn marked(alloc: Global) -> Result<State, Error> {
-    let mut state = State::new(alloc);
+fn marker(alloc: Global) -> Result<Change, Error> {
     let at = Moment::from_ms(1).ok_or(AllocError)?;
     let buffer = Buffer::new(alloc, b"demo", b"net", b"#a")?;
-    let _ = state.absorb(Change::Mark { buffer, at })?;
+    Ok(Change::Mark { buffer, at })
+}
+
+/// A state with one marker.
+fn marked(alloc: Global) -> Result<State, Error> {
+    let marker = marker(alloc)?;
+    let mut state = State::new(alloc);
+    let _ = state.absorb(marker)?;
     Ok(state)
 }
 
@@ -38,8 +43,8 @@ fn packet_of(alloc: Global, link: &mut Link) -> Result<Option<Packet>, Error> {
 
 /// The acknowledgement of n2, and the front of the state that took the packet.
 fn taken(alloc: Global, packet: &Packet) -> Result<(Ack, u64), Error> {
-    let mut taker = State::new(alloc);
     let link = link(alloc, b"n2", b"n1")?;
+    let mut taker = State::new(alloc);
     let ack = link.take_packet(alloc, packet, &mut taker)?;
     Ok((ack, taker.front()))
 }

@@ -118,13 +118,19 @@ fn arrives(alloc: Global, gather: &mut Gather, row: &str) -> bool {
     }
 }
 
+/// The lines of one connection.
+fn check_connection(rt: &HostRuntime, tally: &mut Tally, part: &str) -> Result<(), Error> {
+    let mut gather = Gather::new();
+    for row in part.lines().skip(1) {
+        tally.count(rt, row, arrives(rt.alloc(), &mut gather, row))?;
+    }
+    Ok(())
+}
+
 fn check_gathers(rt: &HostRuntime, text: &str) -> Result<(), Error> {
     let mut tally = Tally::new();
     for part in text.split("== ").skip(1) {
-        let mut gather = Gather::new();
-        for row in part.lines().skip(1) {
-            tally.count(rt, row, arrives(rt.alloc(), &mut gather, row))?;
-        }
+        check_connection(rt, &mut tally, part)?;
     }
     tally.tell(rt, "gathers")
 }
@@ -138,13 +144,19 @@ fn check_written(rt: &HostRuntime, text: &str) -> Result<(), Error> {
     tally.tell(rt, "written")
 }
 
+/// What comes to one link.
+fn check_link(rt: &HostRuntime, tally: &mut Tally, part: &str) -> Result<(), Error> {
+    let mut link = new_link(rt.alloc())?;
+    for row in part.lines().skip(1) {
+        tally.count(rt, row, is_answer(rt.alloc(), &mut link, row)?)?;
+    }
+    Ok(())
+}
+
 fn check_links(rt: &HostRuntime, text: &str) -> Result<(), Error> {
     let mut tally = Tally::new();
     for part in text.split("== ").skip(1) {
-        let mut link = new_link(rt.alloc())?;
-        for row in part.lines().skip(1) {
-            tally.count(rt, row, is_answer(rt.alloc(), &mut link, row)?)?;
-        }
+        check_link(rt, &mut tally, part)?;
     }
     tally.tell(rt, "links")
 }
