@@ -138,37 +138,49 @@ fn played(alloc: Global, case: Case<'_>) -> Result<Vec<u8>, Error> {
     Ok(out)
 }
 
+fn tell_wrong(rt: &HostRuntime, case: Case<'_>, out: &[u8]) -> Result<(), Error> {
+    let text = String::from_utf8_lossy(rt.alloc(), out)?;
+    println!(rt;
+        "{} {}: {} came to:\n{}",
+        case.who, case.standing, case.name, text
+    )?;
+    Ok(())
+}
+
 /// Plays a case, and says whether it came to what it is to come to.
 fn is_right(rt: &HostRuntime, case: Case<'_>) -> Result<bool, Error> {
     let out = played(rt.alloc(), case)?;
     if out.as_slice() == case.expected.as_bytes() {
         return Ok(true);
     }
-    let text = String::from_utf8_lossy(rt.alloc(), &out)?;
-    println!(rt;
-        "{} {}: {} came to:\n{}",
-        case.who, case.standing, case.name, text
-    )?;
+    tell_wrong(rt, case, &out)?;
     Ok(false)
 }
 
-/// Plays the cases of a file, and says how many there were and how many came to something else.
-fn play_file(rt: &HostRuntime, path: &str) -> Result<(), Error> {
-    let text = fs::read_to_string(rt, path)?;
+fn is_right_part(rt: &HostRuntime, part: &str) -> Result<bool, Error> {
+    match case_in(part) {
+        Some(case) => is_right(rt, case),
+        None => Ok(false),
+    }
+}
+
+/// Plays the cases of a text, and says how many there were and how many came to something else.
+fn play_cases(rt: &HostRuntime, path: &str, text: &str) -> Result<(), Error> {
     let mut count: u64 = 0;
     let mut wrong: u64 = 0;
     for part in text.split("== ").skip(1) {
         count = count.saturating_add(1);
-        let right = match case_in(part) {
-            Some(case) => is_right(rt, case)?,
-            None => false,
-        };
-        if !right {
+        if !is_right_part(rt, part)? {
             wrong = wrong.saturating_add(1);
         }
     }
     println!(rt; "{path}: {count} cases, {wrong} wrong")?;
     Ok(())
+}
+
+fn play_file(rt: &HostRuntime, path: &str) -> Result<(), Error> {
+    let text = fs::read_to_string(rt, path)?;
+    play_cases(rt, path, text.as_str())
 }
 
 fn main(rt: HostRuntime) -> Result<(), Error> {

@@ -43,10 +43,24 @@ fn entry_of(alloc: Global, standing: Standing) -> Result<Entry, Error> {
     Ok(entry)
 }
 
-fn account_of(alloc: Global, name: &[u8], secret: &[u8], entry: Entry) -> Result<Account, Error> {
+fn network_of(alloc: Global, standing: Standing) -> Result<Network, Error> {
+    let entry = entry_of(alloc, standing)?;
+    Ok(Network::new(Text::new(alloc, b"net")?, entry))
+}
+
+fn bare_account(alloc: Global, name: &[u8], secret: &[u8]) -> Result<Account, Error> {
     let name = Text::new(alloc, name)?;
-    let mut account = Account::new(alloc, name, Text::new(alloc, secret)?);
-    let network = Network::new(Text::new(alloc, b"net")?, entry);
+    Ok(Account::new(alloc, name, Text::new(alloc, secret)?))
+}
+
+fn account_of(
+    alloc: Global,
+    name: &[u8],
+    secret: &[u8],
+    standing: Standing,
+) -> Result<Account, Error> {
+    let network = network_of(alloc, standing)?;
+    let mut account = bare_account(alloc, name, secret)?;
     account.add(network)?;
     Ok(account)
 }
@@ -54,10 +68,8 @@ fn account_of(alloc: Global, name: &[u8], secret: &[u8], entry: Entry) -> Result
 /// The accounts `demo`, whose secret is `s3cret`, and `open`, whose secret is empty; each has the network `net`.
 pub fn directory_of(alloc: Global, standing: Standing) -> Result<Directory, Error> {
     let mut directory = Directory::new(alloc);
-    let entry = entry_of(alloc, standing)?;
-    directory.add(account_of(alloc, b"demo", b"s3cret", entry)?)?;
-    let entry = entry_of(alloc, standing)?;
-    directory.add(account_of(alloc, b"open", b"", entry)?)?;
+    directory.add(account_of(alloc, b"demo", b"s3cret", standing)?)?;
+    directory.add(account_of(alloc, b"open", b"", standing)?)?;
     Ok(directory)
 }
 
@@ -84,11 +96,9 @@ pub fn member(alloc: Global, caps: CapSet) -> Result<Session, Error> {
 }
 
 fn record_of(alloc: Global) -> Result<Record, Error> {
+    let at = Moment::from_ms(1000).ok_or(AllocError)?;
     let buffer = Buffer::new(alloc, b"demo", b"net", b"#a")?;
     let id = MsgId::new(alloc, b"m1")?;
-    let Some(at) = Moment::from_ms(1000) else {
-        return Err(Error::from(AllocError));
-    };
     let message = Message {
         kind: Kind::Privmsg,
         source: b"bob!b@h",
@@ -156,6 +166,14 @@ pub fn tell_all(out: &mut Vec<u8>, effects: &[Effect]) -> Result<(), AllocError>
     Ok(())
 }
 
+// Tells that no message can be looked up. Another fault is handed on.
+fn tell_fault(out: &mut Vec<u8>, fault: StepFault) -> Result<(), Error> {
+    match fault {
+        StepFault::NoEntry => Ok(out.extend_from_slice(b"no entry\n")?),
+        StepFault::NoMemory => Err(Error::from(fault)),
+    }
+}
+
 /// Where no message can be looked up.
 #[derive(Drop)]
 struct Closed;
@@ -216,21 +234,21 @@ impl Player {
         }
     }
 
-    /// Tells what a line comes to. A step that is refused for want of memory is made again, since it leaves the session as
-    /// it was.
-    pub fn play(&mut self, alloc: Global, line: &[u8], out: &mut Vec<u8>) -> Result<(), Error> {
-        let first = self.step(alloc, line);
-        let effects = if let Err(StepFault::NoMemory) = first {
-            self.step(alloc, line)
-        } else {
-            first
-        };
-        match effects {
-            Ok(effects) => tell_all(out, &effects)?,
-            Err(StepFault::NoEntry) => out.extend_from_slice(b"no entry\n")?,
-            Err(StepFault::NoMemory) => return Err(Error::from(StepFault::NoMemory)),
+    // A step that is refused for want of memory is made again, since it leaves the session as it was.
+    fn step_again(&mut self, alloc: Global, line: &[u8]) -> Result<Vec<Effect>, StepFault> {
+        match self.step(alloc, line) {
+            Ok(effects) => Ok(effects),
+            Err(StepFault::NoMemory) => self.step(alloc, line),
+            Err(fault) => Err(fault),
         }
-        Ok(())
+    }
+
+    /// Tells what a line comes to.
+    pub fn play(&mut self, alloc: Global, line: &[u8], out: &mut Vec<u8>) -> Result<(), Error> {
+        match self.step_again(alloc, line) {
+            Ok(effects) => Ok(tell_all(out, &effects)?),
+            Err(fault) => tell_fault(out, fault),
+        }
     }
 
     /// Tells what a line comes to that was too long to be taken in.
