@@ -10,6 +10,7 @@ const BODY: &[u8] = b"a body of forty bytes, as many lines are";
 const ROUNDS: u64 = 10_000;
 const SMALL_ROUNDS: u64 = 100;
 const LIMIT: usize = 256;
+const FIRST_SERIAL: u64 = 1_000_000_000_000;
 
 struct Texts {
     bytes: Vec<u8>,
@@ -196,7 +197,7 @@ fn channel() -> Buffer {
 }
 
 fn post(buffer: &Buffer, number: u64, order: Order) -> Record {
-    let id = MsgId(Arc::from(format!("m{number}").as_bytes()));
+    let id = MsgId(Arc::from(format!("n1-1763912345678-{}", FIRST_SERIAL + number).as_bytes()));
     Record(Arc::new(Parts {
         buffer: buffer.clone(),
         id,

@@ -24,6 +24,9 @@ const DELTA_LIMIT: usize = 256;
 /// How many messages of a small state are new at most.
 const SMALL_ROUNDS: u64 = 100;
 
+/// The first serial number in the ids.
+const FIRST_SERIAL: u64 = 1_000_000_000_000;
+
 /// Where the moments of messages lie.
 #[derive(Clone, Copy)]
 enum Order {
@@ -52,8 +55,10 @@ fn moment(number: u64, order: Order) -> Moment {
     Moment::from_ms(ms).unwrap_or(Moment::from_ms(0).unwrap())
 }
 
+/// An id as a node makes it.
 fn id_of(alloc: Global, number: u64) -> io::Result<MsgId> {
-    let text = format!(in alloc; "m{number}")?;
+    let serial = FIRST_SERIAL.wrapping_add(number);
+    let text = format!(in alloc; "n1-1763912345678-{serial}")?;
     match MsgId::new(alloc, text.as_bytes()) {
         Ok(id) => Ok(id),
         Err(_) => Err(no_memory()),
