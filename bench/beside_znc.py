@@ -5,8 +5,8 @@ what a message and an idle client cost in memory. It plays the network's server 
     bench/beside_znc.py bnc PROGRAM            starts PROGRAM serve with a configuration of its own
     bench/beside_znc.py znc                    starts Debian's znc with a configuration of its own
     bench/beside_znc.py both PROGRAM ROUNDS    one after the other, so many times, and then the median and the range of each
-    bench/beside_znc.py turns PROGRAM ROUNDS   both at once: relays 2,000 lines by one and then by the other, so many times,
-                                               and tells the median of the ratios
+    bench/beside_znc.py turns PROGRAM ROUNDS   both at once: relays lines by one and then by the other, so many times, and
+                                               tells the median of the ratios
 
 It prints one line a measure. Figures are of use beside those of the other bouncer in the same run of the machine alone. Where
 the machine is now faster and now slower, `turns` compares what was measured one right after the other. On a machine with
@@ -411,29 +411,35 @@ def measure_both(program, rounds):
         print(f"{name}: bnc {our_text}, znc {their_text}, ratio of the medians {ratio:.2f}", flush=True)
 
 
-def measure_by_turns(program, rounds, count=2000):
-    """Relay to 1, 10 and 100 clients by both, in turns. The first two rounds warm up and aren't counted."""
-    pairs = [begin("bnc", program), begin("znc", None)]
+def relay_by_turns(ours, theirs, attached, lines, rounds):
+    """Floods both in turns, so many rounds after two that warm up, and tells what a line takes."""
+    clients = [Clients(bouncer, attached) for bouncer, _ in (ours, theirs)]
+    for each in clients:
+        each.settle()
+    spent = []
+    for _ in range(rounds + 2):
+        seconds = [flood_seconds(*pair, each, lines) for pair, each in zip((ours, theirs), clients)]
+        spent.append([it * 1e9 / lines / attached for it in seconds])
+    for each in clients:
+        each.close()
+    time.sleep(1)
+    counted = spent[2:]
+    bnc, znc, ratio = (
+        summary([it[0] for it in counted])[1],
+        summary([it[1] for it in counted])[1],
+        summary([it[1] / it[0] for it in counted], 2)[1],
+    )
+    print(f"relay to {attached} clients, ns a line: bnc {bnc}, znc {znc}, znc / bnc {ratio}", flush=True)
+
+
+def measure_by_turns(program, rounds):
+    """Relay to 1, 10 and 100 clients by both bouncers, in turns."""
+    pairs = []
     try:
-        for attached in (1, 10, 100):
-            clients = [Clients(bouncer, attached) for bouncer, _ in pairs]
-            for each in clients:
-                each.settle()
-            ratios, spent = [], [[], []]
-            for done in range(rounds + 2):
-                seconds = [
-                    flood_seconds(bouncer, server, each, max(count // attached, 200))
-                    for (bouncer, server), each in zip(pairs, clients)
-                ]
-                if done >= 2:
-                    ratios.append(seconds[1] / seconds[0])
-                    for kept, now in zip(spent, seconds):
-                        kept.append(now * 1e9 / max(count // attached, 200) / attached)
-            for each in clients:
-                each.close()
-            time.sleep(1)
-            (_, ours), (_, theirs), (_, text) = summary(spent[0]), summary(spent[1]), summary(ratios, 2)
-            print(f"relay to {attached} clients, ns a line: bnc {ours}, znc {theirs}, znc / bnc {text}", flush=True)
+        for kind in ("bnc", "znc"):
+            pairs.append(begin(kind, program))
+        for attached, lines in ((1, 2000), (10, 200), (100, 200)):
+            relay_by_turns(*pairs, attached, lines, rounds)
     finally:
         for bouncer, server in pairs:
             bouncer.stop()
