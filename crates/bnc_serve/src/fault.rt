@@ -93,11 +93,10 @@ impl From<NoMemory> for ServeFault {
 }
 
 impl From<NodeFault> for ServeFault {
-    ghost use Rattle.std.specs.Prelude.{◌≡◌, ◌↔◌};
-    ghost use Rattle.bnc_serve.specs.declared.fault.ServeFault.TheVariants as fault_case;
-    ghost use Rattle.shared_node.specs.declared.faults.NodeFault.TheVariants as node_case;
+    ghost use Rattle.std.specs.Prelude.{◌≡◌};
+    ghost use Rattle.bnc_serve.specs.Fault.{fault_of_node};
 
-    ghost from_gives = { λ f fault. (fault ≡ fault_case.NoMemory) ↔ (f ≡ node_case.NoMemory) };
+    ghost from_gives = { λ part fault. fault ≡ fault_of_node part };
 
     fn from(fault: NodeFault) -> ServeFault {
         match fault {
@@ -109,11 +108,10 @@ impl From<NodeFault> for ServeFault {
 }
 
 impl From<PlacesFault> for ServeFault {
-    ghost use Rattle.std.specs.Prelude.{◌≡◌, ◌↔◌};
-    ghost use Rattle.bnc_serve.specs.declared.fault.ServeFault.TheVariants as fault_case;
-    ghost use Rattle.attach.specs.declared.places.PlacesFault.TheVariants as places_case;
+    ghost use Rattle.std.specs.Prelude.{◌≡◌};
+    ghost use Rattle.bnc_serve.specs.Fault.{fault_of_places};
 
-    ghost from_gives = { λ f fault. (fault ≡ fault_case.NoMemory) ↔ (f ≡ places_case.NoMemory) };
+    ghost from_gives = { λ part fault. fault ≡ fault_of_places part };
 
     fn from(fault: PlacesFault) -> ServeFault {
         match fault {
@@ -124,11 +122,10 @@ impl From<PlacesFault> for ServeFault {
 }
 
 impl From<StartFault> for ServeFault {
-    ghost use Rattle.std.specs.Prelude.{◌≡◌, ◌↔◌};
-    ghost use Rattle.bnc_serve.specs.declared.fault.ServeFault.TheVariants as fault_case;
-    ghost use Rattle.bnc_work.specs.declared.starting.StartFault.TheVariants as start_case;
+    ghost use Rattle.std.specs.Prelude.{◌≡◌};
+    ghost use Rattle.bnc_serve.specs.Fault.{fault_of_start};
 
-    ghost from_gives = { λ f fault. (fault ≡ fault_case.NoMemory) ↔ (f ≡ start_case.NoMemory) };
+    ghost from_gives = { λ part fault. fault ≡ fault_of_start part };
 
     fn from(fault: StartFault) -> ServeFault {
         match fault {
