@@ -1,39 +1,14 @@
 //! Walks between two cuts of a buffer, which look at no more records than they answer, and one more.
 ghost use Rattle.std.specs.Prelude.{◌≡◌, IfOk, map, take, reverse};
-ghost use Rattle.chat_history.specs.Cut.{cut_cmp, of_record, is_after as is_after_cut, after as after_cut, before as before_cut};
+ghost use Rattle.chat_history.specs.Cut.{after as after_cut, before as before_cut};
 ghost use Rattle.chat_history.specs.Visible.{records_in};
 ghost use Rattle.chat_page.specs.Cuts.{between_cuts};
 ghost use Rattle.chat_page.specs.Page.{last};
 
 use chat_change::{Buffer, Record};
-use chat_state::{Cut, Down, Spot, State, Up};
+use chat_history::is_after;
+use chat_state::{Cut, Down, State, Up};
 use std::alloc::{AllocError, Global};
-use std::cmp::Ordering;
-
-/// How a spot and the place of a record compare.
-fn order_to(spot: &Spot, record: &Record) -> Ordering
-    ensures { result ≡ cut_cmp spot.now (of_record record.now) }
-{
-    let id = match &spot.id {
-        None => Ordering::Less,
-        Some(id) => id.text_order(record.id()),
-    };
-    spot.at.ms().cmp(&record.at().ms()).then(id)
-}
-
-/// Whether a record stands above a cut.
-pub(crate) fn is_after_cut(cut: &Cut<'_>, record: &Record) -> bool
-    ensures { result ≡ is_after_cut cut.now record.now }
-{
-    match cut {
-        Cut::Bottom => true,
-        Cut::UnderTime(at) => at.ms() <= record.at().ms(),
-        Cut::OverTime(at) => at.ms() < record.at().ms(),
-        Cut::UnderMsg(spot) => order_to(spot, record).is_le(),
-        Cut::OverMsg(spot) => order_to(spot, record).is_lt(),
-        Cut::Top => false,
-    }
-}
 
 // The borrow checker doesn't cover `*cut`, of an enum that holds a reference.
 fn up<'a>(state: &'a State, buffer: &Buffer, cut: &Cut<'_>) -> Up<'a>
@@ -75,7 +50,7 @@ pub(crate) fn first_between<'a>(
         ≡ take n (between_cuts low.now high.now (records_in state.now.history buffer.now))) }
 {
     up(state, buffer, low)
-        .take_while(|record| !is_after_cut(high, record))
+        .take_while(|record| !is_after(high, record))
         .take(n)
         .collect(alloc)
 }
@@ -93,7 +68,7 @@ pub(crate) fn last_between<'a>(
         ≡ last n (between_cuts low.now high.now (records_in state.now.history buffer.now))) }
 {
     let mut page: Vec<&'a Record> = down(state, buffer, high)
-        .take_while(|record| is_after_cut(low, record))
+        .take_while(|record| is_after(low, record))
         .take(n)
         .collect(alloc)?;
     page.reverse();
