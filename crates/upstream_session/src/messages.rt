@@ -1,7 +1,6 @@
 //! What a session makes of a message: its source, the conversation that it belongs to, its id and its moment.
-ghost use Rattle.std.specs.Prelude.{◌≡◌, ◌++◌, codes, map, unwrap_or, string_bytes, IfOk};
+ghost use Rattle.std.specs.Prelude.{◌≡◌, map, unwrap_or, IfOk};
 ghost use Rattle.std.specs.Option.{option_copied};
-ghost use Rattle.std.specs.Fmt.{decimal};
 ghost use Rattle.chat_change.specs.Message.{value_of};
 ghost use Rattle.upstream_session.specs.Messages as spec;
 
@@ -99,20 +98,20 @@ pub(crate) fn stamp_of(alloc: Global, tags: Option<&[u8]>, now: Moment) -> Resul
     }
 }
 
-fn numbers_text(alloc: Global, incarnation: u64, serial: u64) -> Result<String, AllocError>
-    ensures { IfOk result (λ text. string_bytes text
-        ≡ codes "-" ++ (decimal incarnation ++ (codes "-" ++ decimal serial))) }
-{
-    format!(in alloc; "-{incarnation}-{serial}")
-}
+// The most bytes of the numbers in an id, and of what stands before each.
+const NUMBERS_LIMIT: usize = 42;
 
 fn made_text(alloc: Global, home: &Home, serial: u64) -> Result<Text, AllocError>
     ensures { IfOk result (λ text. text ≡ spec.made_text home.now serial) }
 {
-    let numbers = numbers_text(alloc, home.incarnation, serial)?;
-    let mut bytes = Vec::new(alloc);
-    bytes.extend_from_slice(home.node.as_bytes())?;
-    bytes.extend_from_slice(numbers.as_bytes())?;
+    let node = home.node.as_bytes();
+    let mut digits = itoa::Buffer::new();
+    let mut bytes = Vec::with_capacity(alloc, node.len() + NUMBERS_LIMIT)?;
+    bytes.extend_from_slice(node)?;
+    bytes.push(b'-')?;
+    bytes.extend_from_slice(digits.format(home.incarnation).as_bytes())?;
+    bytes.push(b'-')?;
+    bytes.extend_from_slice(digits.format(serial).as_bytes())?;
     Ok(Text::of(bytes))
 }
 
