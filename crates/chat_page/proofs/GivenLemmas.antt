@@ -8,8 +8,8 @@ use Rattle.chat_page.specs.declared.query.Query.{Query}
 use Rattle.chat_page.specs.declared.query.Query.TheVariants.{Latest, Before, After, Around, Between, Targets}
 use Rattle.chat_page.specs.declared.parameters.Selected.{Selected}
 use Rattle.chat_page.specs.declared.parameters.QueryFault.{QueryFault}
-use Rattle.chat_page.specs.declared.parameters.QueryFault.TheVariants.{NeedMoreParams, UnknownCommand, InvalidTarget, InvalidMsgRef, InvalidParams}
-use Rattle.chat_page.specs.Parameters.{target_of, has_timestamp_key, has_key, timestamp_of, selector_of, selector_or_none_of, checked, unless, mapped, latest_of, selected_of, before_of, after_of, around_of, between_of, targets_of, is_word, read_behind, read_query}
+use Rattle.chat_page.specs.declared.parameters.QueryFault.TheVariants.{InvalidTarget, InvalidMsgRef, InvalidParams}
+use Rattle.chat_page.specs.Parameters.{target_of, has_timestamp_key, has_key, timestamp_of, selector_of, selector_or_none_of, checked, unless, mapped, latest_of, selected_of, between_of, targets_of, is_word, read_behind, read_query}
 
 -- the second of the parameters
 abbrev pub second_of : List (List ℕ) → List ℕ

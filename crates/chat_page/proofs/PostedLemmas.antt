@@ -1,5 +1,5 @@
 -- What a page has was posted.
-use Rattle.std.proofs.Common.{◌≡◌, ◌-◌, ◌/◌, ℕ, Bool, true, false, not, cond, Option, Some, None, List, ◌++◌, length, drop, take, filter, map, min, ap, nat_lt, [], ◌∷◌}
+use Rattle.std.proofs.Common.{◌-◌, ◌/◌, ℕ, Bool, true, false, not, cond, Option, Some, None, List, length, take, filter, min, ap, nat_lt, [], ◌∷◌}
 use Rattle.std.specs.Prelude.{Contains, ◌&&◌, ◌==◌, IfSome}
 use Rattle.std.specs.Option.{option_map, option_and_then}
 use Rattle.std.specs.List.{All, AllByRecursion}
@@ -15,7 +15,7 @@ use Rattle.chat_history.proofs.CallerLemmas.{visible_posted, IsPostedAt, all_lat
 use Rattle.chat_page.specs.Scope.{Scope}
 use Rattle.chat_page.specs.declared.query.Query.{Query}
 use Rattle.chat_page.specs.declared.query.Query.TheVariants.{Latest, Before, After, Around, Between, Targets}
-use Rattle.chat_page.specs.Page.{Point, point_of, is_before, is_after, last, around_cut, between_cut, buffer_of, listed, buffers_in, lies_between, targets_cut, Page, of_records, of_buffers, page_in, page}
+use Rattle.chat_page.specs.Page.{Point, point_of, is_before, is_after, last, around_cut, between_cut, buffer_of, listed, buffers_in, lies_between, targets_cut, of_records, page_in, page}
 use Rattle.chat_page.specs.Posted.{IsListed, IsOfPosts}
 use Rattle.chat_page.proofs.BufferLemmas.{keys_all}
 
