@@ -50,7 +50,7 @@ pub(crate) fn first_between<'a>(
         ≡ take n (between_cuts low.now high.now (records_in state.now.history buffer.now))) }
 {
     up(state, buffer, low)
-        .take_while(|record| !is_after(high, record))
+        .take_while(|post| !is_after(high, post))
         .take(n)
         .collect(alloc)
 }
@@ -68,7 +68,7 @@ pub(crate) fn last_between<'a>(
         ≡ last n (between_cuts low.now high.now (records_in state.now.history buffer.now))) }
 {
     let mut page: Vec<&'a Record> = down(state, buffer, high)
-        .take_while(|record| is_after(low, record))
+        .take_while(|post| is_after(low, post))
         .take(n)
         .collect(alloc)?;
     page.reverse();
