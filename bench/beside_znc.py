@@ -2,7 +2,8 @@
 """Measures a running bouncer: what it relays and plays back for each second of processor time, how long a line takes, and
 what a message and an idle client cost in memory. It plays the network's server and the clients itself, over loopback.
 
-    bench/beside_znc.py bnc PROGRAM            starts PROGRAM serve with a configuration of its own
+    bench/beside_znc.py bnc PROGRAM            starts PROGRAM serve with a configuration of its own, in the environment
+                                               that examples/bnc.service gives it
     bench/beside_znc.py znc                    starts Debian's znc with a configuration of its own
     bench/beside_znc.py both PROGRAM ROUNDS    one after the other, so many times, and then the median and the range of each
     bench/beside_znc.py turns PROGRAM ROUNDS   both at once: relays lines by one and then by the other, so many times, and
@@ -92,6 +93,14 @@ ProtectWebSessions = true
 """
 
 
+def unit_environment():
+    """The environment that the unit of systemd gives `bnc`."""
+    unit = os.path.join(os.path.dirname(os.path.realpath(__file__)), "..", "examples", "bnc.service")
+    with open(unit) as file:
+        words = [line.strip().removeprefix("Environment=") for line in file if line.startswith("Environment=")]
+    return dict(word.split("=", 1) for word in words)
+
+
 class Bouncer:
     """The bouncer under measure, as a process."""
 
@@ -102,7 +111,9 @@ class Bouncer:
         # what was measured: figures by their names
         self.figures = {}
         self.home = tempfile.mkdtemp(prefix="bench-")
+        environment = dict(os.environ)
         if kind == "bnc":
+            environment.update(unit_environment())
             path = os.path.join(self.home, "one.toml")
             text = BNC.format(bouncer=self.port, server=self.server_port, secret=SECRET)
             command = [program, "serve", path]
@@ -120,7 +131,7 @@ class Bouncer:
             for folder, _, files in os.walk(self.home):
                 for name in [folder] + [os.path.join(folder, file) for file in files]:
                     os.chown(name, 65534, 65534)
-        self.process = subprocess.Popen(command, stdout=self.log, stderr=self.log, **nobody)
+        self.process = subprocess.Popen(command, stdout=self.log, stderr=self.log, env=environment, **nobody)
 
     def seconds(self):
         """Processor seconds of its threads so far."""

@@ -5,8 +5,8 @@ client still gets in.
     bench/soak.py PROGRAM [SECONDS [CLIENTS]]      600 seconds and 1,000 clients, where nothing else is said
 
 Some clients register and ask for pages, some leave in the middle of a page, some send garbage, some say nothing, and some
-never read. The network's server talks all the while. With MALLOC_MMAP_THRESHOLD_=131072 in the environment the memory of a
-client's ring goes back to the system as the client leaves, so what is resident afterwards is what the program holds.
+never read. The network's server talks all the while. PROGRAM has the environment that examples/bnc.service gives it: the
+memory of a client's ring goes back to the system as the client leaves, so what is resident afterwards is what it holds.
 """
 import os
 import random
