@@ -8,6 +8,7 @@
 //! told by [`hears_message`] and [`hears_line`].
 #![tactic(auto)]
 
+mod buffers;
 mod command;
 mod config;
 mod connection;

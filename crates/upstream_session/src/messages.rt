@@ -1,19 +1,22 @@
 //! What a session makes of a message: its source, the conversation that it belongs to, its id and its moment.
-ghost use Rattle.std.specs.Prelude.{◌≡◌, map, unwrap_or, IfOk};
+ghost use Rattle.std.specs.Prelude.{◌≡◌, ◌<◌, ◌++◌, codes, length, map, unwrap_or, IfOk, OnOk, OnErr};
 ghost use Rattle.std.specs.Option.{option_copied};
+ghost use Rattle.std.specs.Fmt.{decimal};
 ghost use Rattle.chat_change.specs.Message.{value_of};
 ghost use Rattle.upstream_session.specs.Messages as spec;
 
+use crate::buffers::Buffers;
 use crate::connection::{Connection, Home};
 use crate::effect::UpEffect;
+use arrayvec::{ArrayVec, CapacityError};
 use byte_search::find_byte;
 use chat_change::{
-    Buffer, Change, Message, Moment, MsgId, Record, is_id, is_message, is_name, is_target,
+    Change, ID_LIMIT, Message, Moment, MsgId, Record, is_id, is_message, is_name, is_target,
 };
 use irc_tags::{Tags, read_tags};
 use irc_time::read_time;
-use memory::{NoMemory, Text};
-use std::alloc::{AllocError, Global};
+use memory::NoMemory;
+use std::alloc::Global;
 
 /// The id and the moment that a message bears.
 #[derive(Drop)]
@@ -98,29 +101,39 @@ pub(crate) fn stamp_of(alloc: Global, tags: Option<&[u8]>, now: Moment) -> Resul
     }
 }
 
-// The most bytes of the numbers in an id, and of what stands before each.
-const NUMBERS_LIMIT: usize = 42;
+type IdText = ArrayVec<u8, ID_LIMIT>;
 
-fn made_text(alloc: Global, home: &Home, serial: u64) -> Result<Text, AllocError>
-    ensures { IfOk result (λ text. text ≡ spec.made_text home.now serial) }
+fn push_number(text: &mut IdText, number: u64) -> Result<(), CapacityError>
+    ensures ok { OnOk result (text.new.items
+        ≡ text.old.items ++ (codes "-" ++ decimal number)) }
+    ensures err { OnErr result (ID_LIMIT
+        < length (text.old.items ++ (codes "-" ++ decimal number))) }
 {
-    let node = home.node.as_bytes();
     let mut digits = itoa::Buffer::new();
-    let mut bytes = Vec::with_capacity(alloc, node.len() + NUMBERS_LIMIT)?;
-    bytes.extend_from_slice(node)?;
-    bytes.push(b'-')?;
-    bytes.extend_from_slice(digits.format(home.incarnation).as_bytes())?;
-    bytes.push(b'-')?;
-    bytes.extend_from_slice(digits.format(serial).as_bytes())?;
-    Ok(Text::of(bytes))
+    text.try_extend_from_slice(b"-")?;
+    text.try_extend_from_slice(digits.format(number).as_bytes())
+}
+
+// It is refused where it is longer than an id may be.
+fn made_text(home: &Home, serial: u64) -> Result<IdText, CapacityError>
+    ensures ok { IfOk result (λ text. text.items ≡ spec.made_text home.now serial) }
+    ensures err { OnErr result (ID_LIMIT < length (spec.made_text home.now serial)) }
+{
+    let mut text = ArrayVec::new();
+    text.try_extend_from_slice(home.node.as_bytes())?;
+    push_number(&mut text, home.incarnation)?;
+    push_number(&mut text, serial)?;
+    Ok(text)
 }
 
 /// The id that the node makes of that serial number.
 pub(crate) fn made_id(alloc: Global, home: &Home, serial: u64) -> Result<Option<MsgId>, NoMemory>
     ensures { IfOk result (λ id. id ≡ spec.made_id home.now serial) }
 {
-    let text = made_text(alloc, home, serial)?;
-    id_of(alloc, text.as_bytes())
+    match made_text(home, serial) {
+        Err(_) => Ok(None),
+        Ok(text) => id_of(alloc, text.as_slice()),
+    }
 }
 
 /// Whether the conversation has a buffer.
@@ -171,6 +184,7 @@ impl Connection {
     pub(crate) fn post(
         &self,
         alloc: Global,
+        buffers: &mut Buffers,
         id: MsgId,
         at: Moment,
         message: Message<'_>,
@@ -179,14 +193,11 @@ impl Connection {
             ≡ spec.post self.now id at (value_of message.entry)) }
     {
         let talk = self.conversation(message.source, message.target);
-        let account = self.home.account.as_bytes();
-        match Buffer::new(alloc, account, self.home.network.as_bytes(), talk) {
-            // Both were tested before, so it is memory that is wanted.
+        let buffer = buffers.buffer_for(alloc, &self.home, talk)?;
+        match Record::new(alloc, buffer, id, at, message) {
+            // The message was tested before, so it is memory that is wanted.
             Err(_) => Err(NoMemory),
-            Ok(buffer) => match Record::new(alloc, buffer, id, at, message) {
-                Err(_) => Err(NoMemory),
-                Ok(record) => Ok(UpEffect::Put(Change::Post(record))),
-            },
+            Ok(record) => Ok(UpEffect::Put(Change::Post(record))),
         }
     }
 }

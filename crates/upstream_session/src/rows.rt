@@ -9,12 +9,13 @@ ghost use Rattle.upstream_session.specs.Rows as spec;
 ghost use Rattle.upstream_session.specs.Standing.{after};
 ghost use Rattle.upstream_session.specs.declared.effect.UpEffect.TheVariants as effects;
 
+use crate::buffers::Buffers;
 use crate::command::{Command, command_of};
 use crate::connection::{Connection, LAST_SERIAL, MOST_TRIES, Standing};
 use crate::effect::{Recipients, UpEffect};
 use crate::effects::{one, push, send};
 use crate::messages::{Stamp, has_buffer, is_same_nick, made_id, stamp_of};
-use chat_change::{Buffer, Change, Kind, Message, Moment, MsgId, is_id, is_target};
+use chat_change::{Change, Kind, Message, Moment, MsgId, is_id, is_target};
 use client_replies::nick_line;
 use irc_caps::Capability;
 use irc_line::Line;
@@ -400,6 +401,7 @@ impl Connection {
     fn keep_made(
         &self,
         alloc: Global,
+        buffers: &mut Buffers,
         line: &Line<'_>,
         bytes: &[u8],
         message: Message<'_>,
@@ -418,7 +420,7 @@ impl Connection {
                 Ok((Standing::Stays, list))
             }
             Some(id) => {
-                let post = self.post(alloc, id, at, message)?;
+                let post = self.post(alloc, buffers, id, at, message)?;
                 let list = one(alloc, post)?;
                 Ok((Standing::Counts(self.serial + 1), list))
             }
@@ -428,6 +430,7 @@ impl Connection {
     fn keep_stamped(
         &self,
         alloc: Global,
+        buffers: &mut Buffers,
         line: &Line<'_>,
         bytes: &[u8],
         message: Message<'_>,
@@ -439,9 +442,9 @@ impl Connection {
     {
         let Stamp { id, at } = stamp;
         match id {
-            None => self.keep_made(alloc, line, bytes, message, at),
+            None => self.keep_made(alloc, buffers, line, bytes, message, at),
             Some(id) => {
-                let post = self.post(alloc, id, at, message)?;
+                let post = self.post(alloc, buffers, id, at, message)?;
                 let list = one(alloc, post)?;
                 Ok((Standing::Stays, list))
             }
@@ -451,6 +454,7 @@ impl Connection {
     fn keep(
         &self,
         alloc: Global,
+        buffers: &mut Buffers,
         now: Moment,
         line: &Line<'_>,
         bytes: &[u8],
@@ -461,7 +465,7 @@ impl Connection {
     {
         if self.can_be_kept(message) {
             let stamp = stamp_of(alloc, line.tags(), now)?;
-            self.keep_stamped(alloc, line, bytes, message, stamp)
+            self.keep_stamped(alloc, buffers, line, bytes, message, stamp)
         } else {
             let list = relay_to_all(alloc, line, bytes)?;
             Ok((Standing::Stays, list))
@@ -471,6 +475,7 @@ impl Connection {
     fn serve_message(
         &self,
         alloc: Global,
+        buffers: &mut Buffers,
         now: Moment,
         kind: Kind,
         line: &Line<'_>,
@@ -490,7 +495,7 @@ impl Connection {
                         target,
                         body,
                     };
-                    self.keep(alloc, now, line, bytes, message)
+                    self.keep(alloc, buffers, now, line, bytes, message)
                 } else {
                     Ok((Standing::Stays, Vec::new(alloc)))
                 }
@@ -506,6 +511,7 @@ impl Connection {
     fn message(
         &mut self,
         alloc: Global,
+        buffers: &mut Buffers,
         now: Moment,
         kind: Kind,
         line: &Line<'_>,
@@ -517,6 +523,7 @@ impl Connection {
     {
         let (standing, list) = self.serve_message(
             alloc,
+            buffers,
             now,
             kind,
             line,
@@ -527,28 +534,32 @@ impl Connection {
         Ok(list)
     }
 
-    fn redact_change(&self, alloc: Global, talk: &[u8], id: &[u8]) -> Result<UpEffect, NoMemory>
+    fn redact_change(
+        &self,
+        alloc: Global,
+        buffers: &mut Buffers,
+        talk: &[u8],
+        id: &[u8],
+    ) -> Result<UpEffect, NoMemory>
         ensures { IfOk result (λ effect. effect ≡ effects.Put (changes.Redact
             (buffer_of self.now.home.account self.now.home.network talk.now) id.now None)) }
     {
-        let account = self.home.account.as_bytes();
-        match Buffer::new(alloc, account, self.home.network.as_bytes(), talk) {
-            // Both were tested before, so it is memory that is wanted.
+        let buffer = buffers.buffer_for(alloc, &self.home, talk)?;
+        match MsgId::new(alloc, id) {
+            // The id was tested before, so it is memory that is wanted.
             Err(_) => Err(NoMemory),
-            Ok(buffer) => match MsgId::new(alloc, id) {
-                Err(_) => Err(NoMemory),
-                Ok(id) => Ok(UpEffect::Put(Change::Redact {
-                    buffer,
-                    id,
-                    at: None,
-                })),
-            },
+            Ok(id) => Ok(UpEffect::Put(Change::Redact {
+                buffer,
+                id,
+                at: None,
+            })),
         }
     }
 
     fn redaction(
         &self,
         alloc: Global,
+        buffers: &mut Buffers,
         source: &[u8],
         target: &[u8],
         id: &[u8],
@@ -558,7 +569,7 @@ impl Connection {
     {
         let talk = self.conversation(source, target);
         if has_buffer(&self.home, talk) && is_id(id) {
-            let change = self.redact_change(alloc, talk, id)?;
+            let change = self.redact_change(alloc, buffers, talk, id)?;
             one(alloc, change)
         } else {
             Ok(Vec::new(alloc))
@@ -569,6 +580,7 @@ impl Connection {
     fn redact(
         &self,
         alloc: Global,
+        buffers: &mut Buffers,
         line: &Line<'_>,
         bytes: &[u8],
         parameters: &[&[u8]],
@@ -580,7 +592,7 @@ impl Connection {
             [target, id, ..] => {
                 if self.entry.is_up() && self.entry.takes_redact() {
                     let source = self.source_of(line.source());
-                    let mut list = self.redaction(alloc, source, target, id)?;
+                    let mut list = self.redaction(alloc, buffers, source, target, id)?;
                     let text = relayed_line(alloc, line.source(), bytes)?;
                     let to = Recipients::Holding(Capability::MessageRedaction);
                     push(&mut list, UpEffect::Relay(text, to))?;
@@ -597,6 +609,7 @@ impl Connection {
     pub(crate) fn serve(
         &mut self,
         alloc: Global,
+        buffers: &mut Buffers,
         now: Moment,
         bytes: &[u8],
         line: &Line<'_>,
@@ -616,9 +629,9 @@ impl Connection {
             Command::Join => self.join(alloc, line, bytes),
             Command::Part => self.part(alloc, line, bytes),
             Command::Kick => self.kick(alloc, line, bytes),
-            Command::Privmsg => self.message(alloc, now, Kind::Privmsg, line, bytes),
-            Command::Notice => self.message(alloc, now, Kind::Notice, line, bytes),
-            Command::Redact => self.redact(alloc, line, bytes, line.parameters()),
+            Command::Privmsg => self.message(alloc, buffers, now, Kind::Privmsg, line, bytes),
+            Command::Notice => self.message(alloc, buffers, now, Kind::Notice, line, bytes),
+            Command::Redact => self.redact(alloc, buffers, line, bytes, line.parameters()),
             Command::Other => self.pass_on(alloc, line, bytes),
         }
     }

@@ -6,6 +6,7 @@ ghost use Rattle.upstream_session.specs.Sayings as spec;
 ghost use Rattle.upstream_session.specs.Standing.{after};
 ghost use Rattle.upstream_session.specs.Step.{stays};
 
+use crate::buffers::Buffers;
 use crate::command::{Command, command_of};
 use crate::connection::{Connection, LAST_SERIAL, Standing};
 use crate::effect::UpEffect;
@@ -53,6 +54,7 @@ impl Connection {
     fn say_kept(
         &self,
         alloc: Global,
+        buffers: &mut Buffers,
         now: Moment,
         text: &[u8],
         message: Message<'_>,
@@ -68,7 +70,7 @@ impl Connection {
         match made_id(alloc, &self.home, self.serial)? {
             None => Ok((Standing::Stays, list)),
             Some(id) => {
-                let post = self.post(alloc, id, now, message)?;
+                let post = self.post(alloc, buffers, id, now, message)?;
                 push(&mut list, post)?;
                 Ok((Standing::Counts(self.serial + 1), list))
             }
@@ -78,6 +80,7 @@ impl Connection {
     fn say_message(
         &self,
         alloc: Global,
+        buffers: &mut Buffers,
         now: Moment,
         text: &[u8],
         message: Message<'_>,
@@ -86,7 +89,7 @@ impl Connection {
             ≡ spec.say_message self.now now text.now (value_of message.entry)) }
     {
         if self.is_kept_here(message) {
-            self.say_kept(alloc, now, text, message)
+            self.say_kept(alloc, buffers, now, text, message)
         } else {
             self.send_only(alloc, text)
         }
@@ -95,6 +98,7 @@ impl Connection {
     fn say_words(
         &self,
         alloc: Global,
+        buffers: &mut Buffers,
         now: Moment,
         text: &[u8],
         kind: Kind,
@@ -112,7 +116,7 @@ impl Connection {
                     target,
                     body,
                 };
-                self.say_message(alloc, now, text, message)
+                self.say_message(alloc, buffers, now, text, message)
             }
             _ => self.send_only(alloc, text),
         }
@@ -122,6 +126,7 @@ impl Connection {
     pub(crate) fn say_line(
         &self,
         alloc: Global,
+        buffers: &mut Buffers,
         now: Moment,
         text: &[u8],
     ) -> Result<(Standing, Vec<UpEffect>), NoMemory>
@@ -132,10 +137,10 @@ impl Connection {
             Err(_) => self.send_only(alloc, text),
             Ok(line) => match command_of(line.command()) {
                 Command::Privmsg => {
-                    self.say_words(alloc, now, text, Kind::Privmsg, line.parameters())
+                    self.say_words(alloc, buffers, now, text, Kind::Privmsg, line.parameters())
                 }
                 Command::Notice => {
-                    self.say_words(alloc, now, text, Kind::Notice, line.parameters())
+                    self.say_words(alloc, buffers, now, text, Kind::Notice, line.parameters())
                 }
                 Command::Cap
                 | Command::Welcome

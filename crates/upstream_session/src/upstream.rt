@@ -3,6 +3,7 @@ ghost use Rattle.std.specs.Prelude.{◌≡◌, IfOk, OnErr};
 ghost use Rattle.upstream_session.specs.Session as spec;
 ghost use Rattle.upstream_session.specs.Step as steps;
 
+use crate::buffers::Buffers;
 use crate::config::Config;
 use crate::connection::{Connection, Home};
 use crate::effect::UpEffect;
@@ -22,6 +23,7 @@ use upstream_lines::{ls_line, user_line};
 #[derive(Drop)]
 pub struct Upstream {
     connection: Connection,
+    buffers: Buffers,
 }
 
 impl Model for Upstream {
@@ -61,6 +63,7 @@ impl Upstream {
                 tries: 0,
                 is_closed: false,
             },
+            buffers: Buffers::none(),
         }
     }
 
@@ -105,7 +108,8 @@ impl Upstream {
     /// What a line of the server comes to at that moment. The line stands without its ending; one that can't be read is
     /// dropped. A refused step leaves the session as it was.
     ///
-    /// A line that is passed on is copied once, and a record is made of slices of the line.
+    /// A line that is passed on is copied once. A record is made of slices of the line, and shares the buffer of its
+    /// conversation with those before it.
     #[tactic(auto, unfolding(crate::specs::Session::step))]
     pub fn step(
         &mut self,
@@ -122,7 +126,9 @@ impl Upstream {
         }
         match read_line(bytes, TagLimit::Server) {
             Err(_) => Ok(Vec::new(alloc)),
-            Ok(line) => self.connection.serve(alloc, now, bytes, &line),
+            Ok(line) => self
+                .connection
+                .serve(alloc, &mut self.buffers, now, bytes, &line),
         }
     }
 
@@ -144,7 +150,9 @@ impl Upstream {
             return Ok(Vec::new(alloc));
         }
         let text = without_ending(bytes);
-        let (standing, list) = self.connection.say_line(alloc, now, text)?;
+        let (standing, list) = self
+            .connection
+            .say_line(alloc, &mut self.buffers, now, text)?;
         self.connection.go_on(standing);
         Ok(list)
     }
