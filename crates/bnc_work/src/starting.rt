@@ -1,8 +1,9 @@
 //! All workers of a node, each on a thread of its own.
 use crate::station::{Station, WorkEnd};
-use crate::worker::work;
+use crate::worker::try_work;
 use attach::Attachment;
 use bnc_ports::{Gate, Port};
+use memory::NoMemory;
 use shared_node::{Naming, Pass, SharedNode};
 use std::alloc::AllocError;
 use std::sync::Wait;
@@ -27,8 +28,8 @@ impl From<AllocError> for StartFault {
     }
 }
 
-/// Runs [`work`] for each, as worker 0, 1, .. in the list's order, each on a thread of its own, and answers their ends in
-/// that order.
+/// Runs [`work`](crate::work) for each, as worker 0, 1, .. in the list's order, each on a thread of its own, and answers
+/// their ends in that order. Where a worker has no memory to begin, that is a fault, told once the others have ended.
 pub fn work_all<J, R, W, X, P, G>(
     rt: &W,
     node: &SharedNode<J, R>,
@@ -47,7 +48,7 @@ where
         rt,
         all,
         &|worker: usize, pass: Pass<J>, station: Station<X>, port: P| {
-            work(rt, worker, node, pass, station, port, gate)
+            try_work(rt, worker, node, pass, station, port, gate)
         },
     )
 }
@@ -61,7 +62,7 @@ where
     B: Send + Drop,
     C: Send + Drop,
     X: Send + Drop,
-    F: Fn(usize, A, B, C) -> X + Sync,
+    F: Fn(usize, A, B, C) -> Result<X, NoMemory> + Sync,
     requires { F.IsAlwaysCallable f.now }
 {
     let mut jobs = Vec::with_capacity(rt.alloc(), all.len())?;
@@ -71,7 +72,7 @@ where
     each_in_a_thread(
         rt,
         jobs,
-        &|job: (usize, A, B, C)| -> X
+        &|job: (usize, A, B, C)| -> Result<X, NoMemory>
             requires { F.IsAlwaysCallable f.now }
         { f(job.0, job.1, job.2, job.3) },
     )
@@ -84,7 +85,7 @@ where
     R: Threads + Wait + AllocGlobal + Sync,
     J: Send + Drop,
     X: Send + Drop,
-    F: Fn(J) -> X + Sync,
+    F: Fn(J) -> Result<X, NoMemory> + Sync,
     requires { F.IsAlwaysCallable f.now }
 {
     let alloc = rt.alloc();
@@ -98,7 +99,7 @@ where
         {
             let mut fault = None;
             for job in jobs {
-                let run = move || -> X
+                let run = move || -> Result<X, NoMemory>
                     requires { F.IsAlwaysCallable f.now }
                 { f(job) };
                 match scope.spawn(run) {
@@ -115,7 +116,7 @@ where
                 }
             }
             for handle in handles {
-                if ends.push(handle.join(rt)).is_err() {
+                if keep_end(&mut ends, handle.join(rt)).is_err() {
                     fault = Some(StartFault::NoMemory);
                 }
             }
@@ -125,4 +126,11 @@ where
             }
         },
     )
+}
+
+// Puts the end of a worker that had the memory to begin into the list.
+fn keep_end<X: Drop>(ends: &mut Vec<X>, end: Result<X, NoMemory>) -> Result<(), NoMemory> {
+    let end = end?;
+    ends.push(end).map_err(AllocError::from)?;
+    Ok(())
 }

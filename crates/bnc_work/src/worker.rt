@@ -47,13 +47,34 @@ pub fn work<J: Naming, R: Wait + Drop, W: Wait + AllocGlobal, X: Attachment, P: 
     port: P,
     gate: &G,
 ) -> WorkEnd {
+    match try_work(rt, worker, node, pass, station, port, gate) {
+        Ok(end) => end,
+        Err(NoMemory) => WorkEnd::Failed,
+    }
+}
+
+/// Serves as [`work`] does, and tells where there is no memory to begin.
+pub(crate) fn try_work<
+    J: Naming,
+    R: Wait + Drop,
+    W: Wait + AllocGlobal,
+    X: Attachment,
+    P: Port,
+    G: Gate,
+>(
+    rt: &W,
+    worker: usize,
+    node: &SharedNode<J, R>,
+    pass: Pass<J>,
+    station: Station<X>,
+    port: P,
+    gate: &G,
+) -> Result<WorkEnd, NoMemory> {
     let mut port = port;
     let Some(time) = clock(&mut port) else {
-        return WorkEnd::Failed;
+        return Ok(WorkEnd::Failed);
     };
-    let Ok((desk, clients, servers, peers)) = begin(rt.alloc(), worker, time, station, port) else {
-        return WorkEnd::Failed;
-    };
+    let (desk, clients, servers, peers) = begin(rt.alloc(), worker, time, station, port)?;
     let mut worker = Worker {
         node: GatedNode {
             taker: NodeTaker::new(node, pass, rt),
@@ -68,7 +89,7 @@ pub fn work<J: Naming, R: Wait + Drop, W: Wait + AllocGlobal, X: Attachment, P: 
     worker.open();
     for _ in rt.forever() {
         if let Err(end) = worker.turn() {
-            return end;
+            return Ok(end);
         }
     }
     unreachable!()
