@@ -69,7 +69,8 @@ impl<N: Node, X: Attachment, P: Port> Worker<N, X, P> {
         if let Some(standing) = self.servers.note_entry(&mut self.desk, line) {
             self.spread(standing, is_passed_on(&effects));
         }
-        for effect in effects {
+        let mut effects = effects;
+        for effect in effects.drain(..) {
             match effect {
                 UpEffect::Send(text) => self.servers.owe(line, text.as_bytes()),
                 UpEffect::Put(change) => {
@@ -85,6 +86,7 @@ impl<N: Node, X: Attachment, P: Port> Worker<N, X, P> {
                 }
             }
         }
+        self.servers.recycle(line, effects);
         Ok(())
     }
 

@@ -19,6 +19,7 @@ pub mod laws;
 mod messages;
 mod rows;
 mod sayings;
+mod scratch;
 mod upstream;
 
 pub use chat_batch::Facts;

@@ -5,9 +5,9 @@ ghost use Rattle.std.specs.Fmt.{decimal};
 ghost use Rattle.chat_change.specs.Message.{value_of};
 ghost use Rattle.upstream_session.specs.Messages as spec;
 
-use crate::buffers::Buffers;
 use crate::connection::{Connection, Home};
 use crate::effect::UpEffect;
+use crate::scratch::Scratch;
 use arrayvec::{ArrayVec, CapacityError};
 use byte_search::find_byte;
 use chat_change::{
@@ -184,7 +184,7 @@ impl Connection {
     pub(crate) fn post(
         &self,
         alloc: Global,
-        buffers: &mut Buffers,
+        scratch: &mut Scratch,
         id: MsgId,
         at: Moment,
         message: Message<'_>,
@@ -193,7 +193,7 @@ impl Connection {
             ≡ spec.post self.now id at (value_of message.entry)) }
     {
         let talk = self.conversation(message.source, message.target);
-        let buffer = buffers.buffer_for(alloc, &self.home, talk)?;
+        let buffer = scratch.buffers.buffer_for(alloc, &self.home, talk)?;
         match Record::new(alloc, buffer, id, at, message) {
             // The message was tested before, so it is memory that is wanted.
             Err(_) => Err(NoMemory),

@@ -9,12 +9,12 @@ ghost use Rattle.upstream_session.specs.Rows as spec;
 ghost use Rattle.upstream_session.specs.Standing.{after};
 ghost use Rattle.upstream_session.specs.declared.effect.UpEffect.TheVariants as effects;
 
-use crate::buffers::Buffers;
 use crate::command::{Command, command_of};
 use crate::connection::{Connection, LAST_SERIAL, MOST_TRIES, Standing};
 use crate::effect::{Recipients, UpEffect};
 use crate::effects::{one, push, send};
 use crate::messages::{Stamp, has_buffer, is_same_nick, made_id, stamp_of};
+use crate::scratch::Scratch;
 use chat_change::{Change, Kind, Message, Moment, MsgId, is_id, is_target};
 use client_replies::nick_line;
 use irc_caps::Capability;
@@ -401,7 +401,7 @@ impl Connection {
     fn keep_made(
         &self,
         alloc: Global,
-        buffers: &mut Buffers,
+        scratch: &mut Scratch,
         line: &Line<'_>,
         bytes: &[u8],
         message: Message<'_>,
@@ -420,8 +420,8 @@ impl Connection {
                 Ok((Standing::Stays, list))
             }
             Some(id) => {
-                let post = self.post(alloc, buffers, id, at, message)?;
-                let list = one(alloc, post)?;
+                let post = self.post(alloc, scratch, id, at, message)?;
+                let list = scratch.one(alloc, post)?;
                 Ok((Standing::Counts(self.serial + 1), list))
             }
         }
@@ -430,7 +430,7 @@ impl Connection {
     fn keep_stamped(
         &self,
         alloc: Global,
-        buffers: &mut Buffers,
+        scratch: &mut Scratch,
         line: &Line<'_>,
         bytes: &[u8],
         message: Message<'_>,
@@ -442,10 +442,10 @@ impl Connection {
     {
         let Stamp { id, at } = stamp;
         match id {
-            None => self.keep_made(alloc, buffers, line, bytes, message, at),
+            None => self.keep_made(alloc, scratch, line, bytes, message, at),
             Some(id) => {
-                let post = self.post(alloc, buffers, id, at, message)?;
-                let list = one(alloc, post)?;
+                let post = self.post(alloc, scratch, id, at, message)?;
+                let list = scratch.one(alloc, post)?;
                 Ok((Standing::Stays, list))
             }
         }
@@ -454,7 +454,7 @@ impl Connection {
     fn keep(
         &self,
         alloc: Global,
-        buffers: &mut Buffers,
+        scratch: &mut Scratch,
         now: Moment,
         line: &Line<'_>,
         bytes: &[u8],
@@ -465,7 +465,7 @@ impl Connection {
     {
         if self.can_be_kept(message) {
             let stamp = stamp_of(alloc, line.tags(), now)?;
-            self.keep_stamped(alloc, buffers, line, bytes, message, stamp)
+            self.keep_stamped(alloc, scratch, line, bytes, message, stamp)
         } else {
             let list = relay_to_all(alloc, line, bytes)?;
             Ok((Standing::Stays, list))
@@ -475,7 +475,7 @@ impl Connection {
     fn serve_message(
         &self,
         alloc: Global,
-        buffers: &mut Buffers,
+        scratch: &mut Scratch,
         now: Moment,
         kind: Kind,
         line: &Line<'_>,
@@ -495,7 +495,7 @@ impl Connection {
                         target,
                         body,
                     };
-                    self.keep(alloc, buffers, now, line, bytes, message)
+                    self.keep(alloc, scratch, now, line, bytes, message)
                 } else {
                     Ok((Standing::Stays, Vec::new(alloc)))
                 }
@@ -511,7 +511,7 @@ impl Connection {
     fn message(
         &mut self,
         alloc: Global,
-        buffers: &mut Buffers,
+        scratch: &mut Scratch,
         now: Moment,
         kind: Kind,
         line: &Line<'_>,
@@ -523,7 +523,7 @@ impl Connection {
     {
         let (standing, list) = self.serve_message(
             alloc,
-            buffers,
+            scratch,
             now,
             kind,
             line,
@@ -537,14 +537,14 @@ impl Connection {
     fn redact_change(
         &self,
         alloc: Global,
-        buffers: &mut Buffers,
+        scratch: &mut Scratch,
         talk: &[u8],
         id: &[u8],
     ) -> Result<UpEffect, NoMemory>
         ensures { IfOk result (λ effect. effect ≡ effects.Put (changes.Redact
             (buffer_of self.now.home.account self.now.home.network talk.now) id.now None)) }
     {
-        let buffer = buffers.buffer_for(alloc, &self.home, talk)?;
+        let buffer = scratch.buffers.buffer_for(alloc, &self.home, talk)?;
         match MsgId::new(alloc, id) {
             // The id was tested before, so it is memory that is wanted.
             Err(_) => Err(NoMemory),
@@ -559,7 +559,7 @@ impl Connection {
     fn redaction(
         &self,
         alloc: Global,
-        buffers: &mut Buffers,
+        scratch: &mut Scratch,
         source: &[u8],
         target: &[u8],
         id: &[u8],
@@ -569,8 +569,8 @@ impl Connection {
     {
         let talk = self.conversation(source, target);
         if has_buffer(&self.home, talk) && is_id(id) {
-            let change = self.redact_change(alloc, buffers, talk, id)?;
-            one(alloc, change)
+            let change = self.redact_change(alloc, scratch, talk, id)?;
+            scratch.one(alloc, change)
         } else {
             Ok(Vec::new(alloc))
         }
@@ -580,7 +580,7 @@ impl Connection {
     fn redact(
         &self,
         alloc: Global,
-        buffers: &mut Buffers,
+        scratch: &mut Scratch,
         line: &Line<'_>,
         bytes: &[u8],
         parameters: &[&[u8]],
@@ -592,7 +592,7 @@ impl Connection {
             [target, id, ..] => {
                 if self.entry.is_up() && self.entry.takes_redact() {
                     let source = self.source_of(line.source());
-                    let mut list = self.redaction(alloc, buffers, source, target, id)?;
+                    let mut list = self.redaction(alloc, scratch, source, target, id)?;
                     let text = relayed_line(alloc, line.source(), bytes)?;
                     let to = Recipients::Holding(Capability::MessageRedaction);
                     push(&mut list, UpEffect::Relay(text, to))?;
@@ -609,7 +609,7 @@ impl Connection {
     pub(crate) fn serve(
         &mut self,
         alloc: Global,
-        buffers: &mut Buffers,
+        scratch: &mut Scratch,
         now: Moment,
         bytes: &[u8],
         line: &Line<'_>,
@@ -629,9 +629,9 @@ impl Connection {
             Command::Join => self.join(alloc, line, bytes),
             Command::Part => self.part(alloc, line, bytes),
             Command::Kick => self.kick(alloc, line, bytes),
-            Command::Privmsg => self.message(alloc, buffers, now, Kind::Privmsg, line, bytes),
-            Command::Notice => self.message(alloc, buffers, now, Kind::Notice, line, bytes),
-            Command::Redact => self.redact(alloc, buffers, line, bytes, line.parameters()),
+            Command::Privmsg => self.message(alloc, scratch, now, Kind::Privmsg, line, bytes),
+            Command::Notice => self.message(alloc, scratch, now, Kind::Notice, line, bytes),
+            Command::Redact => self.redact(alloc, scratch, line, bytes, line.parameters()),
             Command::Other => self.pass_on(alloc, line, bytes),
         }
     }

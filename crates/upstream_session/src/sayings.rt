@@ -6,12 +6,12 @@ ghost use Rattle.upstream_session.specs.Sayings as spec;
 ghost use Rattle.upstream_session.specs.Standing.{after};
 ghost use Rattle.upstream_session.specs.Step.{stays};
 
-use crate::buffers::Buffers;
 use crate::command::{Command, command_of};
 use crate::connection::{Connection, LAST_SERIAL, Standing};
 use crate::effect::UpEffect;
 use crate::effects::{one, push, send};
 use crate::messages::made_id;
+use crate::scratch::Scratch;
 use chat_change::{Kind, Message, Moment};
 use client_replies::passed_line;
 use irc_line::{TagLimit, read_line};
@@ -54,7 +54,7 @@ impl Connection {
     fn say_kept(
         &self,
         alloc: Global,
-        buffers: &mut Buffers,
+        scratch: &mut Scratch,
         now: Moment,
         text: &[u8],
         message: Message<'_>,
@@ -70,7 +70,7 @@ impl Connection {
         match made_id(alloc, &self.home, self.serial)? {
             None => Ok((Standing::Stays, list)),
             Some(id) => {
-                let post = self.post(alloc, buffers, id, now, message)?;
+                let post = self.post(alloc, scratch, id, now, message)?;
                 push(&mut list, post)?;
                 Ok((Standing::Counts(self.serial + 1), list))
             }
@@ -80,7 +80,7 @@ impl Connection {
     fn say_message(
         &self,
         alloc: Global,
-        buffers: &mut Buffers,
+        scratch: &mut Scratch,
         now: Moment,
         text: &[u8],
         message: Message<'_>,
@@ -89,7 +89,7 @@ impl Connection {
             ≡ spec.say_message self.now now text.now (value_of message.entry)) }
     {
         if self.is_kept_here(message) {
-            self.say_kept(alloc, buffers, now, text, message)
+            self.say_kept(alloc, scratch, now, text, message)
         } else {
             self.send_only(alloc, text)
         }
@@ -98,7 +98,7 @@ impl Connection {
     fn say_words(
         &self,
         alloc: Global,
-        buffers: &mut Buffers,
+        scratch: &mut Scratch,
         now: Moment,
         text: &[u8],
         kind: Kind,
@@ -116,7 +116,7 @@ impl Connection {
                     target,
                     body,
                 };
-                self.say_message(alloc, buffers, now, text, message)
+                self.say_message(alloc, scratch, now, text, message)
             }
             _ => self.send_only(alloc, text),
         }
@@ -126,7 +126,7 @@ impl Connection {
     pub(crate) fn say_line(
         &self,
         alloc: Global,
-        buffers: &mut Buffers,
+        scratch: &mut Scratch,
         now: Moment,
         text: &[u8],
     ) -> Result<(Standing, Vec<UpEffect>), NoMemory>
@@ -137,10 +137,10 @@ impl Connection {
             Err(_) => self.send_only(alloc, text),
             Ok(line) => match command_of(line.command()) {
                 Command::Privmsg => {
-                    self.say_words(alloc, buffers, now, text, Kind::Privmsg, line.parameters())
+                    self.say_words(alloc, scratch, now, text, Kind::Privmsg, line.parameters())
                 }
                 Command::Notice => {
-                    self.say_words(alloc, buffers, now, text, Kind::Notice, line.parameters())
+                    self.say_words(alloc, scratch, now, text, Kind::Notice, line.parameters())
                 }
                 Command::Cap
                 | Command::Welcome

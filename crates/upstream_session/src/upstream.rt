@@ -3,12 +3,12 @@ ghost use Rattle.std.specs.Prelude.{◌≡◌, IfOk, OnErr};
 ghost use Rattle.upstream_session.specs.Session as spec;
 ghost use Rattle.upstream_session.specs.Step as steps;
 
-use crate::buffers::Buffers;
 use crate::config::Config;
 use crate::connection::{Connection, Home};
 use crate::effect::UpEffect;
 use crate::effects::{push, send};
 use crate::sayings::without_ending;
+use crate::scratch::Scratch;
 use chat_change::Moment;
 use client_directory::Entry;
 use client_replies::nick_line;
@@ -23,7 +23,7 @@ use upstream_lines::{ls_line, user_line};
 #[derive(Drop)]
 pub struct Upstream {
     connection: Connection,
-    buffers: Buffers,
+    scratch: Scratch,
 }
 
 impl Model for Upstream {
@@ -63,7 +63,7 @@ impl Upstream {
                 tries: 0,
                 is_closed: false,
             },
-            buffers: Buffers::none(),
+            scratch: Scratch::new(alloc),
         }
     }
 
@@ -128,7 +128,7 @@ impl Upstream {
             Err(_) => Ok(Vec::new(alloc)),
             Ok(line) => self
                 .connection
-                .serve(alloc, &mut self.buffers, now, bytes, &line),
+                .serve(alloc, &mut self.scratch, now, bytes, &line),
         }
     }
 
@@ -152,8 +152,16 @@ impl Upstream {
         let text = without_ending(bytes);
         let (standing, list) = self
             .connection
-            .say_line(alloc, &mut self.buffers, now, text)?;
+            .say_line(alloc, &mut self.scratch, now, text)?;
         self.connection.go_on(standing);
         Ok(list)
+    }
+
+    /// Takes back a list of effects, once they are done. The next message that is kept is answered in its room, and takes
+    /// no memory for a list.
+    pub fn recycle(&mut self, list: Vec<UpEffect>)
+        ensures { self.new ≡ self.old }
+    {
+        self.scratch.recycle(list);
     }
 }

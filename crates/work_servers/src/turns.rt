@@ -65,6 +65,13 @@ impl Servers {
         Some(Said { line, effects })
     }
 
+    /// Takes back a list of effects, once they are done, so that the server's next line can be answered in its room.
+    pub fn recycle(&mut self, line: usize, effects: Vec<UpEffect>) {
+        if let Some(server) = self.all.get_mut(&line) {
+            server.session.recycle(effects);
+        }
+    }
+
     /// How the session over that connection stands now, where all workers know it otherwise; the caller has them learn it.
     /// The operator is told of a network that is up. Where there is no memory the next call tells it.
     pub fn note_entry<P: Port>(&mut self, desk: &mut Desk<P>, line: usize) -> Option<Standing> {
