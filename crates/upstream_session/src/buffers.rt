@@ -29,6 +29,7 @@ fn place_of(target: &[u8]) -> usize
     sum as usize % PLACES
 }
 
+// All buffers that are kept are of the session's account and network; that they are compared spares an invariant.
 fn is_buffer_of(buffer: &Buffer, home: &Home, target: &[u8]) -> bool
     ensures { IsTrue result
         → buffer.now ≡ buffer_of home.now.account home.now.network target.now }

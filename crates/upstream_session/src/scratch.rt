@@ -8,7 +8,7 @@ use memory::NoMemory;
 use std::alloc::Global;
 use std::mem;
 
-/// The buffers of late conversations, and the list that was given back last.
+/// The buffers of late conversations, and a list that was given back.
 #[derive(Drop)]
 pub(crate) struct Scratch {
     pub(crate) buffers: Buffers,
@@ -31,7 +31,7 @@ impl Scratch {
         }
     }
 
-    /// One effect, in the room of the list that was given back last.
+    /// One effect, in the room of the list that was given back. Effects that it still has are let go.
     pub(crate) fn one(&mut self, alloc: Global, effect: UpEffect) -> Result<Vec<UpEffect>, NoMemory>
         ensures { IfOk result (λ list. list.items ≡ effect ∷ []) }
     {

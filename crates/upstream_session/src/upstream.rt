@@ -157,8 +157,8 @@ impl Upstream {
         Ok(list)
     }
 
-    /// Takes back a list of effects, once they are done. The next message that is kept is answered in its room, and takes
-    /// no memory for a list.
+    /// Takes back a list of effects, once they are done. The server's next message that is kept is answered in its room,
+    /// and takes no memory for a list.
     pub fn recycle(&mut self, list: Vec<UpEffect>)
         ensures { self.new ≡ self.old }
     {
