@@ -1,6 +1,7 @@
 mod CuttingLemmas
 mod EntriesLemmas
 mod LengthLemmas
+mod LookupLemmas
 mod MergingLemmas
 mod ReadBackLemmas
 mod StandingLemmas

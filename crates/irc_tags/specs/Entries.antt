@@ -1,5 +1,5 @@
 -- A list of tags that is made tag by tag.
-use Rattle.std.specs.Prelude.{◌≡◌, ℕ, List, [], ◌∷◌, Vec, map, if◌then◌else◌}
+use Rattle.std.specs.Prelude.{◌≡◌, ℕ, ◌&&◌, List, [], ◌∷◌, Vec, Option, Some, map, if◌then◌else◌}
 use Rattle.std.specs.declared.alloc.Global.{Global}
 use Rattle.indexmap.specs.IndexMap.{insert_entry}
 use Rattle.irc_tags.specs.TagList.{Tag, tag_of, has_key, same_bytes}
@@ -22,3 +22,12 @@ with_tags tags (tag ∷ more) = with_tags (with_tag tags tag) more
 abbrev pub PutsTag : List (Vec ℕ Global × Vec ℕ Global) → List (Vec ℕ Global × Vec ℕ Global)
     → List ℕ → Type 0
 PutsTag old new bytes = value_of new ≡ with_tag (value_of old) (tag_of bytes)
+
+-- the value of the tag, where it has that key, or what was found before. No tag has the empty key.
+abbrev pub found_in : List ℕ → Option (List ℕ) → Tag → Option (List ℕ)
+found_in key found tag = if has_key tag && same_bytes key tag.0 then Some tag.1 else found
+
+-- the last value of a key in the tags, or what was found before
+abbrev pub last_found : List ℕ → Option (List ℕ) → List Tag → Option (List ℕ)
+last_found key found [] = found
+last_found key found (tag ∷ tags) = last_found key (found_in key found tag) tags

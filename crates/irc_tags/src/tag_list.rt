@@ -105,7 +105,7 @@ fn is_client_only(key: &[u8]) -> bool
 }
 
 /// What stands before the first `=`, and what stands behind it.
-fn cut_tag(tag: &[u8]) -> (&[u8], &[u8])
+pub(crate) fn cut_tag(tag: &[u8]) -> (&[u8], &[u8])
     ensures key { result.0.now ≡ before_first is_equals tag.now }
     ensures value { result.1.now ≡ after_first is_equals tag.now }
 {

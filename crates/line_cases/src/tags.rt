@@ -1,11 +1,20 @@
 //! Tags that are read.
 use crate::spelling::words_of;
 use anyhow::Error;
-use irc_tags::{TagFault, Tags, read_tags, read_value, write_value};
+use irc_tags::{TagFault, Tags, find_tag, read_tags, read_value, write_value};
 use std::alloc::{AllocError, Global};
 
-/// Each tag as `key=value`, with `|` between them, in their order; `!` follows where a look-up gives another value.
-fn put_tags(out: &mut Vec<u8>, tags: &Tags) -> Result<(), AllocError> {
+/// Whether the look-up of a key in tag data gives that value.
+fn is_found(alloc: Global, data: &[u8], key: &[u8], value: &[u8]) -> Result<bool, AllocError> {
+    match find_tag(alloc, data, key)? {
+        Some(found) => Ok(found.as_slice() == value),
+        None => Ok(false),
+    }
+}
+
+/// Each tag of the data as `key=value`, with `|` between them, in their order; `!` follows where a look-up gives another
+/// value.
+fn put_tags(alloc: Global, out: &mut Vec<u8>, data: &[u8], tags: &Tags) -> Result<(), AllocError> {
     for i in 0..tags.len() {
         let (key, value) = tags.entry(i);
         if i > 0 {
@@ -14,7 +23,7 @@ fn put_tags(out: &mut Vec<u8>, tags: &Tags) -> Result<(), AllocError> {
         out.extend_from_slice(key)?;
         out.push(b'=')?;
         out.extend_from_slice(value)?;
-        if tags.get(key) != Some(value) {
+        if tags.get(key) != Some(value) || !is_found(alloc, data, key, value)? {
             out.push(b'!')?;
         }
     }
@@ -33,8 +42,11 @@ pub fn told_tags(alloc: Global, data: &[u8]) -> Result<Vec<u8>, Error> {
     match read_tags(alloc, data) {
         Ok(tags) => {
             let mut out = Vec::new(alloc);
-            put_tags(&mut out, &tags)?;
-            if tags.get(b"=").is_some() || tags.is_empty() != (tags.len() == 0) {
+            put_tags(alloc, &mut out, data, &tags)?;
+            if tags.get(b"=").is_some() || find_tag(alloc, data, b"")?.is_some() {
+                out.push(b'!')?;
+            }
+            if tags.is_empty() != (tags.len() == 0) {
                 out.push(b'!')?;
             }
             Ok(out)
@@ -49,7 +61,7 @@ pub fn told_client_tags(alloc: Global, data: &[u8]) -> Result<Vec<u8>, Error> {
         Ok(mut tags) => {
             tags.keep_client_only();
             let mut out = Vec::new(alloc);
-            put_tags(&mut out, &tags)?;
+            put_tags(alloc, &mut out, data, &tags)?;
             Ok(out)
         }
         Err(fault) => told_fault(alloc, fault),
