@@ -93,12 +93,15 @@ pub fn marker_question(alloc: Global, channel: &[u8]) -> Result<Text, NoMemory>
     joined(alloc, b"MARKREAD ", channel)
 }
 
-/// A client's line, without its tags and its source, for the server. It is copied once.
-pub fn passed_line(alloc: Global, bytes: &[u8]) -> Result<Text, NoMemory>
+/// A client's line, without its tags and its source, for the server. It is copied once, into that room, whose bytes are
+/// let go.
+pub fn passed_line(room: Vec<u8>, bytes: &[u8]) -> Result<Text, NoMemory>
     ensures { IfOk result (λ text. text ≡ spec.passed_line bytes.now) }
 {
     let text = text_of(bytes);
-    let mut line = Vec::with_capacity(alloc, text.len() + 2)?;
+    let mut line = room;
+    line.clear();
+    line.reserve(text.len() + 2)?;
     line.extend_from_slice(text)?;
     line.extend_from_slice(b"\r\n")?;
     Ok(Text::of(line))

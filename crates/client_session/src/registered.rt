@@ -163,7 +163,7 @@ fn pass_on(
         facts.now (passed_line bytes.now)) }
 {
     if is_up(entry) {
-        let line = passed_line(alloc, bytes)?;
+        let line = passed_line(Vec::new(alloc), bytes)?;
         one(alloc, Effect::Upstream(line))
     } else {
         not_up(alloc, facts)

@@ -4,7 +4,7 @@ use chat_change::{Buffer, Kind, Message, Moment, MsgId, Record};
 use irc_caps::{CapSet, Capability};
 use memory::Text;
 use std::alloc::{AllocError, Global};
-use upstream_session::{Facts, Recipients, hears_line, hears_message};
+use upstream_session::{Facts, Recipients, hears_line, hears_message, is_from};
 
 fn facts_of(alloc: Global, account: &str, caps: CapSet) -> Result<Facts, Error> {
     let account = Text::new(alloc, account.as_bytes())?;
@@ -53,7 +53,7 @@ fn recipients_of(word: &str) -> Recipients {
 fn hears_of_message(alloc: Global, source: &str, account: &str, held: &str) -> Result<bool, Error> {
     let record = record_of(alloc, source)?;
     let facts = facts_of(alloc, account, caps_of(held))?;
-    Ok(hears_message(b"al", &record, &facts))
+    Ok(hears_message(is_from(b"al", &record), &record, &facts))
 }
 
 fn hears_of_line(alloc: Global, account: &str, network: &str, to: &str) -> Result<bool, Error> {

@@ -119,10 +119,17 @@ fn tell(alloc: Global, out: &mut Vec<u8>, effect: &UpEffect) -> Result<(), Alloc
     Ok(())
 }
 
-fn tell_all(alloc: Global, out: &mut Vec<u8>, effects: &[UpEffect]) -> Result<(), AllocError> {
-    for effect in effects {
+// Tells the effects of a line, and gives their list back, so that later lines are answered in its room.
+fn tell_all(
+    alloc: Global,
+    out: &mut Vec<u8>,
+    session: &mut Upstream,
+    effects: Vec<UpEffect>,
+) -> Result<(), AllocError> {
+    for effect in &effects {
         tell(alloc, out, effect)?;
     }
+    session.recycle(effects);
     Ok(())
 }
 
@@ -181,15 +188,15 @@ pub fn play(alloc: Global, session: &mut Upstream, script: &[u8]) -> Result<Vec<
             [b'+', b' ', line @ ..] => {
                 let whole = with_ending(alloc, line)?;
                 let effects = play_line(alloc, session, b'>', &whole, now()?)?;
-                tell_all(alloc, &mut out, &effects)?;
+                tell_all(alloc, &mut out, session, effects)?;
             }
             [mark, b' ', line @ ..] => {
                 let effects = play_line(alloc, session, *mark, line, now()?)?;
-                tell_all(alloc, &mut out, &effects)?;
+                tell_all(alloc, &mut out, session, effects)?;
             }
             [mark] => {
                 let effects = play_line(alloc, session, *mark, b"", now()?)?;
-                tell_all(alloc, &mut out, &effects)?;
+                tell_all(alloc, &mut out, session, effects)?;
             }
             _ => out.extend_from_slice(b"no line of a script\n")?,
         }

@@ -128,12 +128,15 @@ fn put_text(line: &mut Vec<u8>, text: &[u8]) -> Result<(), AllocError>
 
 ghost use Rattle.irc_line.specs.Text.{line_ending};
 
-/// A server's line, with that source, as it is passed on: without its tags. It is copied once.
-pub fn relayed_line(alloc: Global, source: Option<&[u8]>, bytes: &[u8]) -> Result<Text, NoMemory>
+/// A server's line, with that source, as it is passed on: without its tags. It is copied once, into that room, whose bytes
+/// are let go.
+pub fn relayed_line(room: Vec<u8>, source: Option<&[u8]>, bytes: &[u8]) -> Result<Text, NoMemory>
     ensures { IfOk result (λ text. text
         ≡ spec.relayed_line (option_copied source.entry) bytes.now) }
 {
-    let mut line = Vec::with_capacity(alloc, MOST_BYTES)?;
+    let mut line = room;
+    line.clear();
+    line.reserve(MOST_BYTES)?;
     put_source(&mut line, source)?;
     put_text(&mut line, text_of(bytes))?;
     Ok(Text::of(line))

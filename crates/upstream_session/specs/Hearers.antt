@@ -12,11 +12,14 @@ use Rattle.upstream_session.specs.Messages.{nick_of, is_same_nick}
 abbrev pub is_of : List ℕ → List ℕ → Facts → Bool
 is_of account network f = bytes_eq f.account account && bytes_eq f.network network
 
--- A session without `echo-message` doesn't hear what was said under the present nick.
-abbrev pub hears_message : List ℕ → Record → Facts → Bool
-hears_message nick r f =
-    is_of r.buffer.account r.buffer.network f
-    && (f.caps.echo_message || not (is_same_nick (nick_of r.message.source) nick))
+-- the message is from that nick
+abbrev pub is_from : List ℕ → Record → Bool
+is_from nick r = is_same_nick (nick_of r.message.source) nick
+
+-- A session without `echo-message` doesn't hear its own messages, which are those from the present nick.
+abbrev pub hears_message : Bool → Record → Facts → Bool
+hears_message is_own r f =
+    is_of r.buffer.account r.buffer.network f && (f.caps.echo_message || not is_own)
 
 abbrev pub is_recipient : Recipients → Facts → Bool
 is_recipient All f = true

@@ -20,14 +20,20 @@ fn is_of(account: &[u8], network: &[u8], facts: &Facts) -> bool
     is_same(facts.account.as_bytes(), account) && is_same(facts.network.as_bytes(), network)
 }
 
+/// Whether a message is from that nick, which is compared without regard to case.
+pub fn is_from(nick: &[u8], message: &Record) -> bool
+    ensures { result ≡ spec.is_from nick.now message.now }
+{
+    is_same_nick(nick_of(message.source()), nick)
+}
+
 /// Whether a session hears a message as it comes: it is of the account and the network, and, unless it holds
-/// `echo-message` (IRCv3 echo-message), the message isn't from the present nick.
-pub fn hears_message(nick: &[u8], message: &Record, facts: &Facts) -> bool
-    ensures { result ≡ spec.hears_message nick.now message.now facts.now }
+/// `echo-message` (IRCv3 echo-message), the message isn't its own, which is one [from](is_from) the present nick.
+pub fn hears_message(is_own: bool, message: &Record, facts: &Facts) -> bool
+    ensures { result ≡ spec.hears_message is_own message.now facts.now }
 {
     let buffer = message.buffer();
-    is_of(buffer.account(), buffer.network(), facts)
-        && (facts.caps.echo_message || !is_same_nick(nick_of(message.source()), nick))
+    is_of(buffer.account(), buffer.network(), facts) && (facts.caps.echo_message || !is_own)
 }
 
 fn is_recipient(to: Recipients, facts: &Facts) -> bool

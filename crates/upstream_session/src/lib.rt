@@ -5,7 +5,7 @@
 //! An [`Upstream`] is a value and reads nothing. Each [`step`](Upstream::step) takes a line of the server, each
 //! [`say`](Upstream::say) a line of a client, with the moment, and gives the [`UpEffect`]s that its caller carries out in
 //! their order: lines to the server, changes to take, and lines to pass on to the clients. Who of these hears what is
-//! told by [`hears_message`] and [`hears_line`].
+//! told by [`is_from`], [`hears_message`] and [`hears_line`].
 #![tactic(auto)]
 
 mod buffers;
@@ -26,7 +26,7 @@ pub use chat_batch::Facts;
 pub use client_directory::Entry;
 pub use config::{Channels, Config};
 pub use effect::{Recipients, UpEffect};
-pub use hearers::{hears_line, hears_message};
+pub use hearers::{hears_line, hears_message, is_from};
 pub use irc_caps::Capability;
 pub use memory::{NoMemory, Text};
 pub use upstream::Upstream;

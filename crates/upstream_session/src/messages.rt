@@ -3,6 +3,7 @@ ghost use Rattle.std.specs.Prelude.{◌≡◌, ◌<◌, ◌++◌, codes, length,
 ghost use Rattle.std.specs.Option.{option_copied};
 ghost use Rattle.std.specs.Fmt.{decimal};
 ghost use Rattle.chat_change.specs.Message.{value_of};
+ghost use Rattle.irc_tags.specs.TagList.{tag_list, value_at};
 ghost use Rattle.upstream_session.specs.Messages as spec;
 
 use crate::connection::{Connection, Home};
@@ -13,7 +14,7 @@ use byte_search::find_byte;
 use chat_change::{
     Change, ID_LIMIT, Message, Moment, MsgId, Record, is_id, is_message, is_name, is_target,
 };
-use irc_tags::{Tags, read_tags};
+use irc_tags::find_tag;
 use irc_time::read_time;
 use memory::NoMemory;
 use std::alloc::Global;
@@ -58,46 +59,47 @@ fn id_of(alloc: Global, text: &[u8]) -> Result<Option<MsgId>, NoMemory>
 
 ghost use Rattle.std.specs.Prelude.{Some};
 
-fn id_if(alloc: Global, text: Option<&[u8]>) -> Result<Option<MsgId>, NoMemory>
-    ensures { IfOk result (λ id. id ≡ spec.id_if (option_copied text.entry)) }
+/// The moment of these bytes, where they are one, or else now.
+fn moment_of(text: &[u8], now: Moment) -> Moment
+    ensures { result ≡ spec.moment_if (Some text.now) now }
 {
-    match text {
-        None => Ok(None),
-        Some(text) => id_of(alloc, text),
-    }
-}
-
-fn moment_if(text: Option<&[u8]>, now: Moment) -> Moment
-    ensures { result ≡ spec.moment_if (option_copied text.entry) now }
-{
-    match text {
+    match read_time(text) {
         None => now,
-        Some(text) => match read_time(text) {
-            None => now,
-            Some(at) => at,
-        },
+        Some(at) => at,
     }
 }
 
-fn stamp_in(alloc: Global, tags: &Tags, now: Moment) -> Result<Stamp, NoMemory>
-    ensures { IfOk result (λ stamp. stamp ≡ spec.stamp_in tags.now now) }
+fn id_in(alloc: Global, tags: &[u8]) -> Result<Option<MsgId>, NoMemory>
+    ensures { IfOk result (λ id. id ≡ spec.id_if (value_at (codes "msgid") (tag_list tags.now))) }
 {
-    let id = id_if(alloc, tags.get(b"msgid"))?;
-    let at = moment_if(tags.get(b"time"), now);
-    Ok(Stamp { id, at })
+    match find_tag(alloc, tags, b"msgid")? {
+        None => Ok(None),
+        Some(text) => id_of(alloc, text.as_slice()),
+    }
 }
 
-/// The id and the moment that the tags of a line give (IRCv3 message-ids and server-time).
+fn moment_in(alloc: Global, tags: &[u8], now: Moment) -> Result<Moment, NoMemory>
+    ensures { IfOk result (λ at. at
+        ≡ spec.moment_if (value_at (codes "time") (tag_list tags.now)) now) }
+{
+    match find_tag(alloc, tags, b"time")? {
+        None => Ok(now),
+        Some(text) => Ok(moment_of(text.as_slice(), now)),
+    }
+}
+
+/// The id and the moment that the tags of a line give (IRCv3 message-ids and server-time). A tag without escapes is read
+/// where it stands.
 pub(crate) fn stamp_of(alloc: Global, tags: Option<&[u8]>, now: Moment) -> Result<Stamp, NoMemory>
     ensures { IfOk result (λ stamp. stamp ≡ spec.stamp_of (option_copied tags.entry) now) }
 {
     match tags {
         None => Ok(Stamp { id: None, at: now }),
-        Some(text) => match read_tags(alloc, text) {
-            Ok(tags) => stamp_in(alloc, &tags, now),
-            // The line was read, so its tags aren't too long, and it is memory that is wanted.
-            Err(_) => Err(NoMemory),
-        },
+        Some(tags) => {
+            let id = id_in(alloc, tags)?;
+            let at = moment_in(alloc, tags, now)?;
+            Ok(Stamp { id, at })
+        }
     }
 }
 

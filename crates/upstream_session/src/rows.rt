@@ -63,11 +63,16 @@ fn copy_of(alloc: Global, text: Option<&[u8]>) -> Result<Option<Text>, NoMemory>
     }
 }
 
-fn relay_to_all(alloc: Global, line: &Line<'_>, bytes: &[u8]) -> Result<Vec<UpEffect>, NoMemory>
+fn relay_to_all(
+    alloc: Global,
+    scratch: &mut Scratch,
+    line: &Line<'_>,
+    bytes: &[u8],
+) -> Result<Vec<UpEffect>, NoMemory>
     ensures { IfOk result (λ list. list.items ≡ spec.relay_to_all line.now bytes.now) }
 {
-    let text = relayed_line(alloc, line.source(), bytes)?;
-    one(alloc, UpEffect::Relay(text, Recipients::All))
+    let text = relayed_line(scratch.text_room(alloc), line.source(), bytes)?;
+    scratch.one(alloc, UpEffect::Relay(text, Recipients::All))
 }
 
 fn push_join(alloc: Global, list: &mut Vec<UpEffect>, channel: &[u8]) -> Result<(), NoMemory>
@@ -93,13 +98,14 @@ impl Connection {
     fn pass_on(
         &self,
         alloc: Global,
+        scratch: &mut Scratch,
         line: &Line<'_>,
         bytes: &[u8],
     ) -> Result<Vec<UpEffect>, NoMemory>
         ensures { IfOk result (λ list. list.items ≡ spec.pass_on self.now line.now bytes.now) }
     {
         if self.entry.is_up() {
-            relay_to_all(alloc, line, bytes)
+            relay_to_all(alloc, scratch, line, bytes)
         } else {
             Ok(Vec::new(alloc))
         }
@@ -248,6 +254,7 @@ impl Connection {
     fn nick_in_use(
         &mut self,
         alloc: Global,
+        scratch: &mut Scratch,
         line: &Line<'_>,
         bytes: &[u8],
     ) -> Result<Vec<UpEffect>, NoMemory>
@@ -256,7 +263,7 @@ impl Connection {
         ensures err { OnErr result (self.new ≡ self.old) }
     {
         if self.entry.is_up() {
-            relay_to_all(alloc, line, bytes)
+            relay_to_all(alloc, scratch, line, bytes)
         } else {
             self.try_again(alloc)
         }
@@ -266,6 +273,7 @@ impl Connection {
     fn ping(
         &self,
         alloc: Global,
+        scratch: &mut Scratch,
         line: &Line<'_>,
         bytes: &[u8],
         parameters: &[&[u8]],
@@ -278,7 +286,7 @@ impl Connection {
                 let text = pong_line(alloc, word)?;
                 send(alloc, text)
             }
-            [] => self.pass_on(alloc, line, bytes),
+            [] => self.pass_on(alloc, scratch, line, bytes),
         }
     }
 
@@ -293,6 +301,7 @@ impl Connection {
     fn nick(
         &mut self,
         alloc: Global,
+        scratch: &mut Scratch,
         line: &Line<'_>,
         bytes: &[u8],
     ) -> Result<Vec<UpEffect>, NoMemory>
@@ -300,7 +309,7 @@ impl Connection {
             ≡ spec.nick self.old line.now bytes.now) }
         ensures err { OnErr result (self.new ≡ self.old) }
     {
-        let effects = self.pass_on(alloc, line, bytes)?;
+        let effects = self.pass_on(alloc, scratch, line, bytes)?;
         if self.is_up_and_own(line) {
             let nick = copy_of(alloc, first_target(line.parameters()))?;
             self.set_nick(nick);
@@ -326,6 +335,7 @@ impl Connection {
     fn join(
         &mut self,
         alloc: Global,
+        scratch: &mut Scratch,
         line: &Line<'_>,
         bytes: &[u8],
     ) -> Result<Vec<UpEffect>, NoMemory>
@@ -333,7 +343,7 @@ impl Connection {
             ≡ spec.join self.old line.now bytes.now) }
         ensures err { OnErr result (self.new ≡ self.old) }
     {
-        let effects = self.pass_on(alloc, line, bytes)?;
+        let effects = self.pass_on(alloc, scratch, line, bytes)?;
         if self.is_up_and_own(line) {
             self.join_if(alloc, first_target(line.parameters()))?;
         }
@@ -353,6 +363,7 @@ impl Connection {
     fn part(
         &mut self,
         alloc: Global,
+        scratch: &mut Scratch,
         line: &Line<'_>,
         bytes: &[u8],
     ) -> Result<Vec<UpEffect>, NoMemory>
@@ -360,7 +371,7 @@ impl Connection {
             ≡ spec.part self.old line.now bytes.now) }
         ensures err { OnErr result (self.new ≡ self.old) }
     {
-        let effects = self.pass_on(alloc, line, bytes)?;
+        let effects = self.pass_on(alloc, scratch, line, bytes)?;
         if self.is_up_and_own(line) {
             self.leave(line.parameters());
         }
@@ -384,6 +395,7 @@ impl Connection {
     fn kick(
         &mut self,
         alloc: Global,
+        scratch: &mut Scratch,
         line: &Line<'_>,
         bytes: &[u8],
     ) -> Result<Vec<UpEffect>, NoMemory>
@@ -391,7 +403,7 @@ impl Connection {
             ≡ spec.kick self.old line.now bytes.now) }
         ensures err { OnErr result (self.new ≡ self.old) }
     {
-        let effects = self.pass_on(alloc, line, bytes)?;
+        let effects = self.pass_on(alloc, scratch, line, bytes)?;
         if self.entry.is_up() {
             self.put_out(line.parameters());
         }
@@ -416,7 +428,7 @@ impl Connection {
         }
         match made_id(alloc, &self.home, self.serial)? {
             None => {
-                let list = relay_to_all(alloc, line, bytes)?;
+                let list = relay_to_all(alloc, scratch, line, bytes)?;
                 Ok((Standing::Stays, list))
             }
             Some(id) => {
@@ -467,7 +479,7 @@ impl Connection {
             let stamp = stamp_of(alloc, line.tags(), now)?;
             self.keep_stamped(alloc, scratch, line, bytes, message, stamp)
         } else {
-            let list = relay_to_all(alloc, line, bytes)?;
+            let list = relay_to_all(alloc, scratch, line, bytes)?;
             Ok((Standing::Stays, list))
         }
     }
@@ -501,7 +513,7 @@ impl Connection {
                 }
             }
             _ => {
-                let list = self.pass_on(alloc, line, bytes)?;
+                let list = self.pass_on(alloc, scratch, line, bytes)?;
                 Ok((Standing::Stays, list))
             }
         }
@@ -593,15 +605,15 @@ impl Connection {
                 if self.entry.is_up() && self.entry.takes_redact() {
                     let source = self.source_of(line.source());
                     let mut list = self.redaction(alloc, scratch, source, target, id)?;
-                    let text = relayed_line(alloc, line.source(), bytes)?;
+                    let text = relayed_line(scratch.text_room(alloc), line.source(), bytes)?;
                     let to = Recipients::Holding(Capability::MessageRedaction);
                     push(&mut list, UpEffect::Relay(text, to))?;
                     Ok(list)
                 } else {
-                    self.pass_on(alloc, line, bytes)
+                    self.pass_on(alloc, scratch, line, bytes)
                 }
             }
-            _ => self.pass_on(alloc, line, bytes),
+            _ => self.pass_on(alloc, scratch, line, bytes),
         }
     }
 
@@ -622,17 +634,17 @@ impl Connection {
             Command::Cap => self.cap(alloc, line.parameters()),
             Command::Welcome => self.welcome(alloc, line.parameters()),
             Command::Greeting | Command::Tagmsg => Ok(Vec::new(alloc)),
-            Command::NickInUse => self.nick_in_use(alloc, line, bytes),
-            Command::Ping => self.ping(alloc, line, bytes, line.parameters()),
+            Command::NickInUse => self.nick_in_use(alloc, scratch, line, bytes),
+            Command::Ping => self.ping(alloc, scratch, line, bytes, line.parameters()),
             Command::Error => self.close(alloc),
-            Command::Nick => self.nick(alloc, line, bytes),
-            Command::Join => self.join(alloc, line, bytes),
-            Command::Part => self.part(alloc, line, bytes),
-            Command::Kick => self.kick(alloc, line, bytes),
+            Command::Nick => self.nick(alloc, scratch, line, bytes),
+            Command::Join => self.join(alloc, scratch, line, bytes),
+            Command::Part => self.part(alloc, scratch, line, bytes),
+            Command::Kick => self.kick(alloc, scratch, line, bytes),
             Command::Privmsg => self.message(alloc, scratch, now, Kind::Privmsg, line, bytes),
             Command::Notice => self.message(alloc, scratch, now, Kind::Notice, line, bytes),
             Command::Redact => self.redact(alloc, scratch, line, bytes, line.parameters()),
-            Command::Other => self.pass_on(alloc, line, bytes),
+            Command::Other => self.pass_on(alloc, scratch, line, bytes),
         }
     }
 }

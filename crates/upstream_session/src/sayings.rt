@@ -9,7 +9,7 @@ ghost use Rattle.upstream_session.specs.Step.{stays};
 use crate::command::{Command, command_of};
 use crate::connection::{Connection, LAST_SERIAL, Standing};
 use crate::effect::UpEffect;
-use crate::effects::{one, push, send};
+use crate::effects::{one, push};
 use crate::messages::made_id;
 use crate::scratch::Scratch;
 use chat_change::{Kind, Message, Moment};
@@ -28,19 +28,24 @@ pub(crate) fn without_ending(bytes: &[u8]) -> &[u8]
     }
 }
 
-fn send_line(alloc: Global, text: &[u8]) -> Result<Vec<UpEffect>, NoMemory>
+fn send_line(alloc: Global, scratch: &mut Scratch, text: &[u8]) -> Result<Vec<UpEffect>, NoMemory>
     ensures { IfOk result (λ list. list.items ≡ spec.send_line text.now) }
 {
-    let line = passed_line(alloc, text)?;
-    send(alloc, line)
+    let line = passed_line(scratch.text_room(alloc), text)?;
+    scratch.one(alloc, UpEffect::Send(line))
 }
 
 impl Connection {
-    fn send_only(&self, alloc: Global, text: &[u8]) -> Result<(Standing, Vec<UpEffect>), NoMemory>
+    fn send_only(
+        &self,
+        alloc: Global,
+        scratch: &mut Scratch,
+        text: &[u8],
+    ) -> Result<(Standing, Vec<UpEffect>), NoMemory>
         ensures { IfOk result (λ r. record { session = after r.0 self.now; effects = r.1.items }
             ≡ stays self.now (spec.send_line text.now)) }
     {
-        let list = send_line(alloc, text)?;
+        let list = send_line(alloc, scratch, text)?;
         Ok((Standing::Stays, list))
     }
 
@@ -66,7 +71,7 @@ impl Connection {
             let list = one(alloc, UpEffect::Close)?;
             return Ok((Standing::Closes, list));
         }
-        let mut list = send_line(alloc, text)?;
+        let mut list = send_line(alloc, scratch, text)?;
         match made_id(alloc, &self.home, self.serial)? {
             None => Ok((Standing::Stays, list)),
             Some(id) => {
@@ -91,7 +96,7 @@ impl Connection {
         if self.is_kept_here(message) {
             self.say_kept(alloc, scratch, now, text, message)
         } else {
-            self.send_only(alloc, text)
+            self.send_only(alloc, scratch, text)
         }
     }
 
@@ -118,7 +123,7 @@ impl Connection {
                 };
                 self.say_message(alloc, scratch, now, text, message)
             }
-            _ => self.send_only(alloc, text),
+            _ => self.send_only(alloc, scratch, text),
         }
     }
 
@@ -134,7 +139,7 @@ impl Connection {
             ≡ spec.say_line self.now now text.now) }
     {
         match read_line(text, TagLimit::Client) {
-            Err(_) => self.send_only(alloc, text),
+            Err(_) => self.send_only(alloc, scratch, text),
             Ok(line) => match command_of(line.command()) {
                 Command::Privmsg => {
                     self.say_words(alloc, scratch, now, text, Kind::Privmsg, line.parameters())
@@ -154,7 +159,7 @@ impl Connection {
                 | Command::Error
                 | Command::Redact
                 | Command::Tagmsg
-                | Command::Other => self.send_only(alloc, text),
+                | Command::Other => self.send_only(alloc, scratch, text),
             },
         }
     }

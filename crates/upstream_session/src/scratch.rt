@@ -4,15 +4,25 @@ ghost use Rattle.std.specs.Prelude.{◌≡◌, ◌∷◌, [], IfOk};
 use crate::buffers::Buffers;
 use crate::effect::UpEffect;
 use crate::effects::push;
-use memory::NoMemory;
+use memory::{NoMemory, Text};
 use std::alloc::Global;
 use std::mem;
 
-/// The buffers of late conversations, and a list that was given back.
+/// The buffers of late conversations, and the room of a list and of a text that were given back.
 #[derive(Drop)]
 pub(crate) struct Scratch {
     pub(crate) buffers: Buffers,
     list: Vec<UpEffect>,
+    text: Vec<u8>,
+}
+
+fn text_in(effect: UpEffect) -> Option<Text> {
+    match effect {
+        UpEffect::Send(text) => Some(text),
+        UpEffect::Relay(text, _) => Some(text),
+        UpEffect::Put(_) => None,
+        UpEffect::Close => None,
+    }
 }
 
 impl Scratch {
@@ -21,14 +31,33 @@ impl Scratch {
         Scratch {
             buffers: Buffers::none(),
             list: Vec::new(alloc),
+            text: Vec::new(alloc),
         }
     }
 
-    /// Keeps a list for its room, where that is larger than that of the list that is kept.
+    fn recycle_text(&mut self, text: Text) {
+        let bytes = text.into_bytes();
+        if self.text.capacity() < bytes.capacity() {
+            self.text = bytes;
+        }
+    }
+
+    /// Keeps the room of a list and of one of its texts, where it is larger than what is kept.
     pub(crate) fn recycle(&mut self, list: Vec<UpEffect>) {
+        let mut list = list;
+        for effect in list.drain(..) {
+            if let Some(text) = text_in(effect) {
+                self.recycle_text(text);
+            }
+        }
         if self.list.capacity() < list.capacity() {
             self.list = list;
         }
+    }
+
+    /// Room for a text: that of the one that was given back.
+    pub(crate) fn text_room(&mut self, alloc: Global) -> Vec<u8> {
+        mem::replace(&mut self.text, Vec::new(alloc))
     }
 
     /// One effect, in the room of the list that was given back. Effects that it still has are let go.

@@ -109,7 +109,8 @@ impl Upstream {
     /// dropped. A refused step leaves the session as it was.
     ///
     /// A line that is passed on is copied once. A record is made of slices of the line, and shares the buffer of its
-    /// conversation with those before it.
+    /// conversation with those before it. Beside the record, a line takes no memory that is asked for anew, once the
+    /// effects of those before it were given back ([`recycle`](Upstream::recycle)).
     #[tactic(auto, unfolding(crate::specs::Session::step))]
     pub fn step(
         &mut self,
@@ -157,8 +158,7 @@ impl Upstream {
         Ok(list)
     }
 
-    /// Takes back a list of effects, once they are done. The server's next message that is kept is answered in its room,
-    /// and takes no memory for a list.
+    /// Takes back a list of effects, once they are done, for its room and that of a text in it.
     pub fn recycle(&mut self, list: Vec<UpEffect>)
         ensures { self.new ≡ self.old }
     {
