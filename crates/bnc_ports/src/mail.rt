@@ -14,10 +14,10 @@ pub enum Mail {
         entry: Entry,
         is_passed_on: bool,
     },
-    /// A message as it comes from the network's server, whose present nick it is.
+    /// A message as it comes from the network's server, and whether it is from the present nick.
     Live {
         network: usize,
-        nick: Text,
+        is_own: bool,
         message: Record,
     },
     /// A line that is passed on to sessions of the network. It ends with CR LF.

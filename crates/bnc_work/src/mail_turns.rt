@@ -28,11 +28,11 @@ impl<N: Node, X: Attachment, P: Port> Worker<N, X, P> {
             } => self.take_entry(network, entry, is_passed_on),
             Mail::Live {
                 network,
-                nick,
+                is_own,
                 message,
             } => {
                 self.clients
-                    .tell_message(&mut self.desk, network, nick.as_bytes(), &message);
+                    .tell_message(&mut self.desk, network, is_own, &message);
             }
             Mail::Relay { network, to, line } => {
                 return self.pass_on_here(network, to, line.as_bytes());

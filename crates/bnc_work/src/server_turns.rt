@@ -7,8 +7,8 @@ use bnc_ports::{Mail, Port, Reason};
 use chat_change::{Change, Record};
 use memory::{NoMemory, Text};
 use shared_node::PutFault;
-use std::alloc::Global;
-use upstream_session::{Recipients, UpEffect};
+use std::slice;
+use upstream_session::{Recipients, UpEffect, is_from};
 use work_servers::{Said, Step};
 
 /// So many lines of a server are taken before the others have their turn: about as many as one read brings, so that what
@@ -69,8 +69,7 @@ impl<N: Node, X: Attachment, P: Port> Worker<N, X, P> {
         if let Some(standing) = self.servers.note_entry(&mut self.desk, line) {
             self.spread(standing, is_passed_on(&effects));
         }
-        let mut effects = effects;
-        for effect in effects.drain(..) {
+        for effect in &effects {
             match effect {
                 UpEffect::Send(text) => self.servers.owe(line, text.as_bytes()),
                 UpEffect::Put(change) => {
@@ -79,7 +78,7 @@ impl<N: Node, X: Attachment, P: Port> Worker<N, X, P> {
                         return Ok(());
                     }
                 }
-                UpEffect::Relay(text, to) => self.pass_on(line, to, text)?,
+                UpEffect::Relay(text, to) => self.pass_on(line, *to, text)?,
                 UpEffect::Close => {
                     self.servers.end(line, Reason::Ended);
                     self.servers.wake(line);
@@ -92,14 +91,13 @@ impl<N: Node, X: Attachment, P: Port> Worker<N, X, P> {
 
     // Puts what a server's line came to, and says whether the node has it. A message is told as it comes, also where it waits
     // to be published.
-    fn put_from(&mut self, line: usize, change: Change) -> bool {
-        let changes = [change];
-        match self.put(&changes) {
+    fn put_from(&mut self, line: usize, change: &Change) -> bool {
+        match self.put(slice::from_ref(change)) {
             Ok(()) => self.publish(),
             Err(PutFault::Waiting) => {}
             Err(PutFault::NoMemory { .. } | PutFault::Exhausted) => return false,
         }
-        if let Change::Post(message) = &changes[0] {
+        if let Change::Post(message) = change {
             self.tell_message(line, message);
         }
         true
@@ -116,23 +114,17 @@ impl<N: Node, X: Attachment, P: Port> Worker<N, X, P> {
         let (Some(network), Some(nick)) = (servers.network(line), servers.nick(line)) else {
             return;
         };
-        clients.tell_message(desk, network, nick, message);
+        let is_own = is_from(nick, message);
+        clients.tell_message(desk, network, is_own, message);
         for worker in 0..desk.site.workers {
             if worker != desk.site.worker {
-                post_message(
-                    &mut desk.port,
-                    desk.site.alloc,
-                    worker,
-                    network,
-                    nick,
-                    message,
-                );
+                post_message(&mut desk.port, worker, network, is_own, message);
             }
         }
     }
 
     // Passes a line of a server on to all workers' sessions of its network.
-    fn pass_on(&mut self, line: usize, to: Recipients, text: Text) -> Result<(), WorkEnd> {
+    fn pass_on(&mut self, line: usize, to: Recipients, text: &Text) -> Result<(), WorkEnd> {
         let Some(network) = self.servers.network(line) else {
             return Ok(());
         };
@@ -158,21 +150,17 @@ fn is_passed_on(effects: &[UpEffect]) -> bool {
 
 fn post_message<P: Port>(
     port: &mut P,
-    alloc: Global,
     worker: usize,
     network: usize,
-    nick: &[u8],
+    is_own: bool,
     message: &Record,
 ) {
-    let Ok(nick) = Text::new(alloc, nick) else {
-        return;
-    };
     let Ok(message) = message.try_clone() else {
         return;
     };
     let mail = Mail::Live {
         network,
-        nick,
+        is_own,
         message,
     };
     let _ = port.post(worker, mail);

@@ -1,7 +1,7 @@
 //! What workers tell each other, as text:
 //!
 //!     entry NETWORK up|redact|down passed|alone NICK CHANNEL..
-//!     live NETWORK NICK CHANGE
+//!     live NETWORK own|other CHANGE
 //!     relay NETWORK all|CAPABILITY LINE
 //!     say NETWORK LINE
 //!     marked NETWORK TARGET
@@ -44,12 +44,11 @@ fn entry_in(alloc: Global, network: usize, text: &str) -> Result<Mail, Error> {
 }
 
 fn live_in(alloc: Global, network: usize, text: &str) -> Result<Mail, Error> {
-    let (nick, line) = cut(text);
-    let nick = Text::new(alloc, nick.as_bytes())?;
+    let (speaker, line) = cut(text);
     match read_change(alloc, line.as_bytes())? {
         Change::Post(message) => Ok(Mail::Live {
             network,
-            nick,
+            is_own: speaker == "own",
             message,
         }),
         _ => Err(Error::from(AllocError)),
@@ -117,11 +116,10 @@ fn tell_entry(out: &mut Vec<u8>, entry: &Entry, is_passed_on: bool) -> Result<()
 fn tell_live(
     alloc: Global,
     out: &mut Vec<u8>,
-    nick: &[u8],
+    is_own: bool,
     message: Record,
 ) -> Result<(), AllocError> {
-    out.extend_from_slice(nick)?;
-    out.push(b' ')?;
+    out.extend_from_slice(if is_own { b"own " } else { b"other " })?;
     let mut line = Vec::new(alloc);
     match write_change(&Change::Post(message), &mut line) {
         Ok(()) => out.extend_from_slice(without_ending(line.as_slice())),
@@ -156,11 +154,11 @@ pub fn tell_mail(alloc: Global, out: &mut Vec<u8>, mail: Mail) -> Result<(), All
         }
         Mail::Live {
             network,
-            nick,
+            is_own,
             message,
         } => {
             start(alloc, out, "live", network)?;
-            tell_live(alloc, out, nick.as_bytes(), message)
+            tell_live(alloc, out, is_own, message)
         }
         Mail::Relay { network, to, line } => {
             start(alloc, out, "relay", network)?;

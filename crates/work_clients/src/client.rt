@@ -42,14 +42,14 @@ impl Client {
     pub(crate) fn caps_for_message(
         &self,
         network: usize,
-        nick: &[u8],
+        is_own: bool,
         message: &Record,
     ) -> Option<CapSet> {
         if self.network != Some(network) {
             return None;
         }
         let facts = self.session.facts()?;
-        if hears_message(nick, message, facts) {
+        if hears_message(is_own, message, facts) {
             Some(facts.caps)
         } else {
             None

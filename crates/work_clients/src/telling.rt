@@ -37,7 +37,7 @@ impl<X: Attachment> Clients<X> {
         &mut self,
         desk: &mut Desk<P>,
         network: usize,
-        nick: &[u8],
+        is_own: bool,
         message: &Record,
     ) {
         let Clients {
@@ -49,7 +49,7 @@ impl<X: Attachment> Clients<X> {
         } = self;
         live.clear();
         for (line, client) in all.iter_mut() {
-            let Some(caps) = client.caps_for_message(network, nick, message) else {
+            let Some(caps) = client.caps_for_message(network, is_own, message) else {
                 continue;
             };
             match live.of(message, caps) {
