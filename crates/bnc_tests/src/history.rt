@@ -62,19 +62,39 @@ fn no_floor_is_due_for_a_redaction(rt: HostRuntime) -> Result<(), Fail> {
     Ok(())
 }
 
+// What refused a change, if it was refused.
+fn refusal_of(alloc: Global, state: &mut State, step: &Step) -> Result<Option<StateFault>, Fail> {
+    Ok(state.absorb(change_of(alloc, step)?).err())
+}
+
+// Whether a change says something new.
+fn is_new(alloc: Global, state: &mut State, step: &Step) -> Result<bool, Fail> {
+    Ok(state.absorb(change_of(alloc, step)?)?)
+}
+
 #[test]
 fn no_change_is_taken_past_the_last_number(rt: HostRuntime) -> Result<(), Fail> {
     let alloc = rt.alloc();
     let mut state = State::new_at(alloc, LAST);
-    let refused = state.absorb(change_of(alloc, &mark(b"#a", 0))?);
-    assert_eq!(rt; refused.err(), Some(StateFault::Exhausted));
-    let refused = state.absorb(change_of(alloc, &redact(b"#a", b"m1"))?);
-    assert_eq!(rt; refused.err(), Some(StateFault::Exhausted));
+    let refused = refusal_of(alloc, &mut state, &mark(b"#a", 0))?;
+    assert_eq!(rt; refused, Some(StateFault::Exhausted));
+    let refused = refusal_of(alloc, &mut state, &redact(b"#a", b"m1"))?;
+    assert_eq!(rt; refused, Some(StateFault::Exhausted));
     assert_eq!(rt; wrong_look_up(alloc, &mut state, &[])?, None);
-    assert!(rt; !state.absorb(change_of(alloc, &floor(b"#a", 0))?)?);
+    assert!(rt; !is_new(alloc, &mut state, &floor(b"#a", 0))?);
     assert_eq!(rt; wrong_look_up(alloc, &mut state, &[])?, None);
     assert_eq!(rt; state.front(), LAST);
     Ok(())
+}
+
+// What refused changes that were given at once.
+fn refusal_of_all(
+    alloc: Global,
+    state: &mut State,
+    steps: &[Step],
+) -> Result<Option<TakeFault>, Fail> {
+    let changes = changes_of(alloc, steps)?;
+    Ok(state.take(&changes).err())
 }
 
 #[test]
@@ -82,12 +102,11 @@ fn what_was_taken_before_the_last_number_stands(rt: HostRuntime) -> Result<(), F
     let alloc = rt.alloc();
     let mut state = State::new_at(alloc, LAST - 1);
     let steps = [mark(b"#a", 1000), message(b"#a", b"m1", 1000, b"a")];
-    let changes = changes_of(alloc, &steps)?;
-    let refused = state.take(&changes);
-    assert_eq!(rt; refused.err(), Some(EXHAUSTED_AFTER_1));
+    let refused = refusal_of_all(alloc, &mut state, &steps)?;
+    assert_eq!(rt; refused, Some(EXHAUSTED_AFTER_1));
     assert_eq!(rt; wrong_look_up(alloc, &mut state, &steps[..1])?, None);
-    let refused = state.take(&changes);
-    assert_eq!(rt; refused.err(), Some(EXHAUSTED_AFTER_1));
+    let refused = refusal_of_all(alloc, &mut state, &steps)?;
+    assert_eq!(rt; refused, Some(EXHAUSTED_AFTER_1));
     assert_eq!(rt; wrong_look_up(alloc, &mut state, &steps[..1])?, None);
     assert_eq!(rt; state.front(), LAST);
     Ok(())
