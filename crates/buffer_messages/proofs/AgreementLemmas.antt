@@ -12,7 +12,7 @@ use Rattle.chat_change.specs.Record.{Record}
 use Rattle.chat_change.specs.Order.{id_cmp}
 use Rattle.chat_change.proofs.CallerLemmas.{id_total, id_exact}
 use Rattle.chat_history.specs.Choice.{keep}
-use Rattle.chat_history.specs.Cut.{cut_cmp, cut_total, of_record}
+use Rattle.chat_history.specs.Cut.{spot_cmp, spot_total, of_record}
 use Rattle.chat_history.specs.declared.cut.Spot.{Spot}
 use Rattle.ordered_maps.specs.MapView.{IsSetTo}
 use Rattle.buffer_messages.specs.declared.standing.Standing.{Standing}
@@ -30,11 +30,11 @@ same_id_is a b e = id_exact a b ((Equal-is (id_cmp a b)).0 e)
 pub same_id_itself : (a : List ℕ) → same_id a a ≡ true
 same_id_itself a = ap is_eq (tied_itself id_total a)
 
-pub same_spot_is : (a b : Spot) → eq_by_cmp cut_cmp a b ≡ true → a ≡ b
-same_spot_is a b e = spot_exact a b ((Equal-is (cut_cmp a b)).0 e)
+pub same_spot_is : (a b : Spot) → eq_by_cmp spot_cmp a b ≡ true → a ≡ b
+same_spot_is a b e = spot_exact a b ((Equal-is (spot_cmp a b)).0 e)
 
-pub same_spot_itself : (a : Spot) → eq_by_cmp cut_cmp a a ≡ true
-same_spot_itself a = ap is_eq (tied_itself cut_total a)
+pub same_spot_itself : (a : Spot) → eq_by_cmp spot_cmp a a ≡ true
+same_spot_itself a = ap is_eq (tied_itself spot_total a)
 
 pub itself : (t : ℕ) → nat_eq t t ≡ true
 itself t = grind arith
@@ -48,14 +48,14 @@ some_apart id i e is = let j : i ≡ id = same_Some i id is in false≢true (sym
 -- ---- the maps after a change at one message
 
 module _ (files new : BySpot) (ids jds : ById) (id : List ℕ) (o : Option Standing)
-    (elsewhere : (q : Spot) → (q.id ≡ Some id → ⊥) → tree.get cut_cmp new q ≡ tree.get cut_cmp files q)
-    (here : (t : ℕ) → tree.get cut_cmp new (place t id) ≡ record_at t o)
+    (elsewhere : (q : Spot) → (q.id ≡ Some id → ⊥) → tree.get spot_cmp new q ≡ tree.get spot_cmp files q)
+    (here : (t : ℕ) → tree.get spot_cmp new (place t id) ≡ record_at t o)
     (bears : IfSome (kept_in o) (λ r. (r.id ≡ id) × (r.at ≤ greatest)))
     (stands : IsSetTo id_cmp ids id o jds) where
-  same_in : Agree files ids → (t : ℕ) (m : List ℕ) → tree.get cut_cmp new (place t m) ≡ record_at t (tree.get id_cmp jds m)
+  same_in : Agree files ids → (t : ℕ) (m : List ℕ) → tree.get spot_cmp new (place t m) ≡ record_at t (tree.get id_cmp jds m)
   same_in a t m =
-      elim (same_id id m) as (λ b. same_id id m ≡ b → tree.get cut_cmp new (place t m) ≡ record_at t (cond b o (tree.get id_cmp ids m))) [
-        | true ↦ λ e. subst (λ i. tree.get cut_cmp new (place t i) ≡ record_at t o) (same_id_is id m e) (here t)
+      elim (same_id id m) as (λ b. same_id id m ≡ b → tree.get spot_cmp new (place t m) ≡ record_at t (cond b o (tree.get id_cmp ids m))) [
+        | true ↦ λ e. subst (λ i. tree.get spot_cmp new (place t i) ≡ record_at t o) (same_id_is id m e) (here t)
         | false ↦ λ e. elsewhere (place t m) (some_apart id m e) ∙ a.same t m
       ] refl
       ∙ ap (record_at t) (sym (stands m))
@@ -77,7 +77,7 @@ module _ (files new : BySpot) (ids jds : ById) (id : List ℕ) (o : Option Stand
 
 -- ---- the maps where nothing has changed
 
-pub agree_alike : (files new : BySpot) (ids jds : ById) → ((q : Spot) → tree.get cut_cmp new q ≡ tree.get cut_cmp files q) → ((m : List ℕ) → tree.get id_cmp jds m ≡ tree.get id_cmp ids m) → Agree files ids → Agree new jds
+pub agree_alike : (files new : BySpot) (ids jds : ById) → ((q : Spot) → tree.get spot_cmp new q ≡ tree.get spot_cmp files q) → ((m : List ℕ) → tree.get id_cmp jds m ≡ tree.get id_cmp ids m) → Agree files ids → Agree new jds
 agree_alike files new ids jds e f a = record {
   none = λ t. e (record { at = t; id = None }) ∙ a.none t;
   same = λ t m. e (place t m) ∙ a.same t m ∙ ap (record_at t) (sym (f m));
@@ -98,10 +98,10 @@ elsewhere_none t u None e f = cc e
 elsewhere_none t u (Some r) e f = let is : r.at ≡ u = same_Some r.at u e in ap (λ b. cond b (Some r) None) (ap (nat_eq t) is ∙ f)
 
 module _ (files : BySpot) (ids : ById) (a : Agree files ids) (id : List ℕ) where
-  pub unkept_none : kept_moment (tree.get id_cmp ids id) ≡ None → (t : ℕ) → tree.get cut_cmp files (place t id) ≡ None
+  pub unkept_none : kept_moment (tree.get id_cmp ids id) ≡ None → (t : ℕ) → tree.get spot_cmp files (place t id) ≡ None
   unkept_none e t = a.same t id ∙ no_record t (kept_in (tree.get id_cmp ids id)) e
 
-  pub kept_elsewhere : (u : ℕ) → kept_moment (tree.get id_cmp ids id) ≡ Some u → (t : ℕ) → nat_eq t u ≡ false → tree.get cut_cmp files (place t id) ≡ None
+  pub kept_elsewhere : (u : ℕ) → kept_moment (tree.get id_cmp ids id) ≡ Some u → (t : ℕ) → nat_eq t u ≡ false → tree.get spot_cmp files (place t id) ≡ None
   kept_elsewhere u e t f = a.same t id ∙ elsewhere_none t u (kept_in (tree.get id_cmp ids id)) e f
 
 -- ---- the message of a record that stands somewhere
@@ -114,13 +114,13 @@ kept_here t r (Some s) e =
       | false ↦ λ g f. cc f
     ] refl e
 
-module _ (files : BySpot) (ids : ById) (a : Agree files ids) (k : Spot) (r : Record) (is : tree.get cut_cmp files k ≡ Some r) where
+module _ (files : BySpot) (ids : ById) (a : Agree files ids) (k : Spot) (r : Record) (is : tree.get spot_cmp files k ≡ Some r) where
   with_id : (o : Option (List ℕ)) → k.id ≡ o → (k ≡ of_record r) × (kept_in (tree.get id_cmp ids r.id) ≡ Some r)
   with_id None e =
-      let none : tree.get cut_cmp files k ≡ None = (λ i. tree.get cut_cmp files (record { at = k.at; id = e i })) ∙ a.none k.at in
+      let none : tree.get spot_cmp files k ≡ None = (λ i. tree.get spot_cmp files (record { at = k.at; id = e i })) ∙ a.none k.at in
       cc (none, is)
   with_id (Some m) e =
-      let there : tree.get cut_cmp files (place k.at m) ≡ Some r = (λ i. tree.get cut_cmp files (record { at = k.at; id = sym e i })) ∙ is in
+      let there : tree.get spot_cmp files (place k.at m) ≡ Some r = (λ i. tree.get spot_cmp files (record { at = k.at; id = sym e i })) ∙ is in
       let both = kept_here k.at r (kept_in (tree.get id_cmp ids m)) (sym (a.same k.at m) ∙ there) in
       let bears = subst (λ o. IfSome o (λ x. (x.id ≡ m) × (x.at ≤ greatest))) both.0 (a.bears m) in (
         (λ i. record { at = sym both.1 i; id = (e ∙ ap Some (sym bears.0)) i }),
@@ -134,39 +134,39 @@ module _ (files : BySpot) (ids : ById) (a : Agree files ids) (k : Spot) (r : Rec
   its_message = (with_id k.id refl).1
 
 -- a kept record stands where it is filed
-pub kept_stands : (files : BySpot) (ids : ById) → Agree files ids → (m : List ℕ) (r : Record) → kept_in (tree.get id_cmp ids m) ≡ Some r → (r.id ≡ m) × (tree.get cut_cmp files (of_record r) ≡ Some r)
+pub kept_stands : (files : BySpot) (ids : ById) → Agree files ids → (m : List ℕ) (r : Record) → kept_in (tree.get id_cmp ids m) ≡ Some r → (r.id ≡ m) × (tree.get spot_cmp files (of_record r) ≡ Some r)
 kept_stands files ids a m r e =
     let bears = subst (λ o. IfSome o (λ x. (x.id ≡ m) × (x.at ≤ greatest))) e (a.bears m) in
-    (bears.0, ap (λ i. tree.get cut_cmp files (place r.at i)) bears.0 ∙ a.same r.at m ∙ ap (keep (λ (x : Record). nat_eq r.at x.at)) e ∙ ap (λ b. cond b (Some r) None) (itself r.at))
+    (bears.0, ap (λ i. tree.get spot_cmp files (place r.at i)) bears.0 ∙ a.same r.at m ∙ ap (keep (λ (x : Record). nat_eq r.at x.at)) e ∙ ap (λ b. cond b (Some r) None) (itself r.at))
 
 pub kept_small : (files : BySpot) (ids : ById) → Agree files ids → (m : List ℕ) (r : Record) → kept_in (tree.get id_cmp ids m) ≡ Some r → r.at ≤ greatest
 kept_small files ids a m r e = (subst (λ o. IfSome o (λ x. (x.id ≡ m) × (x.at ≤ greatest))) e (a.bears m)).1
 
 -- ---- two spots of one message
 
-pub same_place : (t u : ℕ) (id : List ℕ) → eq_by_cmp cut_cmp (place t id) (place u id) ≡ nat_eq t u
+pub same_place : (t u : ℕ) (id : List ℕ) → eq_by_cmp spot_cmp (place t id) (place u id) ≡ nat_eq t u
 same_place t u id =
-    elim (nat_eq t u) as (λ b. nat_eq t u ≡ b → eq_by_cmp cut_cmp (place t id) (place u id) ≡ b) [
-      | true ↦ λ e. let is : t ≡ u = grind (arith, e) in ap (λ x. eq_by_cmp cut_cmp (place t id) (place x id)) (sym is) ∙ same_spot_itself (place t id)
-      | false ↦ λ e. not_same (eq_by_cmp cut_cmp (place t id) (place u id)) refl e
+    elim (nat_eq t u) as (λ b. nat_eq t u ≡ b → eq_by_cmp spot_cmp (place t id) (place u id) ≡ b) [
+      | true ↦ λ e. let is : t ≡ u = grind (arith, e) in ap (λ x. eq_by_cmp spot_cmp (place t id) (place x id)) (sym is) ∙ same_spot_itself (place t id)
+      | false ↦ λ e. not_same (eq_by_cmp spot_cmp (place t id) (place u id)) refl e
     ] refl
   where
-    not_same : (b : Bool) → eq_by_cmp cut_cmp (place t id) (place u id) ≡ b → nat_eq t u ≡ false → b ≡ false
+    not_same : (b : Bool) → eq_by_cmp spot_cmp (place t id) (place u id) ≡ b → nat_eq t u ≡ false → b ≡ false
     not_same true f e = let is : t ≡ u = ap (λ (s : Spot). s.at) (same_spot_is (place t id) (place u id) f) in grind (arith, e, is)
     not_same false f e = refl
 
-pub apart_spot : (k q : Spot) (id : List ℕ) → k.id ≡ Some id → (q.id ≡ Some id → ⊥) → eq_by_cmp cut_cmp k q ≡ false
-apart_spot k q id is n = not_same (eq_by_cmp cut_cmp k q) refl
+pub apart_spot : (k q : Spot) (id : List ℕ) → k.id ≡ Some id → (q.id ≡ Some id → ⊥) → eq_by_cmp spot_cmp k q ≡ false
+apart_spot k q id is n = not_same (eq_by_cmp spot_cmp k q) refl
   where
-    not_same : (b : Bool) → eq_by_cmp cut_cmp k q ≡ b → b ≡ false
+    not_same : (b : Bool) → eq_by_cmp spot_cmp k q ≡ b → b ≡ false
     not_same true f = absurd (n (ap (λ (s : Spot). s.id) (sym (same_spot_is k q f)) ∙ is))
     not_same false f = refl
 
 -- ---- changes of the map of records at places of one message
 
 module _ (m n : BySpot) (v : Option Record) where
-  pub set_elsewhere : (k : Spot) (id : List ℕ) → k.id ≡ Some id → IsSetTo cut_cmp m k v n → (q : Spot) → (q.id ≡ Some id → ⊥) → tree.get cut_cmp n q ≡ tree.get cut_cmp m q
-  set_elsewhere k id is up q apart = up q ∙ ap (λ b. cond b v (tree.get cut_cmp m q)) (apart_spot k q id is apart)
+  pub set_elsewhere : (k : Spot) (id : List ℕ) → k.id ≡ Some id → IsSetTo spot_cmp m k v n → (q : Spot) → (q.id ≡ Some id → ⊥) → tree.get spot_cmp n q ≡ tree.get spot_cmp m q
+  set_elsewhere k id is up q apart = up q ∙ ap (λ b. cond b v (tree.get spot_cmp m q)) (apart_spot k q id is apart)
 
-  pub set_here : (u : ℕ) (id : List ℕ) → IsSetTo cut_cmp m (place u id) v n → (t : ℕ) → tree.get cut_cmp n (place t id) ≡ cond (nat_eq t u) v (tree.get cut_cmp m (place t id))
-  set_here u id up t = up (place t id) ∙ ap (λ b. cond b v (tree.get cut_cmp m (place t id))) (same_place u t id ∙ turned t u)
+  pub set_here : (u : ℕ) (id : List ℕ) → IsSetTo spot_cmp m (place u id) v n → (t : ℕ) → tree.get spot_cmp n (place t id) ≡ cond (nat_eq t u) v (tree.get spot_cmp m (place t id))
+  set_here u id up t = up (place t id) ∙ ap (λ b. cond b v (tree.get spot_cmp m (place t id))) (same_place u t id ∙ turned t u)

@@ -3,7 +3,7 @@ use Rattle.std.proofs.Common.{◌≡◌, ◌≢◌, refl, sym, ◌∙◌, ap, su
 use Rattle.std.proofs.lemmas.Bool.{false≢true}
 use Rattle.std.proofs.lemmas.Option.{same_Some}
 use Rattle.std.specs.declared.cmp.Ordering.{Ordering}
-use Rattle.std.specs.Ordering.{is_gt, ordering_then, nat_cmp}
+use Rattle.std.specs.Ordering.{is_gt, ordering_then, nat_cmp, is_lt}
 use Rattle.std.specs.Option.{IsSome, IfSome, option_map}
 use Rattle.std.specs.Map.{lookup}
 use Rattle.std.specs.BTreeMap as tree
@@ -12,7 +12,7 @@ use Rattle.irc_time.specs.Time.{greatest}
 use Rattle.chat_change.specs.Record.{Record}
 use Rattle.chat_change.specs.Order.{id_cmp}
 use Rattle.chat_change.proofs.CallerLemmas.{id_total}
-use Rattle.chat_history.specs.Cut.{cut_cmp, of_record}
+use Rattle.chat_history.specs.Cut.{spot_cmp, of_record}
 use Rattle.chat_history.specs.declared.cut.Spot.{Spot}
 use Rattle.ordered_maps.specs.MapView.{held_by, IsSetTo, IsWith, IsWithout}
 use Rattle.ordered_maps.proofs.CallerLemmas.{get-held_by, unchanged}
@@ -20,6 +20,7 @@ use Rattle.buffer_messages.specs.declared.standing.Standing.{Standing}
 use Rattle.buffer_messages.specs.declared.standing.Standing.TheVariants.{Kept, Gone}
 use Rattle.buffer_messages.specs.Messages.{Messages, kept_in, kept_moment, number_of, IsFrom}
 use Rattle.buffer_messages.specs.Agreement.{BySpot, ById, place, Agree}
+use Rattle.buffer_messages.proofs.SpotLemmas.{before_turned}
 use Rattle.buffer_messages.proofs.AgreementLemmas.{agree_alike, same_id, same_id_is, settled, unkept_none, kept_elsewhere, its_place, its_message, kept_stands, set_elsewhere, set_here}
 
 -- what is held of a message, as it is found
@@ -44,11 +45,11 @@ put_back ids jds kds id x o up back was q =
 
 -- ---- a record comes to its place
 
-module _ (m n : BySpot) (ids : ById) (a : Agree m ids) (r : Record) (fits : r.at ≤ greatest) (up : IsWith cut_cmp m (of_record r) r n) where
-  there : (t : ℕ) → tree.get cut_cmp n (place t r.id) ≡ cond (nat_eq t r.at) (Some r) (tree.get cut_cmp m (place t r.id))
+module _ (m n : BySpot) (ids : ById) (a : Agree m ids) (r : Record) (fits : r.at ≤ greatest) (up : IsWith spot_cmp m (of_record r) r n) where
+  there : (t : ℕ) → tree.get spot_cmp n (place t r.id) ≡ cond (nat_eq t r.at) (Some r) (tree.get spot_cmp m (place t r.id))
   there = set_here m n (Some r) r.at r.id up
 
-  lands : (q : Spot) → (q.id ≡ Some r.id → ⊥) → tree.get cut_cmp n q ≡ tree.get cut_cmp m q
+  lands : (q : Spot) → (q.id ≡ Some r.id → ⊥) → tree.get spot_cmp n q ≡ tree.get spot_cmp m q
   lands = set_elsewhere m n (Some r) (of_record r) r.id refl up
 
   module _ (jds : ById) (number : ℕ) (stands : IsWith id_cmp ids r.id (Kept r number) jds) where
@@ -62,14 +63,14 @@ module _ (m n : BySpot) (ids : ById) (a : Agree m ids) (r : Record) (fits : r.at
     pub same_agree : kept_moment (tree.get id_cmp ids r.id) ≡ Some r.at → Agree n jds
     same_agree kept =
         settled m n ids jds r.id (Some (Kept r number)) lands
-        (λ t. there t ∙ elim (nat_eq t r.at) as (λ b. nat_eq t r.at ≡ b → cond b (Some r) (tree.get cut_cmp m (place t r.id)) ≡ cond b (Some r) None) [
+        (λ t. there t ∙ elim (nat_eq t r.at) as (λ b. nat_eq t r.at ≡ b → cond b (Some r) (tree.get spot_cmp m (place t r.id)) ≡ cond b (Some r) None) [
           | true ↦ λ _. refl
           | false ↦ λ e. kept_elsewhere m ids a r.id r.at kept t e
         ] refl) (refl, fits) stands a
 
     -- another record at another moment, from which the old one was taken out
-    module _ (u : BySpot) (before : ℕ) (apart : nat_eq before r.at ≡ false) (out : IsWithout cut_cmp n (place before r.id) u) where
-      no_longer : (t : ℕ) (x y : Bool) → nat_eq t before ≡ x → nat_eq t r.at ≡ y → (nat_eq t before ≡ false → tree.get cut_cmp m (place t r.id) ≡ None) → cond x None (cond y (Some r) (tree.get cut_cmp m (place t r.id))) ≡ cond y (Some r) None
+    module _ (u : BySpot) (before : ℕ) (apart : nat_eq before r.at ≡ false) (out : IsWithout spot_cmp n (place before r.id) u) where
+      no_longer : (t : ℕ) (x y : Bool) → nat_eq t before ≡ x → nat_eq t r.at ≡ y → (nat_eq t before ≡ false → tree.get spot_cmp m (place t r.id) ≡ None) → cond x None (cond y (Some r) (tree.get spot_cmp m (place t r.id))) ≡ cond y (Some r) None
       no_longer t true true e f h = absurd (false≢true (sym apart ∙ grind (arith, e, f)))
       no_longer t true false e f h = refl
       no_longer t false true e f h = refl
@@ -83,11 +84,11 @@ module _ (m n : BySpot) (ids : ById) (a : Agree m ids) (r : Record) (fits : r.at
           ∙ no_longer t (nat_eq t before) (nat_eq t r.at) refl refl (λ e. kept_elsewhere m ids a r.id before kept t e)) (refl, fits) stands a
 
     -- the old record left its place, where that was another one
-    pub left_agree : (u : BySpot) (o : Option ℕ) → kept_moment (tree.get id_cmp ids r.id) ≡ o → (o ≡ None → u.entries ≡ n.entries) → (o ≡ Some r.at → u.entries ≡ n.entries) → IfSome o (λ t. t ≢ r.at → IsWithout cut_cmp n (place t r.id) u) → Agree u jds
-    left_agree u None kept first same moved = agree_alike n u jds jds (unchanged cut_cmp n u (first refl)) (λ _. refl) (first_agree kept)
+    pub left_agree : (u : BySpot) (o : Option ℕ) → kept_moment (tree.get id_cmp ids r.id) ≡ o → (o ≡ None → u.entries ≡ n.entries) → (o ≡ Some r.at → u.entries ≡ n.entries) → IfSome o (λ t. t ≢ r.at → IsWithout spot_cmp n (place t r.id) u) → Agree u jds
+    left_agree u None kept first same moved = agree_alike n u jds jds (unchanged spot_cmp n u (first refl)) (λ _. refl) (first_agree kept)
     left_agree u (Some t) kept first same moved =
         elim (nat_eq t r.at) as (λ b. nat_eq t r.at ≡ b → Agree u jds) [
-          | true ↦ λ e. let is : t ≡ r.at = grind (arith, e) in agree_alike n u jds jds (unchanged cut_cmp n u (same (ap Some is))) (λ _. refl) (same_agree (kept ∙ ap Some is))
+          | true ↦ λ e. let is : t ≡ r.at = grind (arith, e) in agree_alike n u jds jds (unchanged spot_cmp n u (same (ap Some is))) (λ _. refl) (same_agree (kept ∙ ap Some is))
           | false ↦ λ e. moved_agree u t e (moved (λ is. let yes : nat_eq t r.at ≡ true = grind (arith, is) in false≢true (sym e ∙ yes))) kept
         ] refl
 
@@ -99,11 +100,11 @@ module _ (m : BySpot) (ids jds : ById) (a : Agree m ids) (id : List ℕ) (at : O
   noted_agree none = settled m m ids jds id (Some (Gone at number)) (λ q _. refl) (unkept_none m ids a id none) tt stands a
 
   -- whose record is taken out
-  pub gone_agree : (u : BySpot) (stood : ℕ) → kept_moment (tree.get id_cmp ids id) ≡ Some stood → IsWithout cut_cmp m (place stood id) u → Agree u jds
+  pub gone_agree : (u : BySpot) (stood : ℕ) → kept_moment (tree.get id_cmp ids id) ≡ Some stood → IsWithout spot_cmp m (place stood id) u → Agree u jds
   gone_agree u stood kept out =
       settled m u ids jds id (Some (Gone at number)) (set_elsewhere m u None (place stood id) id refl out)
       (λ t. set_here m u None stood id out t
-      ∙ elim (nat_eq t stood) as (λ b. nat_eq t stood ≡ b → cond b None (tree.get cut_cmp m (place t id)) ≡ None) [
+      ∙ elim (nat_eq t stood) as (λ b. nat_eq t stood ≡ b → cond b None (tree.get spot_cmp m (place t id)) ≡ None) [
         | true ↦ λ _. refl
         | false ↦ λ e. kept_elsewhere m ids a id stood kept t e
       ] refl) tt stands a
@@ -113,15 +114,15 @@ module _ (m : BySpot) (ids jds : ById) (a : Agree m ids) (id : List ℕ) (at : O
 moment_of : (o : Option Record) (r : Record) → o ≡ Some r → option_map (λ (x : Record). x.at) o ≡ Some r.at
 moment_of o r e = ap (option_map (λ (x : Record). x.at)) e
 
-module _ (m u : BySpot) (ids jds : ById) (a : Agree m ids) (k : Spot) (r : Record) (is : tree.get cut_cmp m k ≡ Some r)
-    (out : IsWithout cut_cmp m k u) (stands : IsWithout id_cmp ids r.id jds) where
+module _ (m u : BySpot) (ids jds : ById) (a : Agree m ids) (k : Spot) (r : Record) (is : tree.get spot_cmp m k ≡ Some r)
+    (out : IsWithout spot_cmp m k u) (stands : IsWithout id_cmp ids r.id jds) where
   pub taken_agree : Agree u jds
   taken_agree =
-      let out' = subst (λ s. IsWithout cut_cmp m s u) (its_place m ids a k r is) out in
+      let out' = subst (λ s. IsWithout spot_cmp m s u) (its_place m ids a k r is) out in
       let kept = moment_of (kept_in (tree.get id_cmp ids r.id)) r (its_message m ids a k r is) in
       settled m u ids jds r.id None (set_elsewhere m u None (of_record r) r.id refl out')
       (λ t. set_here m u None r.at r.id out' t
-      ∙ elim (nat_eq t r.at) as (λ b. nat_eq t r.at ≡ b → cond b None (tree.get cut_cmp m (place t r.id)) ≡ None) [
+      ∙ elim (nat_eq t r.at) as (λ b. nat_eq t r.at ≡ b → cond b None (tree.get spot_cmp m (place t r.id)) ≡ None) [
         | true ↦ λ _. refl
         | false ↦ λ e. kept_elsewhere m ids a r.id r.at kept t e
       ] refl) tt stands a
@@ -141,18 +142,22 @@ module _ (m u : BySpot) (ids jds : ById) (a : Agree m ids) (k : Spot) (r : Recor
 
 -- ---- what no floor takes
 
-pub not_after : (a b : ℕ) (o : Ordering) → is_gt (ordering_then (nat_cmp a b) o) ≡ false → a ≤ b
-not_after a b o h = grind (arith, h)
+not_above : (a b : ℕ) (o : Ordering) → is_gt (ordering_then (nat_cmp a b) o) ≡ false → a ≤ b
+not_above a b o h = grind (arith, h)
+
+-- a spot that stands nowhere before another has no later moment
+pub not_after : (s t : Spot) → is_lt (spot_cmp s t) ≡ false → s.at ≤ t.at
+not_after s t h = not_above s.at t.at _ (sym (before_turned t s) ∙ h)
 
 module _ (m : BySpot) (ids : ById) (a : Agree m ids) (f : ℕ) where
-  -- the least spot is at or above the floor, and so is each record
-  pub from_least : (k : Spot) → tree.IsLowerBound cut_cmp m k → f ≤ k.at → IsFrom f (held_by ids)
-  from_least k least h i r e =
+  -- the last spot, which is the earliest, is at or above the floor, and so is each record
+  pub from_last : (k : Spot) → tree.IsUpperBound spot_cmp m k → f ≤ k.at → IsFrom f (held_by ids)
+  from_last k last h i r e =
       let stands = (kept_stands m ids a i r (ap kept_in (sym (get-held_by id_total ids i)) ∙ e)).1 in
-      let up : k.at ≤ r.at = not_after k.at r.at _ (least (of_record r) (ap is_some stands)) in
+      let up : k.at ≤ r.at = not_after k (of_record r) (last (of_record r) (ap is_some stands)) in
       omega (arith, up, h)
 
-  found_in : (q : Spot) (es : List (Spot × Record)) → IsSome (lookup (tree.is_at (cut_cmp q)) es) → 0 < length es
+  found_in : (q : Spot) (es : List (Spot × Record)) → IsSome (lookup (tree.is_at (spot_cmp q)) es) → 0 < length es
   found_in q [] h = absurd (false≢true h)
   found_in q (e ∷ es) h = omega arith
 

@@ -6,7 +6,7 @@ use Rattle.irc_time.specs.Time.{greatest}
 use Rattle.chat_change.specs.Record.{Record}
 use Rattle.chat_change.specs.Order.{id_cmp}
 use Rattle.chat_history.specs.Choice.{keep}
-use Rattle.chat_history.specs.Cut.{cut_cmp}
+use Rattle.chat_history.specs.Cut.{spot_cmp}
 use Rattle.chat_history.specs.declared.cut.Spot.{Spot}
 use Rattle.buffer_messages.specs.Messages.{kept_in}
 use Rattle.buffer_messages.specs.declared.standing.Standing.{Standing}
@@ -28,10 +28,10 @@ record_at t o = keep (λ (r : Record). nat_eq t r.at) (kept_in o)
 
 pub record Agree (files : BySpot) (ids : ById) : Type 0 where
   -- no record stands at a place without an id
-  pub none : (t : ℕ) → tree.get cut_cmp files (record { at = t; id = None }) ≡ None
+  pub none : (t : ℕ) → tree.get spot_cmp files (record { at = t; id = None }) ≡ None
   -- a message has its kept record where that stands, and none elsewhere
   pub same : (t : ℕ) (m : List ℕ) →
-      tree.get cut_cmp files (place t m) ≡ record_at t (tree.get id_cmp ids m)
+      tree.get spot_cmp files (place t m) ≡ record_at t (tree.get id_cmp ids m)
   -- a kept record is under its own id, and its moment is at most the greatest there is
   pub bears : (m : List ℕ) →
       IfSome (kept_in (tree.get id_cmp ids m)) (λ r. (r.id ≡ m) × (r.at ≤ greatest))

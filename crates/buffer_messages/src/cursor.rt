@@ -27,13 +27,13 @@ pub struct Up<'a> {
 }
 
 impl<'a> Model for Up<'a> {
-    ghost use Rattle.std.specs.Prelude.{List};
+    ghost use Rattle.std.specs.Prelude.{List, reverse};
     ghost use Rattle.chat_change.specs.Record as spec;
     ghost use Rattle.buffer_messages.specs.Cursor.{records_of};
 
     ghost Value = { List spec.Record };
 
-    ghost view = { λ u. records_of u.range };
+    ghost view = { λ u. reverse (records_of u.range) };
 }
 
 impl<'a> Up<'a> {
@@ -45,62 +45,13 @@ impl<'a> Up<'a> {
     }
 
     fn over(range: Range<'a, Spot, Record>) -> Up<'a>
-        ensures { result ≡ values_of range.entry }
+        ensures { result ≡ reverse (values_of range.entry) }
     {
         Up { range: Some(range) }
     }
 }
 
 impl<'a> Iterator for Up<'a> {
-    type Item = &'a Record;
-
-    ghost next_gives = { TakesFirst deref };
-
-    ghost remaining = { λ s. at_most (length s) };
-
-    fn next(&mut self) -> Option<&'a Record> {
-        let Some(range) = &mut self.range else {
-            return None;
-        };
-        match range.next() {
-            Some((_, post)) => Some(post),
-            None => None,
-        }
-    }
-}
-
-/// Records by falling (moment, id). It is seen as the list of what is left, in the order in which it comes.
-#[derive(Drop)]
-pub struct Down<'a> {
-    range: Option<Range<'a, Spot, Record>>,
-}
-
-impl<'a> Model for Down<'a> {
-    ghost use Rattle.std.specs.Prelude.{List, reverse};
-    ghost use Rattle.chat_change.specs.Record as spec;
-    ghost use Rattle.buffer_messages.specs.Cursor.{records_of};
-
-    ghost Value = { List spec.Record };
-
-    ghost view = { λ d. reverse (records_of d.range) };
-}
-
-impl<'a> Down<'a> {
-    /// No records.
-    pub fn empty() -> Down<'a>
-        ensures { result ≡ [] }
-    {
-        Down { range: None }
-    }
-
-    fn over(range: Range<'a, Spot, Record>) -> Down<'a>
-        ensures { result ≡ reverse (values_of range.entry) }
-    {
-        Down { range: Some(range) }
-    }
-}
-
-impl<'a> Iterator for Down<'a> {
     type Item = &'a Record;
 
     ghost next_gives = { TakesFirst deref };
@@ -118,12 +69,61 @@ impl<'a> Iterator for Down<'a> {
     }
 }
 
+/// Records by falling (moment, id). It is seen as the list of what is left, in the order in which it comes.
+#[derive(Drop)]
+pub struct Down<'a> {
+    range: Option<Range<'a, Spot, Record>>,
+}
+
+impl<'a> Model for Down<'a> {
+    ghost use Rattle.std.specs.Prelude.{List};
+    ghost use Rattle.chat_change.specs.Record as spec;
+    ghost use Rattle.buffer_messages.specs.Cursor.{records_of};
+
+    ghost Value = { List spec.Record };
+
+    ghost view = { λ d. records_of d.range };
+}
+
+impl<'a> Down<'a> {
+    /// No records.
+    pub fn empty() -> Down<'a>
+        ensures { result ≡ [] }
+    {
+        Down { range: None }
+    }
+
+    fn over(range: Range<'a, Spot, Record>) -> Down<'a>
+        ensures { result ≡ values_of range.entry }
+    {
+        Down { range: Some(range) }
+    }
+}
+
+impl<'a> Iterator for Down<'a> {
+    type Item = &'a Record;
+
+    ghost next_gives = { TakesFirst deref };
+
+    ghost remaining = { λ s. at_most (length s) };
+
+    fn next(&mut self) -> Option<&'a Record> {
+        let Some(range) = &mut self.range else {
+            return None;
+        };
+        match range.next() {
+            Some((_, post)) => Some(post),
+            None => None,
+        }
+    }
+}
+
 impl Messages {
     /// The first kept record, by (moment, id).
     pub fn first(&self) -> Option<&Record>
         ensures { IsFirstKept self.now (option_map deref result) }
     {
-        match self.by_spot.first_key_value() {
+        match self.by_spot.last_key_value() {
             Some((_, post)) => Some(post),
             None => None,
         }
@@ -168,7 +168,7 @@ impl Messages {
         ensures { AreKept by_spot
             (is_from (bound_map (λ s. s.now) start.entry)) self.now result }
     {
-        Up::over(self.by_spot.range((start, Bound::Unbounded)))
+        Up::over(self.by_spot.range((Bound::Unbounded, start)))
     }
 
     // The records up to a bound, the last first.
@@ -176,7 +176,7 @@ impl Messages {
         ensures { AreKept (flip_args by_spot)
             (is_until (bound_map (λ s. s.now) end.entry)) self.now result }
     {
-        Down::over(self.by_spot.range((Bound::Unbounded, end)))
+        Down::over(self.by_spot.range((end, Bound::Unbounded)))
     }
 
     // The records at a moment or later.

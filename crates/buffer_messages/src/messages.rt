@@ -7,7 +7,7 @@ ghost use Rattle.std.specs.BTreeMap as tree;
 ghost use Rattle.std.specs.Map.Iter.{deref};
 ghost use Rattle.chat_change.specs.Order.{id_cmp};
 ghost use Rattle.std.specs.Option.{option_map};
-ghost use Rattle.chat_history.specs.Cut.{of_record, cut_cmp};
+ghost use Rattle.chat_history.specs.Cut.{of_record, spot_cmp};
 ghost use Rattle.ordered_maps.specs.MapView.{IsSetTo, IsWithout};
 ghost use Rattle.buffer_messages.specs.Agreement.{place};
 ghost use Rattle.buffer_messages.specs.Messages as spec;
@@ -26,7 +26,7 @@ use std::marker::Model;
 #[derive(Drop)]
 pub struct Messages {
     pub(crate) by_id: BTreeMap<MsgId, Standing>,
-    // the kept records, by where they stand
+    // the kept records, by where they stand, the latest first
     pub(crate) by_spot: BTreeMap<Spot, Record>,
 }
 
@@ -226,14 +226,14 @@ impl Messages {
         ensures done { result ≡ None → spec.IsFrom floor self.new }
         ensures kept { result ≡ None → self.new ≡ self.old }
     {
-        let at = match self.by_spot.first_key_value() {
+        let at = match self.by_spot.last_key_value() {
             Some((spot, _)) => spot.at,
             None => return None,
         };
         if at.ms() >= floor.ms() {
             return None;
         }
-        let (spot, post) = self.by_spot.pop_first()?;
+        let (spot, post) = self.by_spot.pop_last()?;
         discard(spot);
         let number = number_of(&self.by_id, post.id());
         take_out(&mut self.by_id, post.id());
@@ -276,7 +276,7 @@ fn leave_place(by_spot: &mut BTreeMap<Spot, Record>, before: Option<Moment>, id:
     ensures first { before ≡ None → by_spot.new.entries ≡ by_spot.old.entries }
     ensures same { before ≡ Some at → by_spot.new.entries ≡ by_spot.old.entries }
     ensures moved { IfSome before (λ t. t ≢ at →
-        IsWithout cut_cmp by_spot.old (place t id) by_spot.new) }
+        IsWithout spot_cmp by_spot.old (place t id) by_spot.new) }
 {
     match before {
         Some(before) if before.ms() != at.ms() => {

@@ -1,9 +1,9 @@
 -- Spots, and cuts between the records of a buffer.
 use Rattle.std.specs.Prelude.{Bool, true, false, not, Some, List, filter, nat_lt, nat_le}
 use Rattle.std.specs.declared.cmp.Ordering.{Ordering}
-use Rattle.std.specs.Ordering.{nat_cmp, on, then_cmp, is_lt, is_le}
+use Rattle.std.specs.Ordering.{nat_cmp, on, then_cmp, flip_args, is_lt, is_le}
 use Rattle.std.specs.Option.{option_cmp}
-use Rattle.std.specs.Cmp.{IsTotalOrder, then_total, on_total, nat_cmp_total}
+use Rattle.std.specs.Cmp.{IsTotalOrder, back_total, then_total, on_total, nat_cmp_total}
 use Rattle.std.specs.Cmp.Lexicographic.{lists_total, options_total}
 use Rattle.chat_change.specs.Record.{Record}
 use Rattle.chat_change.specs.Order.{text_cmp}
@@ -19,6 +19,13 @@ pub cut_total : IsTotalOrder cut_cmp
 cut_total =
     then_total (on_total (λ (s : Spot). s.at) nat_cmp_total)
     (on_total (λ (s : Spot). s.id) (options_total (lists_total nat_cmp_total)))
+
+-- spots as keys of a map, the latest first
+abbrev pub spot_cmp : Spot → Spot → Ordering
+spot_cmp = flip_args cut_cmp
+
+pub spot_total : IsTotalOrder spot_cmp
+spot_total = back_total cut_total
 
 -- where a record stands
 abbrev pub of_record : Record → Spot

@@ -4,7 +4,7 @@ ghost use Rattle.std.specs.Prelude.{◌≡◌};
 ghost use Rattle.std.proofs.Common.{rules};
 ghost use Rattle.std.specs.Cmp.Rules.{comparing};
 ghost use Rattle.std.specs.Ordering.{as_partial_cmp, eq_by_cmp};
-ghost use Rattle.chat_history.specs.Cut.{cut_cmp, cut_total, of_record, is_after};
+ghost use Rattle.chat_history.specs.Cut.{cut_cmp, spot_cmp, spot_total, of_record, is_after};
 
 use chat_change::{Moment, MsgId, Record};
 use std::alloc::AllocError;
@@ -81,40 +81,42 @@ impl Spot {
 }
 
 impl PartialEq for Spot {
-    ghost eq = { eq_by_cmp cut_cmp };
+    ghost eq = { eq_by_cmp spot_cmp };
 
-    ghost laws = { Prim.search (comparing, cut_total, rules) };
+    ghost laws = { Prim.search (comparing, spot_total, rules) };
 
     fn eq(&self, other: &Spot) -> bool {
-        self.order(other).is_eq()
+        self.cmp(other).is_eq()
     }
 }
 
 impl Eq for Spot {
-    ghost laws = { Prim.search (comparing, cut_total, rules) };
+    ghost laws = { Prim.search (comparing, spot_total, rules) };
 }
 
 impl PartialOrd for Spot {
-    ghost partial_cmp = { as_partial_cmp cut_cmp };
+    ghost partial_cmp = { as_partial_cmp spot_cmp };
 
-    ghost laws = { Prim.search (comparing, cut_total, rules) };
+    ghost laws = { Prim.search (comparing, spot_total, rules) };
 
     fn partial_cmp(&self, other: &Spot) -> Option<Ordering> {
         Some(self.cmp(other))
     }
 }
 
+/// The latest spot comes first. Most messages come in the order of their moments, and a map looks at its first keys first:
+/// so the place of a new one is found at once.
 impl Ord for Spot {
-    ghost cmp = { cut_cmp };
+    ghost cmp = { spot_cmp };
 
-    ghost total = { Prim.search (comparing, cut_total, rules) };
+    ghost total = { Prim.search (comparing, spot_total, rules) };
 
     ghost matches_partial_cmp = { Prim.search (comparing, rules) };
 
     ghost matches_eq = { Prim.search (comparing, rules) };
 
     fn cmp(&self, other: &Spot) -> Ordering {
-        self.order(other)
+        other.order(self)
     }
 }
 

@@ -7,7 +7,7 @@ use Rattle.buffer_messages.proofs.messages.Messages.first.Goals as goal
 pub returns-in-Some : goal.returns-in-Some
 returns-in-Some c =
     subst (λ (ms : Messages). IsFirstKept ms (Some c.in-Some.post.now)) c.self.view_is
-    (first_is c.self.inside.by_spot c.self.inside.by_id c.self.invariant c.in-Some.field-0-0.now c.in-Some.post.now c.in-Some.ensures.value c.in-Some.ensures.least)
+    (first_is c.self.inside.by_spot c.self.inside.by_id c.self.invariant c.in-Some.field-0-0.now c.in-Some.post.now c.in-Some.ensures.value c.in-Some.ensures.greatest)
 
 pub returns-in-None : goal.returns-in-None
 returns-in-None c =

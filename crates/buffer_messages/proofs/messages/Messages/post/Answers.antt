@@ -6,7 +6,7 @@ use Rattle.irc_time.specs.Time.{greatest}
 use Rattle.chat_change.specs.Record.{Record}
 use Rattle.chat_change.specs.Order.{id_cmp}
 use Rattle.chat_change.proofs.CallerLemmas.{id_total, id_exact}
-use Rattle.chat_history.specs.Cut.{cut_cmp, of_record}
+use Rattle.chat_history.specs.Cut.{spot_cmp, of_record}
 use Rattle.ordered_maps.specs.MapView.{IsSetTo, IsWith, IsWithout}
 use Rattle.ordered_maps.proofs.CallerLemmas.{unchanged, held_alike, inserted, written}
 use Rattle.buffer_messages.specs.declared.messages.Copies.{Copies}
@@ -35,8 +35,8 @@ module _ (r : Record) (f : Copies) (made : f ≡ made_of r) (ids jds : ById) (n 
   restored : (kds : ById) (o : Option Standing) → IsWith id_cmp ids f.id (standing.Kept r n) jds → o ≡ tree.get id_cmp ids f.id → IsSetTo id_cmp jds f.name o kds → (q : List ℕ) → tree.get id_cmp kds q ≡ tree.get id_cmp ids q
   restored kds o up e back = put_back ids jds kds r.id (standing.Kept r n) o (stands up) (subst (λ g. IsSetTo id_cmp jds g.name o kds) made back) (was o e)
 
-filed : (r : Record) (f : Copies) → f ≡ made_of r → (m n : BySpot) → IsWith cut_cmp m f.spot f.post n → IsWith cut_cmp m (of_record r) r n
-filed r f made m n = subst (λ g. IsWith cut_cmp m g.spot g.post n) made
+filed : (r : Record) (f : Copies) → f ≡ made_of r → (m n : BySpot) → IsWith spot_cmp m f.spot f.post n → IsWith spot_cmp m (of_record r) r n
+filed r f made m n = subst (λ g. IsWith spot_cmp m g.spot g.post n) made
 
 pub restore-requires : goal.restore-requires
 restore-requires c = record { held = named c.args.post c.in-Ok.field-0 c.in-Ok.ensures c.self.inside.by_id c.exchange.new.map c.args.number c.in-Ok-exchange.ensures.put }
@@ -52,7 +52,7 @@ invariant_of-self-then-not-put c =
     let m = c.self.inside.by_spot in
     let n = c.put.new.map in
     let ids = c.self.inside.by_id in
-    agree_alike m n ids c.restore.new.by_id (unchanged cut_cmp m n (c.if-not-put.ensures.refused refl))
+    agree_alike m n ids c.restore.new.by_id (unchanged spot_cmp m n (c.if-not-put.ensures.refused refl))
     (restored c.args.post c.in-Ok.field-0 c.in-Ok.ensures ids c.exchange.new.map c.args.number c.restore.new.by_id c.in-Ok-exchange.before c.in-Ok-exchange.ensures.put c.in-Ok-exchange.ensures.before c.restore.ensures) c.self.invariant
 
 pub returns-then-not-put-clause-refused : goal.returns-then-not-put-clause-refused
@@ -76,8 +76,8 @@ invariant_of-self-2 c =
     let there = stands r f c.in-Ok.ensures ids jds c.args.number c.in-Ok-exchange.ensures.put in
     left_agree m n ids c.self.invariant r fits up jds c.args.number there c.leave_place.new.by_spot c.moment_in.result kept c.leave_place.ensures.first
     (subst (λ x. c.moment_in.result ≡ Some x → c.leave_place.new.by_spot.entries ≡ n.entries) c.at-at.ensures c.leave_place.ensures.same)
-    (subst (λ x. IfSome c.moment_in.result (λ t. t ≢ x → IsWithout cut_cmp n (place t r.id) c.leave_place.new.by_spot)) c.at-at.ensures
-    (subst (λ g. IfSome c.moment_in.result (λ t. t ≢ c.at-at.result → IsWithout cut_cmp n (place t g.name) c.leave_place.new.by_spot)) c.in-Ok.ensures c.leave_place.ensures.moved))
+    (subst (λ x. IfSome c.moment_in.result (λ t. t ≢ x → IsWithout spot_cmp n (place t r.id) c.leave_place.new.by_spot)) c.at-at.ensures
+    (subst (λ g. IfSome c.moment_in.result (λ t. t ≢ c.at-at.result → IsWithout spot_cmp n (place t g.name) c.leave_place.new.by_spot)) c.in-Ok.ensures c.leave_place.ensures.moved))
 
 pub returns-clause-before : goal.returns-clause-before
 returns-clause-before c =

@@ -8,7 +8,7 @@ use Rattle.ordered_maps.specs.MapView.{held_by, IsWithout}
 use Rattle.ordered_maps.proofs.CallerLemmas.{removed}
 use Rattle.buffer_messages.specs.Messages.{Messages, number_of, IsFrom, TakesOne}
 use Rattle.buffer_messages.proofs.AgreementLemmas.{its_place}
-use Rattle.buffer_messages.proofs.StepLemmas.{found, taken_agree, was_kept, was_known, not_after, from_least, from_empty}
+use Rattle.buffer_messages.proofs.StepLemmas.{found, taken_agree, was_kept, was_known, not_after, from_last, from_empty}
 use Rattle.buffer_messages.proofs.messages.Messages.remove_first_below.Goals as goal
 
 pub returns-in-None-clause-done : goal.returns-in-None-clause-done
@@ -20,14 +20,14 @@ pub returns-then-ms-clause-done : goal.returns-then-ms-clause-done
 returns-then-ms-clause-done c _ =
     let high : c.args.floor ≤ c.in-Some.spot.now.at = search rules in
     subst (IsFrom c.args.floor) c.self.view_is
-    (from_least c.self.inside.by_spot c.self.inside.by_id c.self.invariant c.args.floor c.in-Some.spot.now c.in-Some.ensures.least high)
+    (from_last c.self.inside.by_spot c.self.inside.by_id c.self.invariant c.args.floor c.in-Some.spot.now c.in-Some.ensures.greatest high)
 
 pub invariant_of-self-2 : goal.invariant_of-self-2
 invariant_of-self-2 c =
     let ids = c.self.inside.by_id in
     let r = c.in_ok-spot.post in
     let stands : IsWithout id_cmp ids r.id c.take_out.new.map = subst (λ x. IsWithout id_cmp ids x c.take_out.new.map) c.id-2.ensures c.take_out.ensures in
-    taken_agree c.self.inside.by_spot c.pop_first.new.self ids c.take_out.new.map c.self.invariant c.in_ok-spot.spot r c.in_ok-spot.ensures.value c.in_ok-spot.ensures.updates.0 stands
+    taken_agree c.self.inside.by_spot c.pop_last.new.self ids c.take_out.new.map c.self.invariant c.in_ok-spot.spot r c.in_ok-spot.ensures.value c.in_ok-spot.ensures.updates.0 stands
 
 pub returns-clause-one : goal.returns-clause-one
 returns-clause-one c =
@@ -42,14 +42,14 @@ returns-clause-one c =
     let number : option_map number_of (tree.get id_cmp ids r.id) ≡ c.number_of-number.result =
     ap (λ x. option_map number_of (tree.get id_cmp ids x)) (sym c.id.ensures) ∙ sym c.number_of-number.ensures in
     let low : c.in-Some.spot.now.at < c.args.floor = search rules in
-    let under = not_after k.at c.in-Some.spot.now.at _ (c.in_ok-spot.ensures.least c.in-Some.spot.now (search rules)) in
+    let under = not_after k c.in-Some.spot.now (c.in_ok-spot.ensures.greatest c.in-Some.spot.now (search rules)) in
     let same : k.at ≡ r.at = ap (λ s. s.at) (its_place m ids c.self.invariant k r at) in
     elim c.number_of-number.result as (λ o. c.number_of-number.result ≡ o → IfSome o (λ n. TakesOne c.args.self.now c.args.floor n (held_by new))) [
       | None ↦ λ _. tt
       | Some n ↦ λ g. record {
         post = r;
         low = (let l : r.at < c.args.floor = omega (arith, low, under, same) in l);
-        was = sym (found ids c.args.self.now r.id c.self.view_is) ∙ was_kept m c.pop_first.new.self ids new c.self.invariant k r at out stands n (tree.get id_cmp ids r.id) refl (number ∙ g);
+        was = sym (found ids c.args.self.now r.id c.self.view_is) ∙ was_kept m c.pop_last.new.self ids new c.self.invariant k r at out stands n (tree.get id_cmp ids r.id) refl (number ∙ g);
         left = removed id_total id_exact ids new r.id stands ∙ ap (λ (s : Messages). map.remove s r.id) c.self.view_is;
       }
     ] refl
@@ -64,7 +64,7 @@ returns-clause-done c none =
     let stands : IsWithout id_cmp ids r.id new = subst (λ x. IsWithout id_cmp ids x new) c.id-2.ensures c.take_out.ensures in
     let number : option_map number_of (tree.get id_cmp ids r.id) ≡ c.number_of-number.result =
     ap (λ x. option_map number_of (tree.get id_cmp ids x)) (sym c.id.ensures) ∙ sym c.number_of-number.ensures in
-    absurd (was_known m c.pop_first.new.self ids new c.self.invariant k r c.in_ok-spot.ensures.value c.in_ok-spot.ensures.updates.0 stands (tree.get id_cmp ids r.id) refl (number ∙ none))
+    absurd (was_known m c.pop_last.new.self ids new c.self.invariant k r c.in_ok-spot.ensures.value c.in_ok-spot.ensures.updates.0 stands (tree.get id_cmp ids r.id) refl (number ∙ none))
 
 pub returns-clause-kept : goal.returns-clause-kept
 returns-clause-kept c none =
@@ -76,4 +76,4 @@ returns-clause-kept c none =
     let stands : IsWithout id_cmp ids r.id new = subst (λ x. IsWithout id_cmp ids x new) c.id-2.ensures c.take_out.ensures in
     let number : option_map number_of (tree.get id_cmp ids r.id) ≡ c.number_of-number.result =
     ap (λ x. option_map number_of (tree.get id_cmp ids x)) (sym c.id.ensures) ∙ sym c.number_of-number.ensures in
-    absurd (was_known m c.pop_first.new.self ids new c.self.invariant k r c.in_ok-spot.ensures.value c.in_ok-spot.ensures.updates.0 stands (tree.get id_cmp ids r.id) refl (number ∙ none))
+    absurd (was_known m c.pop_last.new.self ids new c.self.invariant k r c.in_ok-spot.ensures.value c.in_ok-spot.ensures.updates.0 stands (tree.get id_cmp ids r.id) refl (number ∙ none))
