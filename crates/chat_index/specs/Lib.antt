@@ -6,6 +6,8 @@ pub mod Piece
 pub mod Walk
 -- ---- what only the proofs use of the code
 
+-- numbers as keys of the index, the greatest first
+pub mod Number
 -- where each piece stands, by its number
 pub mod Place
 pub mod Index

@@ -7,6 +7,7 @@ ghost use Rattle.chat_buffers.specs.Store as spec;
 ghost use Rattle.chat_buffers.specs.Entering.{FitsStore, IsEntered, IsSweptOf};
 ghost use Rattle.chat_index.specs.Sweeping.{TakesSome, IsSwept};
 
+use crate::number::Number;
 use crate::place::{Place, place_of};
 use chat_buffers::Buffers;
 use chat_change::{Buffer, Change, Moment};
@@ -21,7 +22,7 @@ pub struct Indexed {
     alloc: Global,
     pub(crate) buffers: Buffers,
     // where the piece of each number stands
-    pub(crate) index: BTreeMap<u64, Place>,
+    pub(crate) index: BTreeMap<Number, Place>,
 }
 
 impl Model for Indexed {
@@ -101,16 +102,16 @@ impl Indexed {
             discard(change);
             return false;
         };
-        if !put(&mut self.index, number, place) {
+        if !put(&mut self.index, Number::of(number), place) {
             discard(change);
             return false;
         }
         let Ok(before) = self.buffers.enter(number, change) else {
-            take_out(&mut self.index, &number);
+            take_out(&mut self.index, &Number::of(number));
             return false;
         };
         if let Some(before) = before {
-            take_out(&mut self.index, &before);
+            take_out(&mut self.index, &Number::of(before));
         }
         true
     }
@@ -143,7 +144,7 @@ impl Indexed {
     {
         match self.buffers.remove_first_below(buffer, floor) {
             Some(gone) => {
-                take_out(&mut self.index, &gone);
+                take_out(&mut self.index, &Number::of(gone));
                 true
             }
             None => false,

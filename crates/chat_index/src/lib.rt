@@ -3,6 +3,7 @@
 
 mod indexed;
 mod lookups;
+mod number;
 mod piece;
 mod place;
 mod walk;

@@ -9,6 +9,7 @@ ghost use Rattle.chat_index.specs.Piece.{change_of, numbered_of};
 ghost use Rattle.chat_index.specs.Walk.{StandsAt, IsHeld, IsPieceOf, HasStamp};
 
 use crate::indexed::Indexed;
+use crate::number::Number;
 use crate::piece::{ChangeRef, Piece};
 use crate::place::Place;
 use chat_buffers::Fate;
@@ -21,11 +22,11 @@ impl Indexed {
         ensures { IsFirst spec.by_number (spec.pieces_above number self.now)
             (option_map numbered_of result) }
     {
-        let mut later = self
-            .index
-            .range((Bound::Excluded(&number), Bound::Unbounded));
-        match later.next() {
-            Some((next, place)) => Some(self.piece_at(*next, place)),
+        let key = Number::of(number);
+        // the greatest number comes first, so those above stand before
+        let mut above = self.index.range((Bound::Unbounded, Bound::Excluded(&key)));
+        match above.next_back() {
+            Some((next, place)) => Some(self.piece_at(next.value(), place)),
             None => None,
         }
     }

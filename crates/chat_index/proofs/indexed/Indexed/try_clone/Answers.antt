@@ -1,9 +1,9 @@
 use Rattle.std.proofs.Common.{◌≡◌, ◌∙◌, sym, subst, ℕ}
 use Rattle.std.proofs.lemmas.List.Elements.{same_from_all_zip}
-use Rattle.std.specs.Ordering.{nat_cmp}
 use Rattle.ordered_maps.proofs.CallerLemmas.{unchanged}
 use Rattle.chat_buffers.specs.Store.{Store, IsKeyedStore}
 use Rattle.chat_index.specs.Index.{ByNumber, IsIndexed}
+use Rattle.chat_index.specs.Number.{number_cmp}
 use Rattle.chat_index.specs.Place.{Place}
 use Rattle.chat_index.proofs.indexed.Indexed.try_clone.Goals as goal
 
@@ -13,8 +13,8 @@ same_entry x y e = λ i. (e.0 i, e.1 i)
 same_index : (s : Store) (m n : ByNumber) → n.entries ≡ m.entries → IsIndexed s m → IsIndexed s n
 same_index s m n same was = record {
   once = was.once;
-  listed = λ k x e. unchanged nat_cmp m n same x ∙ was.listed k x e;
-  right = λ x p e. was.right x p (sym (unchanged nat_cmp m n same x) ∙ e);
+  listed = λ k x e. unchanged number_cmp m n same x ∙ was.listed k x e;
+  right = λ x p e. was.right x p (sym (unchanged number_cmp m n same x) ∙ e);
 }
 
 pub invariant_of-result : goal.invariant_of-result
