@@ -1,8 +1,9 @@
 //! The lines of a client's session: what it is answered with (RFC 2812, section 5; IRCv3 standard-replies), and what it
 //! sends to its network's server.
 //!
-//! Each function makes one line with its ending, CR LF, in memory of its own, and answers want of memory. Parts that are
-//! handed in are written as they are: that each may stand in its place of a line is the caller's to see to.
+//! Each function makes one line with its ending, CR LF, in memory of its own, or in the room that it is given
+//! ([`passed_line`]), and answers want of memory. Parts that are handed in are written as they are: that each may stand in
+//! its place of a line is the caller's to see to.
 #![tactic(auto)]
 
 mod numerics;

@@ -108,9 +108,10 @@ impl Upstream {
     /// What a line of the server comes to at that moment. The line stands without its ending; one that can't be read is
     /// dropped. A refused step leaves the session as it was.
     ///
-    /// A line that is passed on is copied once. A record is made of slices of the line, and shares the buffer of its
-    /// conversation with those before it. Beside the record, a line takes no memory that is asked for anew, once the
-    /// effects of those before it were given back ([`recycle`](Upstream::recycle)).
+    /// A line that is passed on is copied once, and a record is made of slices of the line and shares the buffer of its
+    /// conversation. Where the effects of earlier lines were given back ([`recycle`](Upstream::recycle)), a line that is
+    /// passed on asks for no memory, and one that is kept for that of its record, and of a copy of each of its tags `msgid`
+    /// and `time` that has escapes. Other lines, such as PING and those of registration, ask for their answers' memory.
     #[tactic(auto, unfolding(crate::specs::Session::step))]
     pub fn step(
         &mut self,
