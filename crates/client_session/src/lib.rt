@@ -15,6 +15,7 @@ mod markread;
 mod redact;
 mod registered;
 mod registration;
+mod scratch;
 mod session;
 mod shared;
 mod stage;

@@ -13,6 +13,7 @@ use crate::effect::Effect;
 use crate::markread::markread;
 use crate::redact::redact;
 use crate::registration::user_name;
+use crate::scratch::Scratch;
 use crate::shared::{answer, closing, nick_refusal, one, ping, refusal};
 use crate::stage::Standing;
 use chat_batch::Facts;
@@ -155,6 +156,7 @@ fn chathistory(alloc: Global, facts: &Facts, bytes: &[u8]) -> Result<Vec<Effect>
 /// Any other line, which goes to the network's server.
 fn pass_on(
     alloc: Global,
+    scratch: &mut Scratch,
     entry: Option<&Entry>,
     facts: &Facts,
     bytes: &[u8],
@@ -163,8 +165,8 @@ fn pass_on(
         facts.now (passed_line bytes.now)) }
 {
     if is_up(entry) {
-        let line = passed_line(Vec::new(alloc), bytes)?;
-        one(alloc, Effect::Upstream(line))
+        let line = passed_line(scratch.text_room(alloc), bytes)?;
+        scratch.one(alloc, Effect::Upstream(line))
     } else {
         not_up(alloc, facts)
     }
@@ -175,6 +177,7 @@ ghost use Rattle.client_replies.specs.Replies.{passed_line};
 /// What a command does that leaves the session as it is.
 fn effects(
     alloc: Global,
+    scratch: &mut Scratch,
     entry: Option<&Entry>,
     facts: &Facts,
     shown: bool,
@@ -197,7 +200,7 @@ fn effects(
         Command::Chathistory => chathistory(alloc, facts, bytes),
         Command::Markread => markread(alloc, facts, bytes, parameters),
         Command::Redact => redact(alloc, entry, facts, shown, parameters),
-        Command::Other => pass_on(alloc, entry, facts, bytes),
+        Command::Other => pass_on(alloc, scratch, entry, facts, bytes),
     }
 }
 
@@ -220,6 +223,7 @@ fn cap(alloc: Global, facts: &mut Facts, parameters: &[&[u8]]) -> Result<Vec<Eff
 
 fn serve_named(
     alloc: Global,
+    scratch: &mut Scratch,
     entry: Option<&Entry>,
     facts: &mut Facts,
     shown: bool,
@@ -251,7 +255,9 @@ fn serve_named(
         | Command::Markread
         | Command::Redact
         | Command::Other => {
-            let list = effects(alloc, entry, facts, shown, bytes, command, parameters)?;
+            let list = effects(
+                alloc, scratch, entry, facts, shown, bytes, command, parameters,
+            )?;
             Ok((Standing::Stays, list))
         }
     }
@@ -303,6 +309,7 @@ fn discard(nick: Option<Text>) {
 /// What a command comes to, under the network's present nick. For want of memory nothing changes.
 pub(crate) fn serve(
     alloc: Global,
+    scratch: &mut Scratch,
     entry: Option<&Entry>,
     facts: &mut Facts,
     shown: bool,
@@ -318,7 +325,9 @@ pub(crate) fn serve(
 {
     let nick = changed_nick(alloc, entry, facts)?;
     let former = exchange_nick(facts, nick);
-    match serve_named(alloc, entry, facts, shown, bytes, command, parameters) {
+    match serve_named(
+        alloc, scratch, entry, facts, shown, bytes, command, parameters,
+    ) {
         Ok(turn) => {
             discard(former);
             Ok(turn)

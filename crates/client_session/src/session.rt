@@ -8,6 +8,7 @@ use crate::command::command_of;
 use crate::effect::Effect;
 use crate::lookup::look;
 use crate::registered;
+use crate::scratch::Scratch;
 use crate::stage::{Stage, Standing, Waiting};
 use chat_batch::{Answered, Facts, next_reference};
 use chat_state::Peek;
@@ -34,6 +35,7 @@ pub enum StepFault {
 #[derive(Drop)]
 pub struct Session {
     stage: Stage,
+    scratch: Scratch,
 }
 
 impl Model for Session {
@@ -63,6 +65,7 @@ impl Session {
                 has_nick: false,
                 user: None,
             }),
+            scratch: Scratch::none(),
         })
     }
 
@@ -72,6 +75,7 @@ impl Session {
     {
         Session {
             stage: Stage::Registered(facts),
+            scratch: Scratch::none(),
         }
     }
 
@@ -123,7 +127,14 @@ impl Session {
                 let entry = directory.entry(facts.account.as_bytes(), facts.network.as_bytes());
                 let parameters = line.parameters();
                 let (standing, list) = registered::serve(
-                    alloc, entry, facts, shown, bytes, command, parameters,
+                    alloc,
+                    &mut self.scratch,
+                    entry,
+                    facts,
+                    shown,
+                    bytes,
+                    command,
+                    parameters,
                 )?;
                 match standing {
                     Standing::Stays => {}
@@ -179,7 +190,8 @@ impl Session {
     /// its message is shown; no other line looks. A refused step leaves the session as it was.
     ///
     /// A step of a registered session that passes the line on copies it once. It copies nothing else, unless the directory
-    /// has another nick than at the last step.
+    /// has another nick than at the last step. Where the effects of earlier lines were given back
+    /// ([`recycle`](Session::recycle)), it asks for no memory. Other lines ask for that of their answers.
     pub fn step<P: Peek>(
         &mut self,
         alloc: Global,
@@ -216,5 +228,13 @@ impl Session {
         ensures err { OnErr result (self.new ≡ self.old) }
     {
         self.refuse(alloc, directory, LineFault::TooLong)
+    }
+
+    /// Takes back a list of effects, once they are done, for its room and that of a text in it. What is kept is small: room
+    /// for four effects and 1,024 bytes at most.
+    pub fn recycle(&mut self, list: Vec<Effect>)
+        ensures { self.new ≡ self.old }
+    {
+        self.scratch.recycle(list);
     }
 }

@@ -243,10 +243,17 @@ impl Player {
         }
     }
 
+    // Tells effects, and gives their room back, so that the next line is answered in it.
+    fn tell(&mut self, effects: Vec<Effect>, out: &mut Vec<u8>) -> Result<(), Error> {
+        tell_all(out, &effects)?;
+        self.session.recycle(effects);
+        Ok(())
+    }
+
     /// Tells what a line comes to.
     pub fn play(&mut self, alloc: Global, line: &[u8], out: &mut Vec<u8>) -> Result<(), Error> {
         match self.step_again(alloc, line) {
-            Ok(effects) => Ok(tell_all(out, &effects)?),
+            Ok(effects) => self.tell(effects, out),
             Err(fault) => tell_fault(out, fault),
         }
     }
@@ -254,8 +261,7 @@ impl Player {
     /// Tells what a line comes to that was too long to be taken in.
     pub fn play_too_long(&mut self, alloc: Global, out: &mut Vec<u8>) -> Result<(), Error> {
         let effects = self.session.too_long(alloc, &self.directory)?;
-        tell_all(out, &effects)?;
-        Ok(())
+        self.tell(effects, out)
     }
 
     /// Tells the number of the session's next batch.
