@@ -2,6 +2,7 @@
 use chat_change::Record;
 use client_directory::Entry;
 use memory::Text;
+use shared_lines::SharedLine;
 use upstream_session::Recipients;
 
 /// What a worker tells another. Networks are those of the configuration, counted from 0.
@@ -24,12 +25,12 @@ pub enum Mail {
     Relay {
         network: usize,
         to: Recipients,
-        line: Text,
+        line: SharedLine,
     },
     /// A client's line for the network's server, with its CR LF or without.
     Say {
         network: usize,
-        line: Text,
+        line: SharedLine,
     },
     /// A read marker of the network's account was put, which attached sessions are told of.
     Marked {

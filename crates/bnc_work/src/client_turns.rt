@@ -6,7 +6,7 @@ use attach::Attachment;
 use bnc_ports::{Mail, Port, Reason};
 use chat_change::Change;
 use client_session::Effect;
-use memory::Text;
+use std::slice;
 use work_clients::Step;
 
 /// So many steps a client has before the others have their turn.
@@ -42,15 +42,12 @@ impl<N: Node, X: Attachment, P: Port> Worker<N, X, P> {
     // Does what a line of a client comes to. Where that is refused the client is closed.
     fn do_client(&mut self, line: usize, effects: Vec<Effect>) -> Result<(), WorkEnd> {
         self.clients.note_registration(&mut self.desk, line);
-        for effect in effects {
+        for effect in &effects {
             let done = match effect {
                 Effect::Send(text) => self.clients.owe(line, text.as_bytes()),
                 Effect::Put(change) => self.put_for(line, change)?,
                 Effect::Ask(question) => self.answer(line, question.as_bytes())?,
-                Effect::Upstream(text) => {
-                    self.hand_up(line, text)?;
-                    Ok(())
-                }
+                Effect::Upstream(text) => self.hand_up(line, text.as_bytes())?,
                 Effect::Close => {
                     self.clients.end(&mut self.desk, line, Reason::Ended);
                     Ok(())
@@ -61,18 +58,19 @@ impl<N: Node, X: Attachment, P: Port> Worker<N, X, P> {
                 return Ok(());
             }
         }
+        self.clients.recycle(line, effects);
         Ok(())
     }
 
     // Puts a client's marker, and tells the other sessions. Where it waits to be published, nobody can be told yet, and the
     // client can't be answered.
-    fn put_for(&mut self, line: usize, change: Change) -> Result<Result<(), Reason>, WorkEnd> {
-        let changes = [change];
-        if self.put(&changes).is_err() {
+    fn put_for(&mut self, line: usize, change: &Change) -> Result<Result<(), Reason>, WorkEnd> {
+        let changes = slice::from_ref(change);
+        if self.put(changes).is_err() {
             return Ok(Err(Reason::NoMemory));
         }
         self.publish();
-        self.tell_marks(&changes, Some(line))?;
+        self.tell_marks(changes, Some(line))?;
         Ok(Ok(()))
     }
 
@@ -86,19 +84,19 @@ impl<N: Node, X: Attachment, P: Port> Worker<N, X, P> {
     }
 
     // Hands a client's line to the worker that serves its network.
-    fn hand_up(&mut self, line: usize, text: Text) -> Result<(), WorkEnd> {
+    fn hand_up(&mut self, line: usize, text: &[u8]) -> Result<Result<(), Reason>, WorkEnd> {
         let Some(network) = self.clients.network(line) else {
-            return Ok(());
+            return Ok(Ok(()));
         };
         let worker = self.desk.site.server_of(network);
         if worker == self.desk.site.worker {
-            return self.say(network, text.as_bytes());
+            self.say(network, text)?;
+            return Ok(Ok(()));
         }
-        let mail = Mail::Say {
-            network,
-            line: text,
+        let Ok(line) = self.desk.share(text) else {
+            return Ok(Err(Reason::NoMemory));
         };
-        let _ = self.desk.port.post(worker, mail);
-        Ok(())
+        let _ = self.desk.port.post(worker, Mail::Say { network, line });
+        Ok(Ok(()))
     }
 }

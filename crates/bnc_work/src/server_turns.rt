@@ -128,17 +128,25 @@ impl<N: Node, X: Attachment, P: Port> Worker<N, X, P> {
         let Some(network) = self.servers.network(line) else {
             return Ok(());
         };
+        if self.desk.site.workers > 1 {
+            self.post_line(network, to, text.as_bytes());
+        }
+        self.pass_on_here(network, to, text.as_bytes())
+    }
+
+    // Tells the other workers a line that is passed on.
+    fn post_line(&mut self, network: usize, to: Recipients, bytes: &[u8]) {
+        let Ok(shared) = self.desk.share(bytes) else {
+            return;
+        };
         for worker in 0..self.desk.site.workers {
             if worker != self.desk.site.worker {
-                if let Ok(line) = text.try_clone(self.desk.site.alloc) {
-                    let _ = self
-                        .desk
-                        .port
-                        .post(worker, Mail::Relay { network, to, line });
+                if let Ok(line) = shared.try_clone() {
+                    let mail = Mail::Relay { network, to, line };
+                    let _ = self.desk.port.post(worker, mail);
                 }
             }
         }
-        self.pass_on_here(network, to, text.as_bytes())
     }
 }
 

@@ -16,6 +16,7 @@ use client_directory::Entry;
 use gossip_delta::{read_change, write_change};
 use irc_caps::Capability;
 use memory::Text;
+use shared_lines::SharedLine;
 use std::alloc::{AllocError, Global};
 use upstream_session::Recipients;
 
@@ -62,7 +63,7 @@ fn relay_in(alloc: Global, network: usize, text: &str) -> Result<Mail, Error> {
     Ok(Mail::Relay {
         network,
         to: recipients_in(word),
-        line: Text::of(line),
+        line: SharedLine::new(alloc, &line)?,
     })
 }
 
@@ -77,7 +78,7 @@ pub fn mail_in(alloc: Global, text: &str) -> Result<Mail, Error> {
         "relay" => relay_in(alloc, network, rest),
         "say" => Ok(Mail::Say {
             network,
-            line: Text::new(alloc, rest.as_bytes())?,
+            line: SharedLine::new(alloc, rest.as_bytes())?,
         }),
         "marked" => Ok(Mail::Marked {
             network,

@@ -139,6 +139,13 @@ impl<X: Attachment> Clients<X> {
         }
     }
 
+    /// Takes back a list of effects, once they are done, so that the client's next line can be answered in its room.
+    pub fn recycle(&mut self, line: usize, effects: Vec<Effect>) {
+        if let Some(client) = self.all.get_mut(&line) {
+            client.session.recycle(effects);
+        }
+    }
+
     fn write_out<P: Port>(&mut self, desk: &mut Desk<P>, line: usize) -> Pumped {
         let Clients { all, lobby, .. } = self;
         match all.get_mut(&line) {

@@ -4,6 +4,7 @@ use crate::site::Site;
 use bnc_ports::Port;
 use chat_change::Moment;
 use memory::NoMemory;
+use shared_lines::{Lines, SharedLine};
 use work_timers::Timer;
 
 /// So many bytes come in, or go out, at once.
@@ -27,6 +28,7 @@ pub struct Desk<P> {
     pub timers: Schedule,
     /// Room for bytes that come or go.
     pub chunk: Vec<u8>,
+    lines: Lines,
 }
 
 // So many timers must not be lost: two of each network, as its server is tried again or is silent; two of each peer, as it is
@@ -45,12 +47,19 @@ impl<P: Port> Desk<P> {
             return Err(NoMemory);
         };
         let timers = Schedule::new(site.alloc, room_of(site.networks.len(), peers))?;
+        let lines = Lines::new(site.alloc);
         Ok(Desk {
             site,
             port,
             timers,
             chunk,
+            lines,
         })
+    }
+
+    /// A line for other workers.
+    pub fn share(&mut self, bytes: &[u8]) -> Result<SharedLine, NoMemory> {
+        self.lines.share(self.site.alloc, bytes)
     }
 
     /// Reads the port's clock anew. False where [`clock`] tells nothing.
