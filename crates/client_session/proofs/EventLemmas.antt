@@ -7,18 +7,16 @@ use Rattle.irc_line.specs.declared.line.LineFault.TheVariants.{TooLong}
 use Rattle.irc_line.specs.declared.line.TagLimit.TheVariants.{Client}
 use Rattle.irc_line.specs.Line.{Reading}
 use Rattle.irc_line.specs.Read.{read}
-use Rattle.chat_change.specs.Buffer.{Buffer}
 use Rattle.chat_change.specs.Words.{is_id}
 use Rattle.chat_batch.specs.declared.facts.Facts.{Facts}
-use Rattle.chat_batch.specs.declared.facts.Answered.{Answered}
 use Rattle.client_directory.specs.Directory.{Directory, account_in, entry_in}
 use Rattle.client_session.specs.Command.{command_of}
 use Rattle.client_session.specs.declared.command.Command.{Command}
 use Rattle.client_session.specs.declared.command.Command.TheVariants.{Cap, Pass, Nick, User, Ping, Pong, Quit, Chathistory, Markread, Redact, Tagmsg, Other}
 use Rattle.client_session.specs.Step.{Step}
 use Rattle.client_session.specs.Registered.{has_buffer}
-use Rattle.client_session.specs.Session.{step, too_long, reading_step, session_after}
-use Rattle.client_session.specs.Lookup.{Place, place_of, place_by_command, place_in, place_sought}
+use Rattle.client_session.specs.Session.{step, reading_step}
+use Rattle.client_session.specs.Lookup.{Place, place_by_command, place_in, place_sought}
 use Rattle.client_session.specs.Events.{Event, Claim, after, effects_of, run, claim_by_reading, claim_by_event, claim_after, HasSecret, IsUserOf, IsLetIn, IsRegistered, IsAnswer, IsGreeting, IsOwnEffect, IsOfSame, HasClose}
 use Rattle.client_session.specs.Events as event
 use Rattle.client_session.specs.declared.effect.Effect.{Effect}

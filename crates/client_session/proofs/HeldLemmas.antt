@@ -4,7 +4,7 @@ use Rattle.std.specs.Prelude.{if◌then◌else◌}
 use Rattle.irc_caps.specs.declared.registration.Registration.{Registration}
 use Rattle.irc_caps.specs.declared.registration.Registration.TheVariants.{Free, Held, Done}
 use Rattle.irc_caps.specs.Words.{words_of, is_acknowledged, joined}
-use Rattle.irc_caps.specs.Negotiation.{Negotiation, Answer, is_held, held_back, released, is_same_word, ls, list, ack, nak, req_words, req, list_in, ended, invalid, subcommand_answer, cap_answer}
+use Rattle.irc_caps.specs.Negotiation.{Negotiation, Answer, is_held, held_back, released, is_same_word, ls, list, ack, nak, req_words, req, list_in, ended, invalid, cap_answer}
 use Rattle.client_session.specs.Events.{is_held_after}
 
 -- it isn't past

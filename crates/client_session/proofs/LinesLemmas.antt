@@ -1,9 +1,9 @@
 -- What a registered session sends is lines that read back, and its markers are of lawful buffers and of times.
-use Rattle.std.proofs.Common.{◌≡◌, ℕ, ◌+◌, ◌*◌, ◌≤◌, ◌<◌, Bool, true, false, cond, List, [], ◌∷◌, ◌++◌, length, map, take, drop, filter, codes, Option, None, Some, Result, Ok, Err, refl, sym, ap, ◌∙◌, arith, length-append, take-append-drop, lit<, lit≤}
+use Rattle.std.proofs.Common.{◌≡◌, ℕ, ◌+◌, ◌*◌, ◌≤◌, ◌<◌, Bool, true, false, cond, List, [], ◌∷◌, ◌++◌, length, map, take, drop, filter, codes, Option, None, Some, Result, Ok, Err, refl, sym, ap, ◌∙◌, arith, length-append, take-append-drop, lit≤}
 use Rattle.std.specs.Prelude.{◌==◌, ◌&&◌, ◌||◌, not, nat_lt, nat_le, IfSome, IfOk, is_some}
 use Rattle.std.specs.List.{AllByRecursion, list_any, list_all, slice_split, onto_first}
 use Rattle.std.specs.Str.{bytes_eq}
-use Rattle.std.proofs.lemmas.Bool.{and_parts, or_parts, ltb-true, leb-true, not-true}
+use Rattle.std.proofs.lemmas.Bool.{and_parts, or_parts, leb-true, not-true}
 use Rattle.std.proofs.lemmas.Bool.Decides.{nat_tests}
 use Rattle.std.proofs.lemmas.List.{length-take}
 use Rattle.std.proofs.lemmas.List.Folds.{list_any-append}
@@ -22,12 +22,12 @@ use Rattle.irc_caps.specs.declared.capability.Capability.{Capability}
 use Rattle.irc_caps.specs.declared.capability.Capability.TheVariants.{Batch, Chathistory as History, MessageRedaction, ReadMarker, EchoMessage, MessageTags, ServerTime}
 use Rattle.irc_caps.specs.Capability.{capabilities, name_of}
 use Rattle.irc_caps.specs.CapSet.{all_capabilities, holds, names}
-use Rattle.irc_caps.specs.Negotiation.{Negotiation, Answer, registered, cap_line, ls, list, ack, nak, req_words, req, list_in, ended, invalid, is_same_word, subcommand_answer, cap_answer}
+use Rattle.irc_caps.specs.Negotiation.{Negotiation, Answer, registered, cap_line, ls, list, ack, nak, req_words, req, list_in, ended, invalid, is_same_word, cap_answer}
 use Rattle.irc_reply.specs.Echo.{can_be_echoed, echoed}
 use Rattle.irc_caps.specs.Words.{joined, words_of, is_word, list_limit, is_acknowledged, wish_of}
-use Rattle.irc_reply.specs.Reply.{reply, unknown_text, too_long_text, need_more_params}
-use Rattle.irc_reply.specs.Standing.{IsCluster, IsWordTo, CanBeRefusal, target_limit, word_limit}
-use Rattle.irc_reply.proofs.CallerLemmas.{reply_line, unknown_line, too_long_line, fail_line}
+use Rattle.irc_reply.specs.Reply.{reply, unknown_text, need_more_params}
+use Rattle.irc_reply.specs.Standing.{IsCluster, IsWordTo, target_limit, word_limit}
+use Rattle.irc_reply.proofs.CallerLemmas.{reply_line, unknown_line, too_long_line}
 use Rattle.chat_change.specs.declared.words.TheConstants.{NAME_LIMIT}
 use Rattle.chat_change.specs.Words.{has_length_to, is_name_byte, is_name, is_target, is_id}
 use Rattle.chat_change.specs.Buffer.{IsLawfulBuffer, buffer_of}
@@ -36,17 +36,16 @@ use Rattle.chat_change.specs.declared.faults.ChangeFault.TheVariants.{BadName, B
 use Rattle.chat_change.specs.declared.change.Change.{Change}
 use Rattle.chat_change.specs.declared.change.Change.TheVariants.{Post, Redact as Redaction, Mark, Floor}
 use Rattle.chat_change.proofs.CallerLemmas.{lawful_buffer}
-use Rattle.chat_batch.specs.Reference.{after_answer}
 use Rattle.chat_batch.specs.Standing.{IsSoundSession}
 use Rattle.chat_batch.specs.declared.facts.Facts.{Facts}
 use Rattle.chat_batch.proofs.CallerLemmas.{target_word}
 use Rattle.client_directory.specs.Entry.{Entry}
 use Rattle.client_directory.specs.Directory.{Directory, entry_in}
-use Rattle.client_replies.specs.Replies.{no_nick_given, erroneous_nick, may_not_reregister, pong, not_connected, closing_link, plain_line, redact_needs_more, redact_bad_target, redact_unknown_id, redact_forbidden, passed_line}
+use Rattle.client_replies.specs.Replies.{no_nick_given, erroneous_nick, may_not_reregister, pong, not_connected, closing_link, passed_line}
 use Rattle.client_session.specs.Command.{command_of}
-use Rattle.client_session.specs.Step.{Step, answer, refusal, ping, quit, nick_refusal}
+use Rattle.client_session.specs.Step.{Step, answer, refusal, ping, nick_refusal}
 use Rattle.client_session.specs.Registration.{user_name}
-use Rattle.client_session.specs.Registered.{stays, is_up, takes_redact, with_nick_of, upstream, answer_if, cap, need_more, pass, user_if, nick_unless, nick, with_capability, has_buffer, marker_in, marker_put, markread_put, first_of, redact_named, redact_of, after_registration}
+use Rattle.client_session.specs.Registered.{stays, is_up, takes_redact, with_nick_of, upstream, answer_if, need_more, pass, user_if, nick_unless, with_capability, has_buffer, marker_in, marker_put, markread_put, first_of, redact_named, redact_of, after_registration}
 use Rattle.client_session.specs.Session.{facts_now, refuse, reading_step, step, too_long}
 use Rattle.client_session.specs.declared.command.Command.{Command}
 use Rattle.client_session.specs.declared.command.Command.TheVariants.{Cap, Pass, Nick, User, Ping, Pong, Quit, Chathistory, Markread, Redact, Tagmsg, Other}

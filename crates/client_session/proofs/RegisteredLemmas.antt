@@ -1,5 +1,5 @@
 -- What a line after registration can come to: one statement for all rows of its table.
-use Rattle.std.proofs.Common.{◌≡◌, ℕ, Bool, true, false, not, ◌&&◌, List, [], ◌∷◌, ◌++◌, Option, None, Some, Ok, Err, Result, refl, codes}
+use Rattle.std.proofs.Common.{◌≡◌, ℕ, Bool, not, ◌&&◌, List, [], ◌∷◌, ◌++◌, Option, None, Some, Ok, Err, Result, refl, codes}
 use Rattle.std.specs.List.{AllByRecursion}
 use Rattle.irc_line.specs.declared.line.LineFault.{LineFault}
 use Rattle.irc_line.specs.declared.line.LineFault.TheVariants.{Empty, TagsTooLong, TooLong, BadByte, NoCommand}
@@ -9,16 +9,15 @@ use Rattle.chat_batch.specs.declared.facts.Facts.{Facts}
 use Rattle.client_directory.specs.Entry.{Entry}
 use Rattle.client_directory.specs.Directory.{Directory, entry_in}
 use Rattle.client_session.specs.Command.{command_of}
-use Rattle.client_session.specs.Step.{Step, refusal, ping, quit}
+use Rattle.client_session.specs.Step.{Step, refusal, ping}
 use Rattle.client_session.specs.Registration.{user_name}
-use Rattle.client_session.specs.Registered.{stays, is_up, takes_redact, with_nick_of, upstream, answer_if, cap, pass, user_if, nick_unless, with_capability, has_buffer, marker_in, marker_put, markread_put, first_of, redact_named, redact_of, after_registration}
+use Rattle.client_session.specs.Registered.{stays, is_up, takes_redact, with_nick_of, upstream, answer_if, pass, user_if, nick_unless, with_capability, has_buffer, marker_in, marker_put, markread_put, first_of, redact_named, redact_of, after_registration}
 use Rattle.client_session.specs.Session.{facts_now, refuse, reading_step}
 use Rattle.client_session.specs.Events.{IsAnswer, IsMarkOf}
 use Rattle.client_session.specs.declared.command.Command.{Command}
 use Rattle.client_session.specs.declared.command.Command.TheVariants.{Cap, Pass, Nick, User, Ping, Pong, Quit, Chathistory, Markread, Redact, Tagmsg, Other}
 use Rattle.client_session.specs.declared.effect.Effect.{Effect}
 use Rattle.client_session.specs.declared.effect.Effect.TheVariants.{Send, Put, Ask, Upstream, Close}
-use Rattle.client_session.specs.declared.stage.Stage.{Stage}
 use Rattle.client_session.specs.declared.stage.Stage.TheVariants as stage
 use Rattle.client_session.proofs.RegistrationLemmas.{either}
 

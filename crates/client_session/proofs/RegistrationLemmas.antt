@@ -1,5 +1,5 @@
 -- What a line before registration can come to: one statement for all rows of its table.
-use Rattle.std.proofs.Common.{◌≡◌, ℕ, zero, suc, Bool, true, false, not, ◌&&◌, ◌||◌, ◌==◌, List, [], ◌∷◌, ◌++◌, Option, None, Some, Ok, Err, Result, refl, sym, ap, ◌∙◌, subst, IsSome, length, codes, arith}
+use Rattle.std.proofs.Common.{◌≡◌, ℕ, Bool, true, false, not, ◌&&◌, ◌||◌, ◌==◌, List, [], ◌∷◌, ◌++◌, Option, None, Some, Ok, Err, Result, refl, sym, ap, ◌∙◌, subst, IsSome, length, arith}
 use Rattle.std.specs.List.{AllByRecursion}
 use Rattle.std.specs.Prelude.{if◌then◌else◌, is_none}
 use Rattle.std.specs.Str.{bytes_eq}
@@ -9,23 +9,22 @@ use Rattle.irc_line.specs.declared.line.LineFault.{LineFault}
 use Rattle.irc_line.specs.declared.line.LineFault.TheVariants.{Empty, TagsTooLong, TooLong, BadByte, NoCommand}
 use Rattle.irc_line.specs.Line.{Reading}
 use Rattle.irc_caps.specs.declared.CapSet.{CapSet}
-use Rattle.irc_caps.specs.Negotiation.{Negotiation, is_held, cap_answer}
+use Rattle.irc_caps.specs.Negotiation.{is_held, cap_answer}
 use Rattle.chat_change.specs.Words.{is_target}
 use Rattle.chat_batch.specs.declared.facts.Facts.{Facts}
 use Rattle.client_directory.specs.Entry.{Entry}
-use Rattle.client_directory.specs.Directory.{Directory, Account, account_in, entry_in, entry_of, entry_of_account, entry_if_secret, entry_by_secret}
+use Rattle.client_directory.specs.Directory.{Directory, Account, account_in, entry_of, entry_of_account, entry_if_secret, entry_by_secret}
 use Rattle.client_replies.specs.Replies.{no_nick}
 use Rattle.client_session.specs.Command.{command_of}
-use Rattle.client_session.specs.Step.{Step, answer, refusal, ping, quit, nick_refusal}
+use Rattle.client_session.specs.Step.{Step, answer, refusal, ping, nick_refusal}
 use Rattle.client_session.specs.Registration.{waits, account_of, network_of, channels_lines, facts_of, let_in_if, register, settle_user, settle, answer_or_settle, cap, pass, nick_unless, nick, user_name, user_if, user, before_registration}
 use Rattle.client_session.specs.Session.{reading_step}
-use Rattle.client_session.specs.Events.{Claim, IsAnswer, IsGreeting, IsLetIn, IsUserOf, HasSecret, is_held_after, user_after, is_nick, claim_by_command, claim_by_reading}
+use Rattle.client_session.specs.Events.{Claim, IsAnswer, IsGreeting, IsLetIn, IsUserOf, HasSecret, user_after, is_nick, claim_by_command, claim_by_reading}
 use Rattle.client_session.specs.declared.command.Command.{Command}
 use Rattle.client_session.specs.declared.command.Command.TheVariants.{Cap, Pass, Nick, User, Ping, Pong, Quit, Chathistory, Markread, Redact, Tagmsg, Other}
 use Rattle.client_session.specs.declared.effect.Effect.{Effect}
 use Rattle.client_session.specs.declared.effect.Effect.TheVariants.{Send, Put, Ask, Upstream, Close}
 use Rattle.client_session.specs.declared.stage.Waiting.{Waiting}
-use Rattle.client_session.specs.declared.stage.Stage.{Stage}
 use Rattle.client_session.specs.declared.stage.Stage.TheVariants as stage
 use Rattle.client_session.proofs.HeldLemmas.{IsToCome, cap_leaves}
 

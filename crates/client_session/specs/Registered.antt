@@ -14,7 +14,7 @@ use Rattle.client_replies.specs.Replies.{may_not_reregister, not_connected, plai
 use Rattle.client_session.specs.declared.command.Command.{Command}
 use Rattle.client_session.specs.declared.command.Command.TheVariants.{Cap, Pass, Nick, User, Ping, Pong, Quit, Chathistory, Markread, Redact, Tagmsg, Other}
 use Rattle.client_session.specs.declared.effect.Effect.{Effect}
-use Rattle.client_session.specs.declared.effect.Effect.TheVariants.{Send, Put, Ask, Upstream}
+use Rattle.client_session.specs.declared.effect.Effect.TheVariants.{Put, Ask, Upstream}
 use Rattle.client_session.specs.declared.stage.Stage.TheVariants as stage
 use Rattle.client_session.specs.Step.{Step, answer, ping, quit, nick_refusal}
 use Rattle.client_session.specs.Registration.{user_name}

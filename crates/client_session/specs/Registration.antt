@@ -1,18 +1,17 @@
 -- A session before its registration (RFC 2812, section 3.1): what each command does.
 use Rattle.std.specs.Prelude.{ℕ, ◌+◌, ◌==◌, true, not, ◌&&◌, List, [], ◌∷◌, ◌++◌, codes, take, drop, Option, None, Some, position, if◌then◌else◌}
 use Rattle.irc_caps.specs.declared.CapSet.{CapSet}
-use Rattle.irc_caps.specs.Negotiation.{Negotiation, is_held, cap_answer}
+use Rattle.irc_caps.specs.Negotiation.{is_held, cap_answer}
 use Rattle.irc_reply.specs.Reply.{need_more_params}
 use Rattle.chat_batch.specs.declared.facts.Facts.{Facts}
 use Rattle.client_directory.specs.Entry.{Entry}
 use Rattle.client_directory.specs.Directory.{Directory, entry_by_secret}
 use Rattle.client_replies.specs.Replies.{no_nick, welcome, support, no_motd, not_registered, password_incorrect, closing_link, join_line, marker_question}
 use Rattle.client_session.specs.declared.command.Command.{Command}
-use Rattle.client_session.specs.declared.command.Command.TheVariants.{Cap, Pass, Nick, User, Ping, Pong, Quit, Chathistory, Markread, Redact, Tagmsg, Other}
+use Rattle.client_session.specs.declared.command.Command.TheVariants.{Cap, Pass, Nick, User, Ping, Pong, Quit}
 use Rattle.client_session.specs.declared.effect.Effect.{Effect}
 use Rattle.client_session.specs.declared.effect.Effect.TheVariants.{Send, Ask, Close}
 use Rattle.client_session.specs.declared.stage.Waiting.{Waiting}
-use Rattle.client_session.specs.declared.stage.Stage.{Stage}
 use Rattle.client_session.specs.declared.stage.Stage.TheVariants as stage
 use Rattle.client_session.specs.Step.{Step, answer, ping, quit, nick_refusal}
 

@@ -1,7 +1,7 @@
-use Rattle.std.proofs.Common.{◌≡◌, ◌<◌, ℕ, List, [], ◌∷◌, Option, None, length, map, refl, arith}
+use Rattle.std.proofs.Common.{◌≡◌, ◌<◌, ℕ, List, [], ◌∷◌, None, length, map, refl, arith}
 use Rattle.std.proofs.lemmas.List.{length-map}
 use Rattle.chat_batch.specs.declared.facts.Facts.{Facts}
-use Rattle.client_session.specs.Lookup.{Place, place_by_command}
+use Rattle.client_session.specs.Lookup.{place_by_command}
 use Rattle.client_session.specs.declared.command.Command.TheVariants.{Redact}
 use Rattle.client_session.proofs.lookup.look_redact.Goals as goal
 
