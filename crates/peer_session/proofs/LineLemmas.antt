@@ -1,5 +1,5 @@
 -- The lines of a connection, in turn.
-use Rattle.std.proofs.Common.{◌≡◌, ℕ, List, [], ◌∷◌, ◌++◌, Option, Some, None, Ok, Err, true, false, refl, sym, ap, ◌∙◌, subst, ◌⊎◌, inl, inr, ⊎_elim}
+use Rattle.std.proofs.Common.{◌≡◌, ℕ, List, [], ◌∷◌, ◌++◌, Option, Some, None, Ok, Err, false, refl, sym, ap, ◌∙◌, subst, ◌⊎◌, inl, inr, ⊎_elim}
 use Rattle.peer_lines.specs.Gather as gather
 use Rattle.peer_lines.specs.Gather.{Gather, pushed}
 use Rattle.peer_lines.specs.declared.gather.Arrived.{Arrived}
@@ -11,9 +11,8 @@ use Rattle.gossip_link.specs.declared.handshake.Stage.{Stage}
 use Rattle.gossip_link.specs.declared.handshake.Stage.TheVariants.{Silent, Refused}
 use Rattle.gossip_link.specs.declared.handshake.Action.{Action}
 use Rattle.gossip_link.specs.declared.handshake.Action.TheVariants as act
-use Rattle.peer_session.specs.declared.heard.Heard.{Heard}
-use Rattle.peer_session.specs.declared.heard.Heard.TheVariants.{Nothing, Message, Close}
-use Rattle.peer_session.specs.Session.{Session, Step, new, step, acted, handed_up, gathered, closed}
+use Rattle.peer_session.specs.declared.heard.Heard.TheVariants.{Message, Close}
+use Rattle.peer_session.specs.Session.{Session, Step, new, step, acted, gathered}
 use Rattle.peer_session.specs.Pace as pace
 use Rattle.peer_session.specs.Lines.{after_lines, last_step}
 
