@@ -230,8 +230,8 @@ impl Session {
         self.refuse(alloc, directory, LineFault::TooLong)
     }
 
-    /// Takes back a list of effects, once they are done, for its room and that of a text in it. What is kept is small: room
-    /// for four effects and 1,024 bytes at most.
+    /// Takes back a list of effects, once they are done. The room of a line for the network's server, and of its list, is kept:
+    /// four effects and 1,024 bytes at most, as such a line has 512 without its tags (RFC 2812, section 2.3).
     pub fn recycle(&mut self, list: Vec<Effect>)
         ensures { self.new ≡ self.old }
     {
