@@ -1,5 +1,5 @@
 //! Lines out of a stream that comes in any pieces.
-ghost use Rattle.std.specs.Prelude.{◌≡◌, ◌+◌, ◌-◌, ◌<◌, ◌≤◌, true, None, IfOk, [], length, take, drop, vec_len, vec_capacity, position, if◌then◌else◌};
+ghost use Rattle.std.specs.Prelude.{◌≡◌, ◌↔◌, ◌+◌, ◌-◌, ◌<◌, ◌≤◌, true, IsTrue, None, IfOk, [], length, take, drop, vec_len, vec_capacity, position, if◌then◌else◌};
 ghost use Rattle.std.specs.Io.BufRead.{strip_last};
 ghost use Rattle.irc_line.specs.Stream.{Held, HasRoom, max_line, cr, holding, skipping, bytes_of, is_lf, held_with, next_item};
 
@@ -105,6 +105,13 @@ impl Feeder {
             searched: 0,
             in_long_line: false,
         })
+    }
+
+    /// Whether nothing is held and nothing is skipped, so that a new feeder would go on alike.
+    pub fn is_empty(&self) -> bool
+        ensures { IsTrue result ↔ (self.now ≡ holding []) }
+    {
+        !self.in_long_line && self.start == self.buffer.len()
     }
 
     /// Takes as long a prefix of the piece as there is room for, and says how many bytes that is. It takes at
