@@ -1,21 +1,21 @@
 -- A packet that is made of lawful changes may be written.
-use Rattle.std.proofs.Common.{◌≡◌, ℕ, ◌+◌, ◌^◌, ◌<◌, ◌≤◌, true, false, Option, Some, None, List, [], ◌∷◌, map, take, length, get_or, min, refl, sym, ap, subst, arith, ⊎_elim}
-use Rattle.std.specs.Prelude.{Contains, ◌==◌}
+use Rattle.std.proofs.Common.{◌≡◌, ℕ, ◌^◌, ◌<◌, ◌≤◌, true, false, Some, None, List, [], ◌∷◌, take, length, get_or, refl, sym, ap, subst, arith, ⊎_elim}
+use Rattle.std.specs.Prelude.{◌==◌}
 use Rattle.std.specs.List.{All, AllByRecursion}
 use Rattle.std.proofs.lemmas.Bool.Decides.{nat_tests}
 use Rattle.std.proofs.lemmas.List.{length-map, length-take}
 use Rattle.std.proofs.lemmas.List.Elements.{All-contains, All-from_recursion, Contains-get_or}
 use Rattle.irc_time.specs.Time.{greatest}
 use Rattle.chat_change.specs.Buffer.{Buffer}
-use Rattle.chat_change.specs.Lawful.{IsLawfulRecord, IsLawfulChange}
+use Rattle.chat_change.specs.Lawful.{IsLawfulChange}
 use Rattle.chat_change.specs.declared.change.Change.{Change}
 use Rattle.chat_change.specs.declared.change.Change.TheVariants.{Post, Redact, Mark, Floor}
 use Rattle.chat_history.specs.History.{norm}
 use Rattle.chat_history.specs.Numbering.{Delta, delta, delta_limit, newer, numbers}
 use Rattle.gossip_delta.proofs.CallerLemmas.{delta_all, delta_further}
-use Rattle.peer_lines.specs.Life.{Life, Packet, head_of}
+use Rattle.peer_lines.specs.Life.{Life, Packet}
 use Rattle.peer_lines.specs.Names.{is_node_name}
-use Rattle.peer_lines.specs.Spelling.{IsLife, IsHead, IsPacket}
+use Rattle.peer_lines.specs.Spelling.{IsLife, IsPacket}
 use Rattle.gossip_link.specs.Cluster.{Made}
 use Rattle.gossip_link.specs.Promises.{IsMade, IsMomentOf, ComesFrom}
 use Rattle.gossip_link.proofs.ComesLemmas.{ComesFrom-made, pieces_come}

@@ -1,13 +1,13 @@
 -- Schedules, put together event by event: what each event leads to where it comes at once and isn't refused.
-use Rattle.std.proofs.Common.{◌≡◌, ℕ, ◌≤◌, Bool, true, false, cond, Option, Some, None, List, [], ◌∷◌, ◌++◌, length, take, refl, sym, ◌∙◌, ap, subst, arith}
-use Rattle.std.specs.Prelude.{nat_le, slice_get, Contains}
+use Rattle.std.proofs.Common.{◌≡◌, ℕ, true, false, cond, Option, Some, List, [], ◌∷◌, ◌++◌, length, take, refl, sym, ◌∙◌, ap, subst, arith}
+use Rattle.std.specs.Prelude.{nat_le, slice_get}
 use Rattle.std.proofs.lemmas.Bool.Decides.{nat_tests}
 use Rattle.std.proofs.lemmas.List.{take_all}
 use Rattle.chat_change.specs.declared.change.Change.{Change}
 use Rattle.chat_history.specs.Numbering.{delta}
-use Rattle.peer_lines.specs.Life.{Life, Packet, Ack}
+use Rattle.peer_lines.specs.Life.{Packet, Ack}
 use Rattle.gossip_link.specs.Peer.{after_hello, packet_of, packet_is_mine, ack_of, after_ack}
-use Rattle.gossip_link.specs.Cluster.{Node, Made, World, Event, Make, Take, Greet, Hello_comes, Send, Packet_comes, Ack_comes, Restart, with_value, life, with_node, with_peer, with_taken, new_node, with_packet, packet_comes, ack_comes, happens, run, start, has_lived, IsFresh, LivesDiffer}
+use Rattle.gossip_link.specs.Cluster.{World, Event, Make, Take, Greet, Hello_comes, Send, Packet_comes, Ack_comes, Restart, with_value, life, with_node, with_peer, with_taken, new_node, with_packet, packet_comes, ack_comes, happens, run, start, has_lived, LivesDiffer}
 use Rattle.gossip_link.specs.Promises.{IsReached}
 use Rattle.peer_lines.proofs.CallerLemmas.{same_name_itself}
 use Rattle.gossip_link.proofs.SoundLemmas.{IsSound}

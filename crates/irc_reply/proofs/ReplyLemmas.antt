@@ -5,7 +5,7 @@ use Rattle.std.specs.List.{AllByRecursion}
 use Rattle.std.specs.Option.{option_to_list}
 use Rattle.std.proofs.lemmas.Bool.{ne_eqb}
 use Rattle.irc_line.specs.declared.line.TagLimit.{TagLimit}
-use Rattle.irc_line.specs.Line.{colon, begins_with, is_command, most_parameters, rest_limit}
+use Rattle.irc_line.specs.Line.{colon, begins_with, is_command, most_parameters}
 use Rattle.irc_line.specs.Text.{Parts, middles_text, trailing_text}
 use Rattle.irc_line.specs.CanStand.{HasNoBadByte, CanBeMiddle, CanStand}
 use Rattle.irc_line.specs.Lines.{AreLines}

@@ -1,5 +1,5 @@
 -- Which words may stand in a line of the cluster.
-use Rattle.std.specs.Prelude.{◌≡◌, ℕ, ◌≤◌, ◌+◌, true, List, length}
+use Rattle.std.specs.Prelude.{ℕ, ◌≤◌, ◌+◌, List, length}
 use Rattle.std.specs.List.{AllByRecursion}
 use Rattle.irc_line.specs.Line.{most_middles}
 use Rattle.irc_line.specs.Text.{middles_text}

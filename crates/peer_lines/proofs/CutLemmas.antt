@@ -1,6 +1,6 @@
 -- A line that is written has no NUL, CR or LF and is short enough, so that a stream is cut into the lines that were
 -- written into it.
-use Rattle.std.proofs.Common.{◌≡◌, ℕ, suc, ◌+◌, ◌*◌, ◌^◌, ◌<◌, ◌≤◌, Bool, true, false, not, ◌&&◌, ◌||◌, Option, Some, None, List, [], ◌∷◌, ◌++◌, codes, map, length, refl, ap, ◌∙◌, arith, append_assoc, length-append, lit<, lit≤}
+use Rattle.std.proofs.Common.{◌≡◌, ℕ, ◌+◌, ◌*◌, ◌^◌, ◌<◌, ◌≤◌, Bool, true, false, not, ◌&&◌, ◌||◌, Option, Some, None, List, [], ◌∷◌, ◌++◌, codes, map, length, refl, ap, ◌∙◌, arith, append_assoc, length-append, lit<, lit≤}
 use Rattle.std.specs.Prelude.{nat_lt, nat_le, ◌==◌, IfSome}
 use Rattle.std.specs.Fmt.{decimal}
 use Rattle.std.specs.List.{AllByRecursion, flat_map, list_any, list_all}
@@ -13,7 +13,7 @@ use Rattle.irc_line.specs.Line.{is_bad}
 use Rattle.irc_line.specs.Stream.{items, line, max_line}
 use Rattle.irc_line.specs.CanStand.{HasNoBadByte}
 use Rattle.irc_line.proofs.CallerLemmas.{bytes_cut, good_append}
-use Rattle.chat_change.specs.Words.{has_length_to, is_name_byte, ends_line, ends_word, ends_target, begins_with_colon, is_star, is_name, is_target, is_id, is_body}
+use Rattle.chat_change.specs.Words.{has_length_to, is_name_byte, ends_line, ends_word, ends_target, begins_with_colon, is_star, is_name, is_target, is_id}
 use Rattle.chat_change.specs.Buffer.{Buffer, IsLawfulBuffer}
 use Rattle.chat_change.specs.Message.{Message, IsLawfulMessage, kind_letter, kind_word}
 use Rattle.chat_change.specs.Record.{Record}
@@ -27,15 +27,13 @@ use Rattle.chat_change.specs.declared.change.Change.TheVariants.{Post, Redact, M
 use Rattle.gossip_delta.specs.Words.{words_text}
 use Rattle.gossip_delta.specs.ChangeText.{line_of as change_text, buffer_words, post_words, moment_text, line_end}
 use Rattle.peer_lines.specs.Names.{is_node_byte, is_node_name, is_shared_word}
-use Rattle.peer_lines.specs.Life as parts
 use Rattle.peer_lines.specs.Life.{Life, Packet}
-use Rattle.peer_lines.specs.Spelling.{spaced, life_words, head_words, ack_words, text_of, IsLife, IsHead, IsAck, IsPeerLine, IsPacket, written, lines_of, packet_text}
+use Rattle.peer_lines.specs.Spelling.{spaced, life_words, head_words, ack_words, text_of, IsLife, IsPeerLine, IsPacket, written, lines_of, packet_text}
 use Rattle.peer_lines.specs.declared.names.TheConstants.{NODE_NAME_LIMIT}
 use Rattle.peer_lines.specs.declared.shared_word.TheConstants.{SHARED_WORD_LIMIT}
-use Rattle.peer_lines.specs.declared.packet.TheConstants.{PACKET_LIMIT}
 use Rattle.peer_lines.specs.declared.peer_line.PeerLine.{PeerLine}
 use Rattle.peer_lines.specs.declared.peer_line.PeerLine.TheVariants.{Word, Hello, Head, Change, Ack}
-use Rattle.peer_lines.proofs.WordLemmas.{IsWord, all_but, name_is_word, shared_is_word, decimal_is_word}
+use Rattle.peer_lines.proofs.WordLemmas.{all_but, name_is_word, shared_is_word, decimal_is_word}
 use Rattle.peer_lines.proofs.GatherLemmas.{packet_lines}
 
 -- ---- texts that may stand in a line

@@ -1,6 +1,6 @@
 -- The lines of a packet, pushed in turn, give that packet with the last of them.
-use Rattle.std.proofs.Common.{◌≡◌, ℕ, zero, suc, ◌+◌, ◌<◌, ◌≤◌, Bool, true, false, cond, Option, Some, None, List, [], ◌∷◌, ◌++◌, map, length, refl, sym, ap, ◌∙◌, subst, arith, append_assoc, length-append}
-use Rattle.std.specs.Prelude.{Result, Ok, Err, ◌==◌}
+use Rattle.std.proofs.Common.{◌≡◌, ℕ, suc, ◌+◌, ◌<◌, true, false, cond, Some, None, List, [], ◌∷◌, ◌++◌, map, length, refl, ap, ◌∙◌, arith, append_assoc, length-append}
+use Rattle.std.specs.Prelude.{Ok, Err, ◌==◌}
 use Rattle.std.specs.List.{All, repeat}
 use Rattle.std.proofs.lemmas.Bool.{cond-true, cond-false}
 use Rattle.std.proofs.lemmas.Bool.Decides.{nat_tests}
@@ -9,11 +9,10 @@ use Rattle.chat_change.specs.declared.change.Change as change
 use Rattle.peer_lines.specs.Life as parts
 use Rattle.peer_lines.specs.Life.{Packet, head_of, packet_of}
 use Rattle.peer_lines.specs.Spelling.{IsPeerLine, IsPacket, lines_of}
-use Rattle.peer_lines.specs.Gather.{Gathering, Gather, Answer, Pushed, with_change, arrives, waits, pushed, after, answers}
+use Rattle.peer_lines.specs.Gather.{Gather, Answer, Pushed, with_change, arrives, waits, pushed, after, answers}
 use Rattle.peer_lines.specs.declared.fault.LinkFault.{LinkFault}
 use Rattle.peer_lines.specs.declared.peer_line.PeerLine.{PeerLine}
 use Rattle.peer_lines.specs.declared.peer_line.PeerLine.TheVariants.{Word, Hello, Head, Change, Ack}
-use Rattle.peer_lines.specs.declared.gather.Arrived.{Arrived}
 use Rattle.peer_lines.specs.declared.gather.Arrived.TheVariants as arrived
 
 abbrev waiting : ℕ → List Answer

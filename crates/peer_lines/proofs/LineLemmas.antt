@@ -1,11 +1,10 @@
 -- What is read of the spelling of a line is that line, and the line that is read of bytes is spelled by them.
-use Rattle.std.proofs.Common.{◌≡◌, ℕ, ◌^◌, ◌<◌, ◌≤◌, Bool, true, false, cond, ◌&&◌, Option, Some, None, List, [], ◌∷◌, ◌++◌, length, codes, refl, sym, ap, ◌∙◌, subst, arith, length-append}
+use Rattle.std.proofs.Common.{◌≡◌, ℕ, ◌^◌, ◌<◌, ◌≤◌, true, false, cond, ◌&&◌, Option, Some, None, List, [], ◌∷◌, ◌++◌, length, codes, refl, sym, ap, ◌∙◌, subst, arith, length-append}
 use Rattle.std.specs.Prelude.{nat_lt, nat_le, IsTrue, is_some, Result, Ok, Err}
 use Rattle.std.specs.Fmt.{decimal}
 use Rattle.std.specs.List.{list_any}
 use Rattle.std.specs.Option.{option_map}
-use Rattle.std.proofs.lemmas.Bool.{cond-true, cond-false, lt-ltb, le-leb, ltb-true, leb-true}
-use Rattle.std.proofs.lemmas.Bool.Decides.{nat_tests}
+use Rattle.std.proofs.lemmas.Bool.{cond-true, lt-ltb, le-leb, ltb-true, leb-true}
 use Rattle.chat_change.specs.declared.change.Change as change
 use Rattle.chat_change.specs.declared.change.Change.TheVariants as change_kind
 use Rattle.gossip_delta.specs.ChangeLine.{read_change}
@@ -24,7 +23,7 @@ use Rattle.peer_lines.specs.declared.fault.LinkFault.{LinkFault}
 use Rattle.peer_lines.specs.declared.fault.LinkFault.TheVariants.{BadForm, WrongLife, AckTooHigh, NoMemory, NotTaken, NoEntry}
 use Rattle.peer_lines.specs.declared.peer_line.PeerLine.{PeerLine}
 use Rattle.peer_lines.specs.declared.peer_line.PeerLine.TheVariants.{Word, Hello, Head, Change, Ack}
-use Rattle.peer_lines.proofs.NameLemmas.{same_name_is, same_name_itself, both_true}
+use Rattle.peer_lines.proofs.NameLemmas.{same_name_is, both_true}
 use Rattle.peer_lines.proofs.NumberLemmas.{number_of-decimal, read_number}
 use Rattle.peer_lines.proofs.WordLemmas.{IsWord, no_space, name_is_word, shared_is_word, decimal_is_word, word_spaced, behind_spaced, spelled_by_words}
 

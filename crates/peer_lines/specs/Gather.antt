@@ -1,5 +1,5 @@
 -- What comes of the lines of a peer: words, hellos, acknowledgements, and packets, each whole.
-use Rattle.std.specs.Prelude.{ℕ, ◌≡◌, ◌⊎◌, Bool, ◌==◌, List, [], ◌∷◌, ◌++◌, length, Option, None, Some, Result, Ok, Err, if◌then◌else◌}
+use Rattle.std.specs.Prelude.{◌≡◌, ◌⊎◌, ◌==◌, List, [], ◌∷◌, ◌++◌, length, Option, None, Some, Result, Ok, Err, if◌then◌else◌}
 use Rattle.chat_change.specs.declared.change.Change as change
 use Rattle.peer_lines.specs.Life.{Head, packet_of}
 use Rattle.peer_lines.specs.declared.fault.LinkFault.{LinkFault}

@@ -1,7 +1,7 @@
 -- Lives of nodes, and what they send each other.
-use Rattle.std.specs.Prelude.{ℕ, ◌≡◌, ◌≤◌, ◌<◌, ◌^◌, Bool, true, ◌&&◌, ◌==◌, List, length}
+use Rattle.std.specs.Prelude.{ℕ, Bool, ◌&&◌, ◌==◌, List, length}
 use Rattle.chat_change.specs.declared.change.Change.{Change}
-use Rattle.peer_lines.specs.Names.{is_node_name, same_name}
+use Rattle.peer_lines.specs.Names.{same_name}
 
 -- a node from one start to the next
 pub record Life : Type 0 where

@@ -1,5 +1,5 @@
 -- How a line is read: word by word, with one space behind each.
-use Rattle.std.specs.Prelude.{ℕ, ◌-◌, ◌^◌, Bool, ◌&&◌, List, codes, nat_lt, nat_le, Option, None, Some, if◌then◌else◌}
+use Rattle.std.specs.Prelude.{ℕ, ◌-◌, ◌^◌, ◌&&◌, List, codes, nat_lt, nat_le, Option, None, Some, if◌then◌else◌}
 use Rattle.gossip_delta.specs.Words.{word, behind}
 use Rattle.gossip_delta.specs.Number.{number_to}
 use Rattle.peer_lines.specs.Names.{is_node_name, is_shared_word, same_name}

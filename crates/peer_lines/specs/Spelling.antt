@@ -5,10 +5,9 @@
 --   D <node> <inc> <node> <inc> <from> <to> <count>           the head of a packet, from one life to another
 --   A <node> <inc> <node> <inc> <upto>                        an acknowledgement, from one life to another
 --   C ..                                                      a change, as its own crate spells it
-use Rattle.std.specs.Prelude.{ℕ, ◌≡◌, ◌<◌, ◌≤◌, ◌^◌, true, List, [], ◌∷◌, ◌++◌, codes, map, length}
+use Rattle.std.specs.Prelude.{ℕ, ◌≡◌, ◌<◌, ◌≤◌, ◌^◌, true, List, [], ◌∷◌, ◌++◌, codes, map}
 use Rattle.std.specs.Fmt.{decimal}
 use Rattle.std.specs.List.{All, flat_map, join_with_byte}
-use Rattle.chat_change.specs.declared.change.Change as change
 use Rattle.gossip_delta.specs.ChangeText.{line_of as change_text, line_end}
 use Rattle.chat_change.specs.Lawful.{IsLawfulChange}
 use Rattle.peer_lines.specs.Names.{is_node_name, is_shared_word}

@@ -23,9 +23,9 @@ use Rattle.upstream_session.specs.Step.{Step, stays, new}
 use Rattle.upstream_session.specs.Messages.{made_text, post}
 use Rattle.upstream_session.specs.Sayings.{without_ending, say_line}
 use Rattle.upstream_session.specs.Session.{start, opening, reading_step, step, say}
-use Rattle.upstream_session.specs.Events.{Event, step_by, after, effects_of, run, all_effects, IsIn, IsOwnChange, IsOwnEffect, IsUnheard, IsWelcome, id_given, HasOwnId, IsIdOf, HasPost, ids_made_by, ids_made, HasClose}
+use Rattle.upstream_session.specs.Events.{Event, step_by, after, effects_of, run, all_effects, IsOwnChange, IsOwnEffect, IsUnheard, IsWelcome, id_given, IsIdOf, HasPost, ids_made_by, ids_made, HasClose}
 use Rattle.upstream_session.specs.Events as event
-use Rattle.upstream_session.proofs.CourseLemmas.{either, either_by, Same, Course, IsSend, IsPassed, IsOwnRedaction, itself, says, line_course, say_course}
+use Rattle.upstream_session.proofs.CourseLemmas.{either, either_by, Course, IsSend, IsPassed, IsOwnRedaction, says, line_course, say_course}
 use Rattle.upstream_session.proofs.CourseLemmas as course
 
 -- ---- one event

@@ -1,4 +1,4 @@
-use Rattle.std.proofs.Common.{◌≡◌, ◌+◌, ◌&&◌, ◌∙◌, suc, length, nat_eq, slice_index_or, sym, ap, arith}
+use Rattle.std.proofs.Common.{◌&&◌, ◌∙◌, nat_eq, slice_index_or, sym, ap, arith}
 use Rattle.client_directory.proofs.SecretLemmas.{same_more}
 use Rattle.client_directory.proofs.secret.is_same_secret.Goals as goal
 

@@ -1,4 +1,3 @@
-use Rattle.std.proofs.Common.{◌∙◌, sym}
 use Rattle.peer_lines.proofs.ChangeLemmas.{spells_change}
 use Rattle.peer_lines.proofs.peer_line.read_change_line.Goals as goal
 

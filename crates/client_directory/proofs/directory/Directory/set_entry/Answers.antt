@@ -1,6 +1,6 @@
-use Rattle.std.proofs.Common.{◌≡◌, ◌∙◌, List, ap, sym}
+use Rattle.std.proofs.Common.{◌∙◌, sym}
 use Rattle.std.specs.Str.{bytes_eq}
-use Rattle.client_directory.specs.Directory.{Account, account_with, directory_with}
+use Rattle.client_directory.specs.Directory.{account_with}
 use Rattle.client_directory.proofs.FirstLemmas.{first_set, none_changed}
 use Rattle.client_directory.proofs.directory.Directory.set_entry.Goals as goal
 

@@ -1,9 +1,6 @@
-use Rattle.std.proofs.Common.{◌≡◌, ℕ, ◌<◌, ◌^◌, ◌∷◌, ◌++◌, List, Bool, true, false, length, arith, ap, sym, ◌∙◌, subst}
-use Rattle.std.specs.Prelude.{◌==◌}
-use Rattle.std.proofs.lemmas.Bool.Decides.{nat_tests}
-use Rattle.chat_history.specs.Numbering.{Delta, delta}
+use Rattle.std.proofs.Common.{◌<◌, ◌^◌, ◌++◌, false, sym, ◌∙◌, subst}
+use Rattle.chat_history.specs.Numbering.{delta}
 use Rattle.peer_lines.specs.Life.{Life}
-use Rattle.peer_lines.specs.Spelling.{IsLife}
 use Rattle.gossip_link.proofs.PacketLemmas.{made_stands}
 use Rattle.gossip_link.proofs.link.Link.make.Goals as goal
 
