@@ -1,18 +1,15 @@
 //! Times puts and asks of a shared node, beside those of a plain state and in several threads, when it is called with the
-//! argument `run`, and pages of plain states of 1,000 and of 1,000,000 messages, with the argument `pages`. It prints how
-//! many nanoseconds each round took, in which every thread puts or asks once.
+//! argument `run`. It prints how many nanoseconds each round took, in which every thread puts or asks once.
 #![tactic(auto)]
 
 ghost use Rattle.shared_node.specs.Names.{IsNamed};
 
-mod pages;
 mod plain;
 mod rounds;
 mod threads;
 
 use anyhow::Error;
 use chat_batch::Facts;
-use pages::time_pages;
 use plain::time_state;
 use rounds::facts;
 use shared_node::{Naming, SharedNode, Unnamed};
@@ -48,14 +45,8 @@ fn bench<J: Naming + Send + Sync, R: Runtime<A = Global> + Threads + Wait + Send
 }
 
 fn main(rt: HostRuntime) -> Result<(), Error> {
-    if is_asked(&rt, "pages")? {
-        time_pages(&rt, rt.alloc(), 1_000)?;
-        return time_pages(&rt, rt.alloc(), 1_000_000);
-    }
     if !is_asked(&rt, "run")? {
-        println!(rt;
-            "node_bench run|pages: times puts and asks of a shared node, or pages of states"
-        )?;
+        println!(rt; "node_bench run: times puts and asks of a shared node")?;
         return Ok(());
     }
     let facts = facts(rt.alloc())?;

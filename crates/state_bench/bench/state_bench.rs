@@ -2,6 +2,7 @@
 //! Build it by `rustc -O --edition 2021 state_bench.rs`, and call it with `run`, `one` or `two`.
 use std::cmp::Ordering;
 use std::collections::BTreeMap;
+use std::io::{self, Write};
 use std::ops::Bound;
 use std::sync::Arc;
 use std::time::Instant;
@@ -9,6 +10,7 @@ use std::time::Instant;
 const BODY: &[u8] = b"a body of forty bytes, as many lines are";
 const ROUNDS: u64 = 10_000;
 const SMALL_ROUNDS: u64 = 100;
+const PAGE: u64 = 100;
 const LIMIT: usize = 256;
 const FIRST_SERIAL: u64 = 1_000_000_000_000;
 
@@ -62,6 +64,12 @@ impl Eq for Buffer {}
 
 #[derive(Clone, PartialEq, Eq, PartialOrd, Ord)]
 struct MsgId(Arc<[u8]>);
+
+impl std::borrow::Borrow<[u8]> for MsgId {
+    fn borrow(&self) -> &[u8] {
+        &self.0
+    }
+}
 
 #[allow(dead_code)]
 struct Parts {
@@ -157,7 +165,41 @@ impl State {
         true
     }
 
-    fn page(&self, buffer: &Buffer, before: Bound<&Spot>) -> u64 {
+    // The last records before a place.
+    fn page(&self, buffer: &Buffer, before: Bound<&Spot>, limit: usize) -> Vec<&Record> {
+        let Some(held) = self.held.get(buffer) else {
+            return Vec::new();
+        };
+        let records = held.by_spot.range((Bound::Unbounded, before)).rev().take(limit);
+        let mut page: Vec<_> = records.map(|(_, record)| record).collect();
+        page.reverse();
+        page
+    }
+
+    // Answers the two forms of CHATHISTORY that are asked, and no other line.
+    fn answer(&self, buffer: &Buffer, line: &[u8], out: &mut Vec<u8>) -> io::Result<()> {
+        let words: Vec<_> = line.split(|byte| *byte == b' ').collect();
+        let [b"CHATHISTORY", subcommand, target, selector, limit] = words[..] else {
+            return Ok(());
+        };
+        if target != buffer.0.parts().2 {
+            return Ok(());
+        }
+        let limit = number(limit).unwrap_or(0).min(PAGE) as usize;
+        match (subcommand, selector.strip_prefix(b"msgid=")) {
+            (b"LATEST", None) => write_page(&self.page(buffer, Bound::Unbounded, limit), target, out),
+            (b"BEFORE", Some(id)) => match self.held[buffer].by_id.get(id) {
+                Some(Standing::Kept(post, _)) => {
+                    let spot = Spot { at: post.0.at, id: Some(post.0.id.clone()) };
+                    write_page(&self.page(buffer, Bound::Excluded(&spot), limit), target, out)
+                }
+                _ => Ok(()),
+            },
+            _ => Ok(()),
+        }
+    }
+
+    fn walk(&self, buffer: &Buffer, before: Bound<&Spot>) -> u64 {
         let Some(held) = self.held.get(buffer) else {
             return 0;
         };
@@ -179,6 +221,47 @@ impl State {
     }
 }
 
+fn number(word: &[u8]) -> Option<u64> {
+    std::str::from_utf8(word).ok()?.parse().ok()
+}
+
+// The page as a batch, for a session that holds every capability.
+fn write_page(page: &[&Record], target: &[u8], out: &mut Vec<u8>) -> io::Result<()> {
+    out.write_all(b":bnc.example BATCH +r1 chathistory ")?;
+    out.write_all(target)?;
+    out.write_all(b"\r\n")?;
+    for Record(post) in page {
+        let (source, target, body) = post.texts.parts();
+        out.write_all(b"@batch=r1;msgid=")?;
+        out.write_all(&post.id.0)?;
+        out.write_all(b";time=")?;
+        write_time(post.at, out)?;
+        out.write_all(b" :")?;
+        out.write_all(source)?;
+        out.write_all(if post.kind == b'P' { b" PRIVMSG " } else { b" NOTICE " })?;
+        out.write_all(target)?;
+        out.write_all(b" :")?;
+        out.write_all(body)?;
+        out.write_all(b"\r\n")?;
+    }
+    out.write_all(b":bnc.example BATCH -r1\r\n")
+}
+
+// The moment as IRCv3 server-time has it, by Howard Hinnant's `civil_from_days`.
+fn write_time(at: u64, out: &mut Vec<u8>) -> io::Result<()> {
+    let (days, ms) = ((at / 86_400_000) as i64, at % 86_400_000);
+    let z = days + 719_468;
+    let (era, doe) = (z / 146_097, z % 146_097);
+    let yoe = (doe - doe / 1460 + doe / 36_524 - doe / 146_096) / 365;
+    let doy = doe - (365 * yoe + yoe / 4 - yoe / 100);
+    let mp = (5 * doy + 2) / 153;
+    let (day, month) = (doy - (153 * mp + 2) / 5 + 1, if mp < 10 { mp + 3 } else { mp - 9 });
+    let year = yoe + era * 400 + i64::from(month <= 2);
+    let (hour, minute, second) = (ms / 3_600_000, ms / 60_000 % 60, ms / 1000 % 60);
+    let part = ms % 1000;
+    write!(out, "{year:04}-{month:02}-{day:02}T{hour:02}:{minute:02}:{second:02}.{part:03}Z")
+}
+
 #[derive(Clone, Copy)]
 enum Order {
     Rising,
@@ -188,8 +271,16 @@ enum Order {
 fn moment(number: u64, order: Order) -> u64 {
     match order {
         Order::Rising => number,
-        Order::Mixed => number.wrapping_mul(11_400_714_819_323_198_485) >> 24,
+        Order::Mixed => mixed(number),
     }
+}
+
+fn mixed(number: u64) -> u64 {
+    number.wrapping_mul(11_400_714_819_323_198_485) >> 24
+}
+
+fn id_text(number: u64) -> String {
+    format!("n1-1763912345678-{}", FIRST_SERIAL + number)
 }
 
 fn channel() -> Buffer {
@@ -197,7 +288,7 @@ fn channel() -> Buffer {
 }
 
 fn post(buffer: &Buffer, number: u64, order: Order) -> Record {
-    let id = MsgId(Arc::from(format!("n1-1763912345678-{}", FIRST_SERIAL + number).as_bytes()));
+    let id = MsgId(Arc::from(id_text(number).as_bytes()));
     Record(Arc::new(Parts {
         buffer: buffer.clone(),
         id,
@@ -238,22 +329,48 @@ fn compare_absorb(name: &str, order: Order) {
     println!("{name}: {} ns a post with 1000 held, {} ns with 1000000 held", small / ROUNDS, large / ROUNDS);
 }
 
-fn compare_pages(held: u64) {
+fn time_questions(state: &State, buffer: &Buffer, questions: &[String], what: &str) {
+    let mut out = Vec::new();
+    let mut bytes = 0;
+    let start = Instant::now();
+    for question in questions {
+        out.clear();
+        state.answer(buffer, question.as_bytes(), &mut out).unwrap();
+        bytes += out.len();
+    }
+    let took = start.elapsed().as_nanos() as u64;
+    println!("  {what}: {} ns ({bytes} bytes in all)", took / ROUNDS);
+}
+
+fn time_pages(held: u64) {
+    let buffer = channel();
+    let state = filled(&buffer, held, Order::Rising);
+    let latest: Vec<_> = (0..ROUNDS).map(|_| format!("CHATHISTORY LATEST #a * {PAGE}")).collect();
+    let starts = held.saturating_sub(PAGE).max(1);
+    let before = |number| id_text(PAGE + mixed(number) % starts);
+    let ask = |number| format!("CHATHISTORY BEFORE #a msgid={} {PAGE}", before(number));
+    let any: Vec<_> = (0..ROUNDS).map(ask).collect();
+    println!("pages with {held} held");
+    time_questions(&state, &buffer, &latest, "the newest");
+    time_questions(&state, &buffer, &any, "any");
+}
+
+fn time_walks(held: u64) {
     let buffer = channel();
     let state = filled(&buffer, held, Order::Rising);
     let mut sum = 0u64;
     let start = Instant::now();
     for _ in 0..ROUNDS {
-        sum = sum.wrapping_add(state.page(&buffer, Bound::Unbounded));
+        sum = sum.wrapping_add(state.walk(&buffer, Bound::Unbounded));
     }
     let newest = start.elapsed().as_nanos() as u64;
     let start = Instant::now();
     for i in 0..ROUNDS {
-        let at = moment(i, Order::Mixed) % held;
-        sum = sum.wrapping_add(state.page(&buffer, Bound::Excluded(&Spot { at, id: None })));
+        let at = mixed(i) % held;
+        sum = sum.wrapping_add(state.walk(&buffer, Bound::Excluded(&Spot { at, id: None })));
     }
     let any = start.elapsed().as_nanos() as u64;
-    println!("pages of {held}: {} ns the newest, {} ns any ({sum})", newest / ROUNDS, any / ROUNDS);
+    println!("walks with {held} held: {} ns the newest, {} ns any ({sum})", newest / ROUNDS, any / ROUNDS);
 }
 
 fn delta_time(held: u64) {
@@ -301,8 +418,10 @@ fn main() {
             "run" => {
                 compare_absorb("absorb the newest", Order::Rising);
                 compare_absorb("absorb in no order", Order::Mixed);
-                compare_pages(1_000);
-                compare_pages(1_000_000);
+                time_pages(1_000);
+                time_pages(1_000_000);
+                time_walks(1_000);
+                time_walks(1_000_000);
                 delta_time(2_000);
                 delta_time(200_000);
             }
