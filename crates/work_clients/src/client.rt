@@ -26,7 +26,7 @@ pub(crate) struct Client {
 impl Client {
     /// A client that hasn't registered yet.
     pub(crate) fn new(site: &Site, line: usize, admitted: Admitted) -> Result<Client, NoMemory> {
-        let guest = Guest::new(site.alloc, line, admitted)?;
+        let guest = Guest::new(site.alloc, line, admitted);
         let session = Session::new(site.alloc, site.cluster.as_bytes(), site.maximum)?;
         let told = Text::new(site.alloc, b"*")?;
         Ok(Client {

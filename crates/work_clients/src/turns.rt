@@ -86,6 +86,7 @@ impl Client {
             site,
             port,
             chunk,
+            feeders,
             ..
         } = desk;
         let heard = match guest.next_line() {
@@ -94,7 +95,7 @@ impl Client {
                 Ok(effects) => Ok(effects),
                 Err(_) => Err(StepFault::NoMemory),
             },
-            Next::More => return step_after(guest.fill(port, chunk)),
+            Next::More => return step_after(guest.fill(port, chunk, feeders)),
         };
         match heard {
             Ok(effects) => Step::Do(effects),

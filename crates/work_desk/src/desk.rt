@@ -5,6 +5,7 @@ use bnc_ports::Port;
 use chat_change::Moment;
 use memory::NoMemory;
 use shared_lines::{Lines, SharedLine};
+use work_lines::Feeders;
 use work_timers::Timer;
 
 /// So many bytes come in, or go out, at once.
@@ -28,6 +29,8 @@ pub struct Desk<P> {
     pub timers: Schedule,
     /// Room for bytes that come or go.
     pub chunk: Vec<u8>,
+    /// Room for lines that come.
+    pub feeders: Feeders,
     lines: Lines,
 }
 
@@ -47,12 +50,14 @@ impl<P: Port> Desk<P> {
             return Err(NoMemory);
         };
         let timers = Schedule::new(site.alloc, room_of(site.networks.len(), peers))?;
+        let feeders = Feeders::new(site.alloc)?;
         let lines = Lines::new(site.alloc);
         Ok(Desk {
             site,
             port,
             timers,
             chunk,
+            feeders,
             lines,
         })
     }

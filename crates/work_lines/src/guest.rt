@@ -1,4 +1,5 @@
 //! The connection of a client.
+use crate::feeders::Feeders;
 use crate::input::Filled;
 use crate::pending::Pending;
 use crate::pipe::{Pipe, Pumped};
@@ -24,15 +25,14 @@ pub struct Guest {
 }
 
 impl Guest {
-    /// A client's connection, by its number, and its attachment, to which nothing is owed yet.
-    pub fn new(alloc: Global, line: usize, admitted: Admitted) -> Result<Guest, NoMemory> {
-        let pipe = Pipe::new(alloc, line)?;
-        Ok(Guest {
-            pipe,
+    /// A client's connection, by its number, and its attachment, to which nothing is owed yet. It takes no memory.
+    pub fn new(alloc: Global, line: usize, admitted: Admitted) -> Guest {
+        Guest {
+            pipe: Pipe::new(alloc, line),
             admitted,
             attached: 0,
             waiting: Pending::new(alloc),
-        })
+        }
     }
 
     /// The connection.
@@ -51,8 +51,13 @@ impl Guest {
     }
 
     /// Takes in more bytes.
-    pub fn fill<P: Port>(&mut self, port: &mut P, chunk: &mut [u8]) -> Filled {
-        self.pipe.fill(port, chunk)
+    pub fn fill<P: Port>(
+        &mut self,
+        port: &mut P,
+        chunk: &mut [u8],
+        feeders: &mut Feeders,
+    ) -> Filled {
+        self.pipe.fill(port, chunk, feeders)
     }
 
     /// Lines that the client's own line called for wait, behind the others. Each goes out once what is owed and it are at

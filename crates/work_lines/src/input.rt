@@ -1,4 +1,5 @@
 //! What comes over a connection, line by line.
+use crate::feeders::Feeders;
 use crate::pending::Pending;
 use bnc_ports::{Halt, Port};
 use irc_line::{Feeder, Next};
@@ -21,21 +22,21 @@ pub enum Filled {
 /// What came over a connection, and wasn't given as lines yet.
 #[derive(Drop)]
 pub struct Input {
-    feeder: Feeder,
+    // None where nothing of a line is held.
+    feeder: Option<Feeder>,
     // What the feeder had no room for.
     rest: Pending,
     is_readable: bool,
 }
 
 impl Input {
-    /// Nothing came yet, and bytes may be there.
-    pub fn new(alloc: Global) -> Result<Input, NoMemory> {
-        let feeder = Feeder::new(alloc)?;
-        Ok(Input {
-            feeder,
+    /// Nothing came yet, and bytes may be there. It takes no memory.
+    pub fn new(alloc: Global) -> Input {
+        Input {
+            feeder: None,
             rest: Pending::new(alloc),
             is_readable: true,
-        })
+        }
     }
 
     /// Bytes may be there again.
@@ -45,21 +46,59 @@ impl Input {
 
     /// The next line. After `More` it is time to [`fill`](Input::fill).
     pub fn next_line(&mut self) -> Next<'_> {
-        self.feeder.next_line()
+        match &mut self.feeder {
+            Some(feeder) => feeder.next_line(),
+            None => Next::More,
+        }
     }
 
-    /// Takes in more bytes.
-    pub fn fill<P: Port>(&mut self, port: &mut P, line: usize, chunk: &mut [u8]) -> Filled {
+    /// Takes in more bytes, into a feeder that is lent where there is none. It goes back once nothing more is there and it holds
+    /// nothing.
+    pub fn fill<P: Port>(
+        &mut self,
+        port: &mut P,
+        line: usize,
+        chunk: &mut [u8],
+        feeders: &mut Feeders,
+    ) -> Filled {
+        if self.rest.is_empty() && !self.is_readable {
+            return Filled::Nothing;
+        }
+        let Ok(mut feeder) = self.take_feeder(feeders) else {
+            return Filled::NoMemory;
+        };
+        let filled = self.receive(port, line, chunk, &mut feeder);
+        self.feeder = if filled == Filled::Nothing {
+            feeders.take_back(feeder)
+        } else {
+            Some(feeder)
+        };
+        filled
+    }
+
+    // Its own feeder, or one that is lent to it.
+    fn take_feeder(&mut self, feeders: &mut Feeders) -> Result<Feeder, NoMemory> {
+        match self.feeder.take() {
+            Some(feeder) => Ok(feeder),
+            None => feeders.lend(),
+        }
+    }
+
+    // Hands the feeder what it had no room for before, or else what the port gives.
+    fn receive<P: Port>(
+        &mut self,
+        port: &mut P,
+        line: usize,
+        chunk: &mut [u8],
+        feeder: &mut Feeder,
+    ) -> Filled {
         if !self.rest.is_empty() {
-            let count = self.feeder.feed(self.rest.as_bytes());
+            let count = feeder.feed(self.rest.as_bytes());
             self.rest.take(count);
             return Filled::More;
         }
-        if !self.is_readable {
-            return Filled::Nothing;
-        }
         match port.receive(line, chunk) {
-            Ok(count) => self.feed(&chunk[..count]),
+            Ok(count) => self.feed(feeder, &chunk[..count]),
             Err(Halt::Blocked) => {
                 self.is_readable = false;
                 Filled::Nothing
@@ -69,12 +108,12 @@ impl Input {
     }
 
     // Hands bytes to the feeder, and keeps those that it has no room for.
-    fn feed(&mut self, bytes: &[u8]) -> Filled {
+    fn feed(&mut self, feeder: &mut Feeder, bytes: &[u8]) -> Filled {
         if bytes.is_empty() {
             self.is_readable = false;
             return Filled::Nothing;
         }
-        let count = self.feeder.feed(bytes);
+        let count = feeder.feed(bytes);
         match self.rest.push(&bytes[count..]) {
             Ok(()) => Filled::More,
             Err(NoMemory) => Filled::NoMemory,

@@ -3,13 +3,17 @@
 //! A [`Pipe`] is any connection. A [`Guest`] is that of a client: what is owed to it lies in its attachment, up to the
 //! attachment's bound. What comes as it happens is offered at once ([`Guest::offer`]), and a client that doesn't take it
 //! overruns. What the client's own line called for waits ([`Guest::owe`]), and goes out line by line as there is room.
+//!
+//! The room for a line that comes is lent ([`Feeders`]): a connection over which nothing comes has none.
 #![tactic(auto)]
 
+mod feeders;
 mod guest;
 mod input;
 mod pending;
 mod pipe;
 
+pub use feeders::Feeders;
 pub use guest::Guest;
 pub use input::{Filled, Input};
 pub use pending::Pending;

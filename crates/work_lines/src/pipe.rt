@@ -1,4 +1,5 @@
 //! Any connection of a worker.
+use crate::feeders::Feeders;
 use crate::input::{Filled, Input};
 use crate::pending::Pending;
 use bnc_ports::{Halt, Port};
@@ -34,16 +35,15 @@ pub struct Pipe {
 }
 
 impl Pipe {
-    /// A connection of the port, by its number. Bytes may be there, and room for bytes.
-    pub fn new(alloc: Global, line: usize) -> Result<Pipe, NoMemory> {
-        let input = Input::new(alloc)?;
-        Ok(Pipe {
+    /// A connection of the port, by its number. Bytes may be there, and room for bytes. It takes no memory.
+    pub fn new(alloc: Global, line: usize) -> Pipe {
+        Pipe {
             line,
-            input,
+            input: Input::new(alloc),
             output: Pending::new(alloc),
             is_writable: true,
             is_queued: false,
-        })
+        }
     }
 
     /// What the port tells of the connection.
@@ -74,8 +74,13 @@ impl Pipe {
     }
 
     /// Takes in more bytes.
-    pub fn fill<P: Port>(&mut self, port: &mut P, chunk: &mut [u8]) -> Filled {
-        self.input.fill(port, self.line, chunk)
+    pub fn fill<P: Port>(
+        &mut self,
+        port: &mut P,
+        chunk: &mut [u8],
+        feeders: &mut Feeders,
+    ) -> Filled {
+        self.input.fill(port, self.line, chunk, feeders)
     }
 
     /// How many bytes are owed.

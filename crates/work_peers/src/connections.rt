@@ -43,7 +43,7 @@ impl Peers {
             Some(_) => Side::Opener,
             None => Side::Acceptor,
         };
-        let mut pipe = Pipe::new(site.alloc, line)?;
+        let mut pipe = Pipe::new(site.alloc, line);
         let session = PeerSession::new(side);
         self.out.clear();
         session.open(&site.terms, &mut self.out)?;

@@ -59,6 +59,7 @@ impl Peer {
             site,
             port,
             chunk,
+            feeders,
             ..
         } = desk;
         let Peer {
@@ -77,7 +78,7 @@ impl Peer {
                 let heard = session.hear(site.alloc, &site.terms, None, out);
                 step_of(heard, Reason::BadLine)
             }
-            Next::More => step_of_fill(pipe.fill(port, chunk.as_mut_slice())),
+            Next::More => step_of_fill(pipe.fill(port, chunk.as_mut_slice(), feeders)),
         }
     }
 }

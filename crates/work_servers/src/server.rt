@@ -93,9 +93,16 @@ impl Server {
 
     // Takes in more bytes.
     fn fill<P: Port>(&mut self, desk: &mut Desk<P>) -> Step {
-        match self.pipe.fill(&mut desk.port, &mut desk.chunk) {
+        let Desk {
+            site,
+            port,
+            chunk,
+            feeders,
+            ..
+        } = desk;
+        match self.pipe.fill(port, chunk, feeders) {
             Filled::More => {
-                self.heard_at = desk.site.now;
+                self.heard_at = site.now;
                 Step::Again
             }
             Filled::Nothing => Step::Rest,

@@ -79,7 +79,7 @@ impl Servers {
         session: Upstream,
         now: u64,
     ) -> Result<(), NoMemory> {
-        let pipe = Pipe::new(self.alloc, line)?;
+        let pipe = Pipe::new(self.alloc, line);
         let nick = Text::new(self.alloc, b"")?;
         // Each server has room in the queue.
         if self.busy.reserve(self.all.len().saturating_add(1)).is_err() {
