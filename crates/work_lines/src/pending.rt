@@ -8,8 +8,8 @@ use std::marker::Model;
 /// So many bytes that were taken out are kept before the rest is moved to the front.
 const MOVED_FROM: usize = 4096;
 
-/// So much room is kept where nothing waits.
-const KEPT: usize = 16_384;
+/// So much room is kept where nothing waits: enough for a line or two, and not for a page.
+const KEPT: usize = 1024;
 
 /// Bytes that wait, oldest first. Contracts see them as their list.
 #[derive(Drop)]
