@@ -11,7 +11,7 @@ use std::marker::Model;
 const KEPT: usize = 16;
 
 /// Feeders that are lent to connections. A connection has one only while it is read, or while a part of a line came over it.
-/// No bytes of a connection are in a feeder that another one gets.
+/// One that is lent holds nothing, so no line of a connection has bytes that came over another.
 #[derive(Drop)]
 pub struct Feeders {
     alloc: Global,
