@@ -1,5 +1,9 @@
 //! The bouncer. `bnc replay <account> <network> <nick>` answers the script on standard input; `bnc serve <config>` runs a
 //! node.
+//!
+//! The program reads its words, hands the devices to `bnc_server` or `bnc_serve`, and says by its status how it ended: 0
+//! once all is done, 2 for its words, 3 for want of memory, 4 for a device or a file, 5 for the configuration. The whole of
+//! a refusal stands on standard error. Read `main` first.
 #![tactic(auto)]
 
 ghost use Rattle.std.specs.Prelude.{◌≡◌, ◌≢◌, ◌↔◌, ◌⊎◌, None, Ok, Err, IfOk, IfErr, IsTrue};
@@ -19,8 +23,6 @@ use std::process::ExitCode;
 use std::{env, fmt};
 
 mod serving;
-#[cfg(test)]
-mod tests;
 
 const USAGE: &str = "usage: bnc replay <account> <network> <nick> | bnc serve <config>";
 

@@ -1,7 +1,7 @@
 //! What workers tell each other.
+use byte_text::Text;
 use chat_change::Record;
 use client_directory::Entry;
-use memory::Text;
 use shared_lines::SharedLine;
 use upstream_session::Recipients;
 

@@ -82,6 +82,19 @@ fn addresses_of(alloc: Global, config: &Config) -> Result<Addresses, AllocError>
     Ok(Addresses { networks, peers })
 }
 
+// The port of a worker that waits there, beside the workers of these slots.
+fn port_of<R: Net + Wait + Clock + Eprint + AllocGlobal + Copy + Drop>(
+    rt: &R,
+    addresses: &Addresses,
+    slots: &[Slot],
+    poll: Poll,
+    parcels: Receiver<Parcel>,
+) -> Result<SocketPort<R>, AllocError> {
+    let slots = copies_of(rt.alloc(), slots)?;
+    let addresses = addresses.try_clone()?;
+    SocketPort::new(*rt, poll, parcels, slots, addresses)
+}
+
 // A lobby for a worker's clients, and where their attachments are sent.
 fn lobby_of<X: Attachment>(alloc: Global) -> Result<(Sender<Arrival<X>>, Lobby<X>), ServeFault> {
     let (sender, arrivals) = unbounded(alloc)?;
@@ -95,24 +108,37 @@ impl<R: Net + Wait + Clock + Eprint + AllocGlobal + Copy + Drop, X: Attachment> 
         let addresses = addresses_of(alloc, config)?;
         let places = places_of(rt, config.limits.workers)?;
         let slots = slots_of(alloc, &places)?;
-        let mut posts = Vec::new(alloc);
-        let mut doors = Vec::new(alloc);
+        let mut crew = Crew {
+            posts: Vec::new(alloc),
+            doors: Vec::new(alloc),
+        };
         for place in places {
-            let (arrivals, lobby) = lobby_of(alloc)?;
-            let station = station_of(alloc, config, incarnation, lobby)?;
-            let slots = copies_of(alloc, &slots)?;
-            let Place {
-                poll,
-                parcels,
-                slot,
-            } = place;
-            let addresses = addresses.try_clone()?;
-            let port = SocketPort::new(*rt, poll, parcels, slots, addresses)?;
-            posts.push((station, port)).map_err(AllocError::from)?;
-            doors
-                .push(Door::new(slot, arrivals))
-                .map_err(AllocError::from)?;
+            crew.add(rt, config, incarnation, &addresses, &slots, place)?;
         }
-        Ok(Crew { posts, doors })
+        Ok(crew)
+    }
+
+    // Adds a worker that waits there.
+    fn add(
+        &mut self,
+        rt: &R,
+        config: &Config,
+        incarnation: u64,
+        addresses: &Addresses,
+        slots: &[Slot],
+        place: Place,
+    ) -> Result<(), ServeFault> {
+        let Place {
+            poll,
+            parcels,
+            slot,
+        } = place;
+        let port = port_of(rt, addresses, slots, poll, parcels)?;
+        let (arrivals, lobby) = lobby_of(rt.alloc())?;
+        let door = Door::new(slot, arrivals);
+        self.doors.push(door).map_err(AllocError::from)?;
+        let station = station_of(rt.alloc(), config, incarnation, lobby)?;
+        self.posts.push((station, port)).map_err(AllocError::from)?;
+        Ok(())
     }
 }

@@ -3,7 +3,7 @@ ghost use Rattle.std.specs.Prelude.{◌≡◌, ◌≢◌, ◌↔◌};
 
 use attach::PlacesFault;
 use bnc_work::StartFault;
-use memory::NoMemory;
+use byte_text::NoMemory;
 use shared_node::NodeFault;
 use std::alloc::AllocError;
 use std::io;

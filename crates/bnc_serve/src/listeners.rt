@@ -4,6 +4,7 @@ use bnc_ports::Event;
 use bnc_sockets::report;
 use mio::net::{TcpListener, TcpStream};
 use mio::{Events, Interest, Poll, Token};
+use std::io;
 use std::io::{Eprint, ErrorKind};
 use std::net::{Net, SocketAddr};
 use std::time::{Clock, Duration};
@@ -61,21 +62,23 @@ impl Listeners {
         clients: SocketAddr,
         peers: SocketAddr,
     ) -> Result<Listeners, ServeFault> {
-        let mut clients = listener_at(rt, clients)?;
-        let mut peers = listener_at(rt, peers)?;
-        let poll = Poll::new(rt)?;
-        let events = Events::with_capacity(rt.alloc(), EVENTS)?;
-        let registry = poll.registry();
-        registry.register(&mut clients, CLIENTS, Interest::READABLE)?;
-        registry.register(&mut peers, PEERS, Interest::READABLE)?;
-        Ok(Listeners {
-            poll,
-            events,
-            clients,
-            peers,
+        let mut listeners = Listeners {
+            clients: listener_at(rt, clients)?,
+            peers: listener_at(rt, peers)?,
+            poll: Poll::new(rt)?,
+            events: Events::with_capacity(rt.alloc(), EVENTS)?,
             is_failing: false,
             was_failing: false,
-        })
+        };
+        listeners.register()?;
+        Ok(listeners)
+    }
+
+    // Has the poll tell of both.
+    fn register(&mut self) -> io::Result<()> {
+        let registry = self.poll.registry();
+        registry.register(&mut self.clients, CLIENTS, Interest::READABLE)?;
+        registry.register(&mut self.peers, PEERS, Interest::READABLE)
     }
 
     // Tells the operator where the node listens.

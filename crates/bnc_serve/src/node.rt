@@ -108,20 +108,33 @@ where
     let alloc = rt.alloc();
     let (node, passes) = SharedNode::<J, &R>::new(alloc, rt, name)?;
     let jobs = jobs_of(alloc, passes, posts)?;
+    begin_reception(rt, front, boxed)?;
+    let ends = work_all(rt, &node, jobs, &Open)?;
+    Ok(ends)
+}
+
+// Takes connections in from now on.
+fn begin_reception<R, X, F>(rt: &R, front: Front<X>, boxed: F) -> Result<(), ServeFault>
+where
+    R: Threads + Wait + Clock + Eprint + AllocGlobal + Copy + Send + Drop + 'static,
+    X: Attachment + Send + 'static,
+    F: Fn(RingClient) -> Option<X> + Send + Drop + 'static,
+    requires { F.IsAlwaysCallable boxed }
+{
     let Front {
         listeners,
         doors,
         places,
         bound,
     } = front;
-    let clerk = Places::new(alloc, places)?;
+    let clerk = Places::new(rt.alloc(), places)?;
     listeners.tell(rt);
     let reception = Reception::new(listeners, clerk, bound, doors);
-    if !receive_in_a_thread(*rt, reception, boxed) {
-        return Err(ServeFault::NoThread);
+    if receive_in_a_thread(*rt, reception, boxed) {
+        Ok(())
+    } else {
+        Err(ServeFault::NoThread)
     }
-    let ends = work_all(rt, &node, jobs, &Open)?;
-    Ok(ends)
 }
 
 // Takes connections in on a thread of its own. False where the system gives no thread.

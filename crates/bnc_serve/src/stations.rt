@@ -2,8 +2,8 @@
 use attach::Attachment;
 use bnc_ports::Lobby;
 use bnc_work::Station;
+use byte_text::{NoMemory, Text};
 use gossip_link::Terms;
-use memory::{NoMemory, Text};
 use node_config::{Config, Network};
 use peer_lines::{Life, LinkFault, SharedWord};
 use std::alloc::Global;

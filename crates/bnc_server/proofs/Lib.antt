@@ -5,7 +5,6 @@ mod DeltaLemmas
 mod OrderLemmas
 mod ProgressLemmas
 mod PrintedLemmas
-mod MomentLemmas
 mod SoundLemmas
 mod PrintLemmas
 mod ScheduleLemmas

@@ -9,8 +9,8 @@ use Rattle.std.specs.Bool.{one_answer}
 use Rattle.std.proofs.lemmas.List.{drop_more}
 use Rattle.std.proofs.lemmas.List.Folds.{Any-from_list_any, list_any-from_Any}
 use Rattle.std.proofs.lemmas.Slice.Eq.{bytes_eq-Decides}
-use Rattle.output.specs.Writes.{AppendsPrefix}
-use Rattle.output.proofs.CallerLemmas.{prefix_of_first, prefix_of_second, prefix_same}
+use Rattle.byte_text.specs.Writes.{AppendsPrefix}
+use Rattle.byte_text.proofs.CallerLemmas.{prefix_of_first, prefix_of_second, prefix_same}
 use Rattle.chat_change.specs.Buffer.{Buffer}
 use Rattle.chat_change.specs.Record.{Record}
 use Rattle.chat_change.specs.declared.change.Change.{Change}
@@ -19,7 +19,7 @@ use Rattle.chat_history.specs.Lookups.{IsShown}
 use Rattle.chat_history.specs.StateValue.{StateValue, HasTaken, state_after}
 use Rattle.chat_history.specs.Visible.{visible}
 use Rattle.client_directory.specs.Directory.{Directory}
-use Rattle.client_session.specs.Lookup.{Place, place_sought}
+use Rattle.client_session.specs.Lookup.{MessageName, name_sought}
 use Rattle.client_session.specs.Session.{step}
 use Rattle.client_session.specs.Step.{Step}
 use Rattle.client_session.specs.declared.effect.Effect.{Effect}
@@ -52,21 +52,21 @@ seen taken b id shown is =
     )
 
 -- what a look at a state tells, if there is one
-abbrev pub HasLooked : StateValue → Option Place → Bool → StateValue → Type 0
+abbrev pub HasLooked : StateValue → Option MessageName → Bool → StateValue → Type 0
 HasLooked old sought shown new =
     MatchOption sought (new ≡ old) (λ m. (new ≡ old) × (IsTrue shown ↔ IsShown old.history m.buffer m.id))
 
 -- a step of what is held is the step of the node
 pub step_is : (directory : Directory) (bytes : List ℕ) (shown : Bool) (held : HeldNode) (state : StateValue) (s : Step) (node : Node) → held ≡ held_node node
-    → HasLooked held.state (place_sought held.session bytes) shown state → s ≡ step directory shown held.session bytes
+    → HasLooked held.state (name_sought held.session bytes) shown state → s ≡ step directory shown held.session bytes
     → (s.effects ≡ (step_of directory node bytes).effects) × (record held { session = s.session; state = state } ≡ held_node (with_session node (step_of directory node bytes).session))
 step_is directory bytes shown held state s node is looked e =
     let session : held.session ≡ node.session = ap (λ (h : HeldNode). h.session) is in
-    let same = go (place_sought held.session bytes) refl looked in
-    let all : s ≡ step_of directory node bytes = e ∙ same.1 ∙ (λ i. step directory (is_shown node.taken (place_sought (session i) bytes)) (session i) bytes) in
+    let same = go (name_sought held.session bytes) refl looked in
+    let all : s ≡ step_of directory node bytes = e ∙ same.1 ∙ (λ i. step directory (is_shown node.taken (name_sought (session i) bytes)) (session i) bytes) in
     let kept : state ≡ state_after 0 node.taken = same.0 ∙ ap (λ (h : HeldNode). h.state) is in
     (ap (λ (t : Step). t.effects) all, λ i. record (is i) { session = (all i).session; state = kept i }) where
-      go : (o : Option Place) → place_sought held.session bytes ≡ o → HasLooked held.state o shown state
+      go : (o : Option MessageName) → name_sought held.session bytes ≡ o → HasLooked held.state o shown state
           → (state ≡ held.state) × (step directory shown held.session bytes ≡ step directory (is_shown node.taken o) held.session bytes)
       go None f looked = (looked, step_unseen directory shown held.session bytes f)
       go (Some place) f looked =

@@ -19,7 +19,7 @@ use Rattle.chat_batch.specs.Answers.{Answer}
 use Rattle.chat_batch.specs.declared.facts.Facts.{Facts}
 use Rattle.chat_batch.proofs.CallerLemmas.{same_answer}
 use Rattle.client_directory.specs.Directory.{Directory}
-use Rattle.client_session.specs.Lookup.{Place, place_sought}
+use Rattle.client_session.specs.Lookup.{MessageName, name_sought}
 use Rattle.client_session.specs.Session.{step, too_long, facts_in, session_after}
 use Rattle.client_session.specs.Step.{Step}
 use Rattle.client_session.specs.declared.effect.Effect.{Effect}
@@ -66,14 +66,14 @@ module _ (n m : Node) (s : Alike n m) where
   effect_alike (Upstream bytes) = record { text = refl; node = s }
   effect_alike Close = record { text = refl; node = s }
 
-  shown_alike : (o : Option Place) → is_shown n.taken o ≡ is_shown m.taken o
+  shown_alike : (o : Option MessageName) → is_shown n.taken o ≡ is_shown m.taken o
   shown_alike None = refl
   shown_alike (Some place) = ap (λ h. list_any (λ (r : Record). bytes_eq r.id place.id) (records_in h place.buffer)) s.history
 
   step_alike : (directory : Directory) (bytes : List ℕ) → step_of directory n bytes ≡ step_of directory m bytes
   step_alike directory bytes =
-      ap (λ b. step directory b n.session bytes) (shown_alike (place_sought n.session bytes))
-      ∙ (λ i. step directory (is_shown m.taken (place_sought (s.session i) bytes)) (s.session i) bytes)
+      ap (λ b. step directory b n.session bytes) (shown_alike (name_sought n.session bytes))
+      ∙ (λ i. step directory (is_shown m.taken (name_sought (s.session i) bytes)) (s.session i) bytes)
 
 effects_alike : (effects : List Effect) (n m : Node) → Alike n m → SameReply (reply_to_effects n effects) (reply_to_effects m effects)
 effects_alike [] n m s = record { text = refl; node = s }

@@ -27,7 +27,7 @@ use Rattle.client_session.specs.declared.stage.Stage.{Stage}
 use Rattle.client_session.specs.declared.stage.Stage.TheVariants as stage
 use Rattle.client_session.proofs.CallerLemmas.{EffectStands, EffectsStand, IsSoundStage, StepStands, step_stands, too_long_stands}
 use Rattle.bnc_server.specs.Node.{Node, Reply, after_taking, with_session, answer_to, reply_to_effect, reply_to_effects, reply_to_step, is_shown, step_of}
-use Rattle.client_session.specs.Lookup.{place_sought}
+use Rattle.client_session.specs.Lookup.{name_sought}
 use Rattle.bnc_server.specs.Request.{Request, of_change, of_command, of_client, over_long, request_of}
 use Rattle.bnc_server.specs.Command.{Command, select, exchange, lose, hold_back, hand_over, restart, bad_form}
 use Rattle.bnc_server.specs.Links.{after_making, after_packet, after_ack_of, ack_answer, late_ack, with_late, new_node, hearing}
@@ -111,7 +111,7 @@ module _ (limit : TagLimit) where
       let node = selected_node w in
       let right = selected_sound w sound in
       step_right node (step_of w.directory node bytes) right
-      (step_stands limit w.directory sound.directory (is_shown node.taken (place_sought node.session bytes)) node.session bytes right.session)
+      (step_stands limit w.directory sound.directory (is_shown node.taken (name_sought node.session bytes)) node.session bytes right.session)
 
   long_right : (w : World) → IsSoundWorld w → IsRight limit (reply_to_step (selected_node w) (too_long w.directory (selected_node w).session))
   long_right w sound =

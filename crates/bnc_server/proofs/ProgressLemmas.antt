@@ -4,8 +4,8 @@ use Rattle.std.specs.Prelude.{IsErrAnd, IfSome, is_some}
 use Rattle.std.proofs.lemmas.Bool.{ltb-true, cond-false}
 use Rattle.std.specs.Io.KnownBytes.{Appends, Consumes, IsAtEnd, Keeps}
 use Rattle.std.proofs.KnownBytes.{Appends-trans, Appends-nil, Consumes-nil, Consumes-trans, Consumes-kept}
-use Rattle.output.specs.Writes.{AppendsPrefix, WritesKnown}
-use Rattle.output.proofs.CallerLemmas.{prefix_of_first, prefix_of_second, prefix_same}
+use Rattle.byte_text.specs.Writes.{AppendsPrefix, WritesKnown}
+use Rattle.byte_text.proofs.CallerLemmas.{prefix_of_first, prefix_of_second, prefix_same}
 use Rattle.irc_line.specs.Stream.{Item, Held, holding, skipping, bytes_of, is_lf, item_of, items_of_rest, items, held_with, first_item, next_item, held_without, items_from, too_long}
 use Rattle.irc_line.specs.Calls.{with_first}
 use Rattle.irc_line.proofs.CallerLemmas.{items_line, items_rest, taken-append, step, no_items}

@@ -10,7 +10,7 @@ use Rattle.gossip_link.specs.Cluster as cluster
 use Rattle.gossip_link.specs.Cluster.{has_lived}
 use Rattle.gossip_link.specs.Promises.{IsReached}
 use Rattle.gossip_link.proofs.CallerLemmas.{equal_is}
-use Rattle.bnc_server.specs.Command.{Command, select, exchange, lose, hold_back, hand_over, restart, bad_form, is_node_digit, place_of, on_node, on_pair, between, between_and, command_of}
+use Rattle.bnc_server.specs.Command.{Command, select, exchange, lose, hold_back, hand_over, restart, bad_form, is_node_digit, index_of, on_node, on_pair, between, between_and, command_of}
 use Rattle.client_session.specs.declared.stage.Stage.{Stage}
 use Rattle.client_session.specs.declared.stage.Stage.TheVariants.{Registered}
 use Rattle.bnc_server.specs.Links.{link_with, no_link, late_ack}
@@ -138,7 +138,7 @@ IsCommand (hand_over sender receiver) = ArePlaces sender receiver
 IsCommand (restart node) = node < node_count
 IsCommand bad_form = ⊤
 
-digit_place : (d : ℕ) → is_node_digit d ≡ true → (place_of d < node_count) × (49 ≤ d)
+digit_place : (d : ℕ) → is_node_digit d ≡ true → (index_of d < node_count) × (49 ≤ d)
 digit_place d e =
     let both = and_parts (nat_le 49 d) (nat_le d 57) e in
     let low : 49 ≤ d = (let b = both.0 in grind (arith, nat_tests)) in
@@ -147,14 +147,14 @@ digit_place d e =
 
 node_command : (d : ℕ) (c : ℕ → Command) → ((n : ℕ) → n < node_count → IsCommand (c n)) → IsCommand (on_node d c)
 node_command d c is =
-    elim (is_node_digit d) as (λ t. is_node_digit d ≡ t → IsCommand (cond t (c (place_of d)) bad_form)) [
-      | true ↦ λ e. is (place_of d) (digit_place d e).0
+    elim (is_node_digit d) as (λ t. is_node_digit d ≡ t → IsCommand (cond t (c (index_of d)) bad_form)) [
+      | true ↦ λ e. is (index_of d) (digit_place d e).0
       | false ↦ λ e. tt
     ] refl
 
 pair_command : (one two : ℕ) (c : ℕ → ℕ → Command) → ((s r : ℕ) → ArePlaces s r → IsCommand (c s r)) → IsCommand (on_pair one two c)
 pair_command one two c is =
-    elim (is_node_digit one && (is_node_digit two && not (one == two))) as (λ t. (is_node_digit one && (is_node_digit two && not (one == two))) ≡ t → IsCommand (cond t (c (place_of one) (place_of two)) bad_form)) [
+    elim (is_node_digit one && (is_node_digit two && not (one == two))) as (λ t. (is_node_digit one && (is_node_digit two && not (one == two))) ≡ t → IsCommand (cond t (c (index_of one) (index_of two)) bad_form)) [
       | true ↦ λ e.
           let a = and_parts (is_node_digit one) (is_node_digit two && not (one == two)) e in
           let b = and_parts (is_node_digit two) (not (one == two)) a.1 in
@@ -164,7 +164,7 @@ pair_command one two c is =
           let low = first.1 in
           let low_too = second.1 in
           let ne : one ≢ two = (λ f. true≢false (sym (sym apart ∙ equal_both f))) in
-          is (place_of one) (place_of two) (record { is_one = first.0; is_other = second.0; differ = λ f. ne (omega (arith, f, low, low_too)) })
+          is (index_of one) (index_of two) (record { is_one = first.0; is_other = second.0; differ = λ f. ne (omega (arith, f, low, low_too)) })
       | false ↦ λ e. tt
     ] refl
   where

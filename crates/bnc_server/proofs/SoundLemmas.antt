@@ -39,7 +39,7 @@ use Rattle.bnc_server.specs.Command.{command_of}
 use Rattle.bnc_server.specs.Links.{link_at, packet_for, after_packet, new_node, hearing}
 use Rattle.bnc_server.specs.World.{World, no_node, with_node}
 use Rattle.bnc_server.specs.Script.{directory_of}
-use Rattle.bnc_server.proofs.MomentLemmas.{time_within}
+use Rattle.irc_time.proofs.CallerLemmas.{time_within}
 use Rattle.bnc_server.proofs.DeltaLemmas.{delta_lawful}
 use Rattle.bnc_server.proofs.PrintedLemmas.{all-append}
 

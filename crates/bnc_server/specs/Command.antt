@@ -15,17 +15,17 @@ pub data Command : Type 0 where
 abbrev pub is_node_digit : ℕ → Bool
 is_node_digit byte = nat_le 49 byte && nat_le byte 57
 
-abbrev pub place_of : ℕ → ℕ
-place_of digit = digit - 49
+abbrev pub index_of : ℕ → ℕ
+index_of digit = digit - 49
 
 abbrev pub on_node : ℕ → (ℕ → Command) → Command
-on_node digit command = if is_node_digit digit then command (place_of digit) else bad_form
+on_node digit command = if is_node_digit digit then command (index_of digit) else bad_form
 
 -- the two nodes of a command differ
 abbrev pub on_pair : ℕ → ℕ → (ℕ → ℕ → Command) → Command
 on_pair one two command =
     if is_node_digit one && (is_node_digit two && not (one == two))
-    then command (place_of one) (place_of two)
+    then command (index_of one) (index_of two)
     else bad_form
 
 -- `>` and `<` between two nodes

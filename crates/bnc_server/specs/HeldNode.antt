@@ -1,6 +1,6 @@
 -- The code's node and world: those of a script, with what is held in place of the changes that were taken.
 use Rattle.std.specs.Prelude.{◌≡◌, ◌<◌, ⊤, ℕ, List, map, Option, None, Some, Result, OnOk, IfErr}
-use Rattle.output.specs.Writes.{WritesKnown}
+use Rattle.byte_text.specs.Writes.{WritesKnown}
 use Rattle.chat_history.specs.StateValue.{StateValue, state_after}
 use Rattle.client_directory.specs.Directory.{Directory}
 use Rattle.client_session.specs.declared.stage.Stage.{Stage}
@@ -57,14 +57,14 @@ held_world w = record {
 -- ---- what a call does to each node, or each world, that holds this
 
 -- a call writes a text of it
-abbrev pub WritesOf : {W T E S H : Type 0} → (W → Option (List ℕ)) → W → W → Result T E
+abbrev pub WritesTextOf : {W T E S H : Type 0} → (W → Option (List ℕ)) → W → W → Result T E
     → (S → H) → H → (S → List ℕ) → Type 0
-WritesOf {W} {T} {E} {S} {H} contents old new result hold held text =
+WritesTextOf {W} {T} {E} {S} {H} contents old new result hold held text =
     (s : S) → held ≡ hold s → WritesKnown (contents old) (contents new) result (text s)
 
 -- at `Ok` it has become another
-abbrev pub Leaves : {T E S H : Type 0} → Result T E → (S → H) → H → (S → S) → H → Type 0
-Leaves {T} {E} {S} {H} result hold old after new =
+abbrev pub Becomes : {T E S H : Type 0} → Result T E → (S → H) → H → (S → S) → H → Type 0
+Becomes {T} {E} {S} {H} result hold old after new =
     OnOk result ((s : S) → old ≡ hold s → new ≡ hold (after s))
 
 -- the fault is one of it

@@ -13,7 +13,7 @@ use Rattle.chat_batch.specs.Answers.{Answer, answer_of}
 use Rattle.chat_batch.specs.declared.facts.Facts.{Facts}
 use Rattle.chat_batch.specs.declared.facts.Answered.{Answered}
 use Rattle.client_directory.specs.Directory.{Directory}
-use Rattle.client_session.specs.Lookup.{Place, place_sought}
+use Rattle.client_session.specs.Lookup.{MessageName, name_sought}
 use Rattle.client_session.specs.Session.{step, too_long, facts_in, session_after}
 use Rattle.client_session.specs.Step.{Step}
 use Rattle.client_session.specs.declared.effect.Effect.{Effect}
@@ -82,7 +82,7 @@ reply_to_step node s = reply_to_effects (with_session node s.session) s.effects
 -- ---- lines
 
 -- whether a visible record stands there
-abbrev pub is_shown : List Change → Option Place → Bool
+abbrev pub is_shown : List Change → Option MessageName → Bool
 is_shown taken None = false
 is_shown taken (Some place) =
     list_any (λ (r : Record). bytes_eq r.id place.id) (visible taken place.buffer)
@@ -90,7 +90,7 @@ is_shown taken (Some place) =
 -- A line of the client: the session steps, and a REDACT sees whether its message is shown.
 abbrev pub step_of : Directory → Node → List ℕ → Step
 step_of directory node bytes =
-    step directory (is_shown node.taken (place_sought node.session bytes)) node.session bytes
+    step directory (is_shown node.taken (name_sought node.session bytes)) node.session bytes
 
 abbrev pub reply_to_line : Directory → Node → List ℕ → Reply
 reply_to_line directory node bytes = reply_to_step node (step_of directory node bytes)

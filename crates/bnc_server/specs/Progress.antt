@@ -1,7 +1,7 @@
 -- How far a script has come: what is still to be printed, as a function of the bytes that are still to come.
 use Rattle.std.specs.Prelude.{◌≡◌, ℕ, List, [], ◌++◌, Option, None, Some, Result, MatchResult}
 use Rattle.std.specs.Io.KnownBytes.{Appends}
-use Rattle.output.specs.Writes.{AppendsPrefix}
+use Rattle.byte_text.specs.Writes.{AppendsPrefix}
 use Rattle.irc_line.specs.Stream.{Item, Held, items_from, next_item}
 use Rattle.bnc_server.specs.Request.{request_of}
 use Rattle.bnc_server.specs.World.{World}

@@ -10,18 +10,18 @@ ghost use Rattle.bnc_server.specs.Links.{ack_answer, after_ack_of, late_ack, wit
 ghost use Rattle.bnc_server.specs.Script.{none_late};
 ghost use Rattle.bnc_server.specs.Schedule.{node_count};
 ghost use Rattle.bnc_server.specs.HeldNode.{HeldNode, held_node, after_late};
-ghost use Rattle.bnc_server.specs.HeldNode.{WritesOf, Leaves, EndsBy};
+ghost use Rattle.bnc_server.specs.HeldNode.{WritesTextOf, Becomes, EndsBy};
 ghost use Rattle.bnc_server.specs.Faults.{of_state, MayRefuse, MayStop, MayStopIn, MayEndStep};
 
 use crate::fault::ReplayFault;
 use crate::reply::put_text;
+use byte_text::NoMemory;
 use chat_batch::{AnswerFault, Facts, answer};
 use chat_change::Change;
 use chat_state::{State, StateFault};
 use client_session::{Directory, Effect, Session};
 use gossip_link::{Ack, Life, Link, LinkFault, Packet};
 use irc_line::{Line, TagLimit, read_line};
-use memory::NoMemory;
 use std::alloc::Global;
 use std::io::Write;
 use std::marker::Model;
@@ -150,7 +150,7 @@ impl Node {
         lives: &[Life],
     ) -> Result<(), NoMemory>
         requires { length lives.now ≡ node_count }
-        ensures { Leaves result held_node self.old
+        ensures { Becomes result held_node self.old
             (λ node. new_node (Registered facts) life.now lives.now node.late) self.new }
     {
         let life = life.try_clone(alloc)?;
@@ -178,7 +178,7 @@ impl Node {
         requires { place < node_count }
         ensures packet { IfOk result (λ packet. (node : spec.Node) → self.old ≡ held_node node
             → packet ≡ packet_for node place) }
-        ensures node { Leaves result held_node self.old
+        ensures node { Becomes result held_node self.old
             (λ node. after_making node place) self.new }
         ensures fault { IfErr result (λ fault. fault ≡ ReplayFault.NoMemory) }
     {
@@ -210,7 +210,7 @@ impl Node {
         requires { place < node_count }
         ensures ack { IfOk result (λ ack. (node : spec.Node) → self.old ≡ held_node node
             → ack ≡ ack_for node place packet.now) }
-        ensures node { Leaves result held_node self.old
+        ensures node { Becomes result held_node self.old
             (λ node. after_packet node place packet.now) self.new }
         ensures fault { IfErr result (λ fault. fault ≢ ReplayFault.Write) }
     {
@@ -267,7 +267,7 @@ impl Node {
 
     /// Takes a change.
     pub(crate) fn take(&mut self, change: Change) -> Result<(), ReplayFault>
-        ensures node { Leaves result held_node self.old
+        ensures node { Becomes result held_node self.old
             (λ node. spec.after_taking node (change ∷ [])) self.new }
         ensures fault { EndsBy result held_node self.old (λ node. MayRefuse node change) }
     {
@@ -284,9 +284,9 @@ impl Node {
         line: &Line<'_>,
         writer: &mut W,
     ) -> Result<(), ReplayFault>
-        ensures text { WritesOf W.contents writer.old writer.new result held_node self.old
+        ensures text { WritesTextOf W.contents writer.old writer.new result held_node self.old
             (λ node. (spec.answer_to node (facts_in node.session) (Ok line.now)).text) }
-        ensures node { Leaves result held_node self.old
+        ensures node { Becomes result held_node self.old
             (λ node. (spec.answer_to node (facts_in node.session) (Ok line.now)).node) self.new }
         ensures fault { IfErr result (λ fault. fault ≢ ReplayFault.Read) }
     {
@@ -308,9 +308,9 @@ impl Node {
         question: &[u8],
         writer: &mut W,
     ) -> Result<(), ReplayFault>
-        ensures text { WritesOf W.contents writer.old writer.new result held_node self.old
+        ensures text { WritesTextOf W.contents writer.old writer.new result held_node self.old
             (λ node. (spec.reply_to_effect node (Effect.Ask question.now)).text) }
-        ensures node { Leaves result held_node self.old
+        ensures node { Becomes result held_node self.old
             (λ node. (spec.reply_to_effect node (Effect.Ask question.now)).node) self.new }
         ensures fault { IfErr result (λ fault. fault ≢ ReplayFault.Read) }
     {
@@ -321,7 +321,7 @@ impl Node {
     }
 
     fn put(&mut self, change: &Change) -> Result<(), ReplayFault>
-        ensures node { Leaves result held_node self.old
+        ensures node { Becomes result held_node self.old
             (λ node. spec.after_taking node (change.now ∷ [])) self.new }
         ensures fault { EndsBy result held_node self.old (λ node. MayRefuse node change.now) }
     {
@@ -338,9 +338,9 @@ impl Node {
         effect: &Effect,
         writer: &mut W,
     ) -> Result<(), ReplayFault>
-        ensures text { WritesOf W.contents writer.old writer.new result held_node self.old
+        ensures text { WritesTextOf W.contents writer.old writer.new result held_node self.old
             (λ node. (spec.reply_to_effect node effect.now).text) }
-        ensures node { Leaves result held_node self.old
+        ensures node { Becomes result held_node self.old
             (λ node. (spec.reply_to_effect node effect.now).node) self.new }
         ensures fault { EndsBy result held_node self.old (λ node. MayStop node effect.now) }
     {
@@ -360,9 +360,9 @@ impl Node {
         effects: &[Effect],
         writer: &mut W,
     ) -> Result<(), ReplayFault>
-        ensures text { WritesOf W.contents writer.old writer.new result held_node self.old
+        ensures text { WritesTextOf W.contents writer.old writer.new result held_node self.old
             (λ node. (spec.reply_to_effects node effects.now).text) }
-        ensures node { Leaves result held_node self.old
+        ensures node { Becomes result held_node self.old
             (λ node. (spec.reply_to_effects node effects.now).node) self.new }
         ensures fault { EndsBy result held_node self.old (λ node. MayStopIn node effects.now) }
     {
@@ -387,7 +387,7 @@ impl Node {
     {
         match self.session.step(alloc, text, directory, &mut self.state) {
             Ok(list) => Ok(list),
-            // A state lets every reader in, so it is memory that is wanted.
+            // A state lets every reader in, so the fault is one of memory.
             Err(_) => Err(ReplayFault::NoMemory),
         }
     }
@@ -400,9 +400,9 @@ impl Node {
         text: &[u8],
         writer: &mut W,
     ) -> Result<(), ReplayFault>
-        ensures text { WritesOf W.contents writer.old writer.new result held_node self.old
+        ensures text { WritesTextOf W.contents writer.old writer.new result held_node self.old
             (λ node. (spec.reply_to_line directory.now node text.now).text) }
-        ensures node { Leaves result held_node self.old
+        ensures node { Becomes result held_node self.old
             (λ node. (spec.reply_to_line directory.now node text.now).node) self.new }
         ensures fault { EndsBy result held_node self.old
             (λ node. MayEndStep node (spec.step_of directory.now node text.now)) }
@@ -436,9 +436,9 @@ impl Node {
         directory: &Directory,
         writer: &mut W,
     ) -> Result<(), ReplayFault>
-        ensures text { WritesOf W.contents writer.old writer.new result held_node self.old
+        ensures text { WritesTextOf W.contents writer.old writer.new result held_node self.old
             (λ node. (spec.reply_to_long_line directory.now node).text) }
-        ensures node { Leaves result held_node self.old
+        ensures node { Becomes result held_node self.old
             (λ node. (spec.reply_to_long_line directory.now node).node) self.new }
         ensures fault { EndsBy result held_node self.old
             (λ node. MayEndStep node (too_long directory.now node.session)) }

@@ -1,13 +1,13 @@
 //! Texts for whoever wrote the script, with the writer's fault as one of the script.
 ghost use Rattle.std.specs.Prelude.{◌≡◌, IfErr};
-ghost use Rattle.output.specs.Writes.{Writes};
+ghost use Rattle.byte_text.specs.Writes.{Writes};
 ghost use Rattle.gossip_delta.specs.declared.fault.ChangeLineFault.TheVariants as line;
 ghost use Rattle.bnc_server.specs.Script as spec;
 ghost use Rattle.bnc_server.specs.World.{refusal_of};
 
 use crate::fault::ReplayFault;
+use byte_text::put;
 use gossip_link::LinkFault;
-use output::put;
 use std::io::Write;
 
 /// Writes a text.

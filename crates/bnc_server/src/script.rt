@@ -1,10 +1,10 @@
 //! A script: its lines are read, and answered in turn.
 ghost use Rattle.std.specs.Prelude.{◌≡◌, [], None, IfSome, OnOk, IfOk, is_some};
-ghost use Rattle.output.specs.Writes.{Writes};
+ghost use Rattle.byte_text.specs.Writes.{Writes};
 ghost use Rattle.irc_line.specs.Stream.{next_item, held_without};
 ghost use Rattle.chat_change.specs.Faults.{buffer_fault};
 ghost use Rattle.bnc_server.specs.Script.{script};
-ghost use Rattle.bnc_server.specs.HeldNode.{held_world, WritesOf, Leaves};
+ghost use Rattle.bnc_server.specs.HeldNode.{held_world, WritesTextOf, Becomes};
 ghost use Rattle.bnc_server.specs.Progress.{text_of_next, world_after_next, IsDrained, Serves};
 
 use crate::fault::ReplayFault;
@@ -23,9 +23,9 @@ fn serve_next<W: Write>(
     alloc: Global,
     writer: &mut W,
 ) -> Result<bool, ReplayFault>
-    ensures text { WritesOf W.contents writer.old writer.new result held_world world.old
+    ensures text { WritesTextOf W.contents writer.old writer.new result held_world world.old
         (text_of_next (next_item feeder.old)) }
-    ensures world { Leaves result held_world world.old
+    ensures world { Becomes result held_world world.old
         (world_after_next (next_item feeder.old)) world.new }
     ensures feeder { feeder.new ≡ held_without (next_item feeder.old) feeder.old }
     ensures some { IfOk result (λ more. more ≡ is_some (next_item feeder.old)) }

@@ -1,6 +1,6 @@
 //! The world of a script: nine nodes, and the directory that their sessions go by.
 ghost use Rattle.std.specs.Prelude.{◌≡◌, ◌≢◌, ◌<◌, [], map, length, Ok, IfOk, IfErr, OnOk};
-ghost use Rattle.output.specs.Writes.{Writes};
+ghost use Rattle.byte_text.specs.Writes.{Writes};
 ghost use Rattle.chat_change.specs.Words.{begins_with};
 ghost use Rattle.gossip_delta.specs.ChangeLine.{read_change};
 ghost use Rattle.client_session.specs.declared.stage.Stage.TheVariants.{Registered};
@@ -12,20 +12,20 @@ ghost use Rattle.bnc_server.specs.World as worlds;
 ghost use Rattle.bnc_server.specs.Script as spec;
 ghost use Rattle.bnc_server.specs.Schedule.{node_count, ArePlaces};
 ghost use Rattle.bnc_server.specs.HeldNode.{held_node, held_world, value_of, HasNodes};
-ghost use Rattle.bnc_server.specs.HeldNode.{WritesOf, Leaves, EndsBy};
+ghost use Rattle.bnc_server.specs.HeldNode.{WritesTextOf, Becomes, EndsBy};
 ghost use Rattle.bnc_server.specs.Faults.{IsFaultOf, MayRefuse, MayEnd, MayEndCommand};
 
 use crate::command::{Command, command_of};
 use crate::fault::ReplayFault;
 use crate::node::{Node, all_hear, lives_of, push};
 use crate::reply::{put_bad_field, put_bad_form, put_link_fault};
+use byte_text::{NoMemory, Text};
 use chat_batch::Facts;
 use chat_change::{Buffer, Change};
 use client_session::{Account, Directory, Entry, Network};
 use gossip_delta::{ChangeLineFault, is_text, read_change_in};
 use gossip_link::{Ack, Life, LinkFault, NodeName, Packet};
 use irc_caps::CapSet;
-use memory::{NoMemory, Text};
 use std::alloc::Global;
 use std::io::Write;
 use std::marker::Model;
@@ -225,7 +225,7 @@ impl World {
     }
 
     fn take(&mut self, change: Change) -> Result<(), ReplayFault>
-        ensures world { Leaves result held_world self.old
+        ensures world { Becomes result held_world self.old
             (λ w. (spec.outcome w (of_change (Ok change))).world) self.new }
         ensures fault { EndsBy result held_world self.old
             (λ w. MayRefuse (spec.selected_node w) change) }
@@ -239,9 +239,9 @@ impl World {
         text: &[u8],
         writer: &mut W,
     ) -> Result<(), ReplayFault>
-        ensures text { WritesOf W.contents writer.old writer.new result held_world self.old
+        ensures text { WritesTextOf W.contents writer.old writer.new result held_world self.old
             (λ w. (spec.outcome w (of_change (read_change text.now))).text) }
-        ensures world { Leaves result held_world self.old
+        ensures world { Becomes result held_world self.old
             (λ w. (spec.outcome w (of_change (read_change text.now))).world) self.new }
         ensures fault { EndsBy result held_world self.old
             (λ w. MayEnd w (of_change (read_change text.now))) }
@@ -261,9 +261,9 @@ impl World {
         text: &[u8],
         writer: &mut W,
     ) -> Result<(), ReplayFault>
-        ensures text { WritesOf W.contents writer.old writer.new result held_world self.old
+        ensures text { WritesTextOf W.contents writer.old writer.new result held_world self.old
             (λ w. (spec.outcome w (of_client text.now)).text) }
-        ensures world { Leaves result held_world self.old
+        ensures world { Becomes result held_world self.old
             (λ w. (spec.outcome w (of_client text.now)).world) self.new }
         ensures fault { EndsBy result held_world self.old (λ w. MayEnd w (of_client text.now)) }
     {
@@ -280,7 +280,7 @@ impl World {
         requires { ArePlaces sender receiver }
         ensures ack { IfOk result (λ ack. (w : worlds.World) → self.old ≡ held_world w
             → ack ≡ worlds.ack_of w sender receiver) }
-        ensures world { Leaves result held_world self.old
+        ensures world { Becomes result held_world self.old
             (λ w. worlds.after_packet_of w sender receiver) self.new }
         ensures fault { IfErr result (λ fault. fault ≢ ReplayFault.Write) }
     {
@@ -298,9 +298,9 @@ impl World {
         writer: &mut W,
     ) -> Result<(), ReplayFault>
         requires { ArePlaces sender receiver }
-        ensures text { WritesOf W.contents writer.old writer.new result held_world self.old
+        ensures text { WritesTextOf W.contents writer.old writer.new result held_world self.old
             (λ w. (worlds.after_command w (commands.exchange sender receiver)).text) }
-        ensures world { Leaves result held_world self.old
+        ensures world { Becomes result held_world self.old
             (λ w. (worlds.after_command w (commands.exchange sender receiver)).world) self.new }
     {
         match self.send(alloc, sender, receiver)? {
@@ -311,7 +311,7 @@ impl World {
 
     fn lose(&mut self, alloc: Global, sender: usize, receiver: usize) -> Result<(), ReplayFault>
         requires { ArePlaces sender receiver }
-        ensures world { Leaves result held_world self.old
+        ensures world { Becomes result held_world self.old
             (λ w. worlds.after_sending w sender receiver) self.new }
         ensures fault { IfErr result (λ fault. fault ≡ ReplayFault.NoMemory) }
     {
@@ -326,7 +326,7 @@ impl World {
         receiver: usize,
     ) -> Result<(), ReplayFault>
         requires { ArePlaces sender receiver }
-        ensures world { Leaves result held_world self.old
+        ensures world { Becomes result held_world self.old
             (λ w. (worlds.after_command w (commands.hold_back sender receiver)).world) self.new }
         ensures fault { IfErr result (λ fault. fault ≢ ReplayFault.Write) }
     {
@@ -343,9 +343,9 @@ impl World {
         writer: &mut W,
     ) -> Result<(), ReplayFault>
         requires { ArePlaces sender receiver }
-        ensures text { WritesOf W.contents writer.old writer.new result held_world self.old
+        ensures text { WritesTextOf W.contents writer.old writer.new result held_world self.old
             (λ w. (worlds.after_command w (commands.hand_over sender receiver)).text) }
-        ensures world { Leaves result held_world self.old
+        ensures world { Becomes result held_world self.old
             (λ w. (worlds.after_command w (commands.hand_over sender receiver)).world) self.new }
         ensures fault { IfErr result (λ fault. fault ≡ ReplayFault.Write) }
     {
@@ -386,7 +386,7 @@ impl World {
 
     fn begin(&mut self, alloc: Global, place: usize, life: &Life) -> Result<(), NoMemory>
         requires { place < node_count }
-        ensures { Leaves result held_world self.old
+        ensures { Becomes result held_world self.old
             (λ w. worlds.after_restart w place life.now) self.new }
     {
         let lives = self.lives_with(alloc, place, life)?;
@@ -397,7 +397,7 @@ impl World {
 
     fn restart(&mut self, alloc: Global, place: usize) -> Result<(), ReplayFault>
         requires { place < node_count }
-        ensures world { Leaves result held_world self.old
+        ensures world { Becomes result held_world self.old
             (λ w. (worlds.after_command w (commands.restart place)).world) self.new }
         ensures fault { IfErr result (λ fault. fault ≢ ReplayFault.Write) }
     {
@@ -415,9 +415,9 @@ impl World {
         writer: &mut W,
     ) -> Result<(), ReplayFault>
         requires { HasNodes command }
-        ensures text { WritesOf W.contents writer.old writer.new result held_world self.old
+        ensures text { WritesTextOf W.contents writer.old writer.new result held_world self.old
             (λ w. (worlds.after_command w (value_of command)).text) }
-        ensures world { Leaves result held_world self.old
+        ensures world { Becomes result held_world self.old
             (λ w. (worlds.after_command w (value_of command)).world) self.new }
         ensures fault { IfErr result (MayEndCommand (value_of command)) }
     {
@@ -441,9 +441,9 @@ impl World {
         alloc: Global,
         writer: &mut W,
     ) -> Result<(), ReplayFault>
-        ensures text { WritesOf W.contents writer.old writer.new result held_world self.old
+        ensures text { WritesTextOf W.contents writer.old writer.new result held_world self.old
             (λ w. (spec.outcome w over_long).text) }
-        ensures world { Leaves result held_world self.old
+        ensures world { Becomes result held_world self.old
             (λ w. (spec.outcome w over_long).world) self.new }
         ensures fault { EndsBy result held_world self.old (λ w. MayEnd w over_long) }
     {
@@ -458,9 +458,9 @@ impl World {
         text: &[u8],
         writer: &mut W,
     ) -> Result<(), ReplayFault>
-        ensures text { WritesOf W.contents writer.old writer.new result held_world self.old
+        ensures text { WritesTextOf W.contents writer.old writer.new result held_world self.old
             (λ w. (spec.outcome w (request_in text.now)).text) }
-        ensures world { Leaves result held_world self.old
+        ensures world { Becomes result held_world self.old
             (λ w. (spec.outcome w (request_in text.now)).world) self.new }
         ensures fault { EndsBy result held_world self.old (λ w. MayEnd w (request_in text.now)) }
     {

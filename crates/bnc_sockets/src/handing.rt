@@ -1,7 +1,7 @@
 //! What other threads hand in to a worker.
 use attach::{Attachment, Boxed};
 use bnc_ports::{Arrival, Mail, PortFault};
-use crossbeam_channel::Sender;
+use crossbeam_channel::{SendError, Sender};
 use mio::Waker;
 use mio::net::TcpStream;
 use std::alloc::AllocError;
@@ -28,6 +28,14 @@ pub enum Parcel {
     Stop,
 }
 
+// Whether the channel took what was sent. What it didn't take is dropped.
+fn sent<T: Drop>(taken: Result<(), SendError<T>>) -> Result<(), PortFault> {
+    match taken {
+        Ok(()) => Ok(()),
+        Err(_) => Err(PortFault),
+    }
+}
+
 /// Where parcels for one worker are handed in.
 #[derive(Drop)]
 pub struct Slot {
@@ -52,9 +60,7 @@ impl Slot {
     /// Hands a parcel in, and wakes the worker then, so that it finds the parcel. A wake that the system refuses costs time
     /// alone: a worker looks for parcels at least once a second.
     pub fn hand<R: Wait>(&self, rt: &R, parcel: Parcel) -> Result<(), PortFault> {
-        if self.parcels.send(rt, parcel).is_err() {
-            return Err(PortFault);
-        }
+        sent(self.parcels.send(rt, parcel))?;
         let _ = self.waker.wake();
         Ok(())
     }
@@ -88,13 +94,7 @@ impl<X: Attachment> Door<X> {
     ) -> Result<(), PortFault> {
         self.ticket = self.ticket.wrapping_add(1);
         let ticket = self.ticket;
-        if self
-            .arrivals
-            .send(rt, Arrival { ticket, attachment })
-            .is_err()
-        {
-            return Err(PortFault);
-        }
+        sent(self.arrivals.send(rt, Arrival { ticket, attachment }))?;
         self.slot.hand(
             rt,
             Parcel::Client {

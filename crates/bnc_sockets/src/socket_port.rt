@@ -74,8 +74,9 @@ pub struct SocketPort<R: Wait + Drop> {
 
 impl<R: Wait + Drop> Drop for SocketPort<R> {
     fn drop(self) {
+        self.stop_all();
         let Self {
-            rt,
+            rt: _,
             poll: _,
             events: _,
             at: _,
@@ -83,12 +84,18 @@ impl<R: Wait + Drop> Drop for SocketPort<R> {
             parcels_taken: _,
             is_turn_of_events: _,
             parcels: _,
-            slots,
+            slots: _,
             lines: _,
             addresses: _,
         } = self;
-        for slot in slots.iter() {
-            let _ = slot.hand(&rt, Parcel::Stop);
+    }
+}
+
+impl<R: Wait + Drop> SocketPort<R> {
+    // Tells all workers to end.
+    fn stop_all(&self) {
+        for slot in self.slots.iter() {
+            let _ = slot.hand(&self.rt, Parcel::Stop);
         }
     }
 }
@@ -152,7 +159,7 @@ impl<R: Net + Wait + Clock + Eprint + AllocGlobal + Drop> SocketPort<R> {
 
     // A stream that is dropped is closed, and leaves the poll.
     fn close_line(&mut self, number: usize) {
-        let _ = self.lines.try_remove(number);
+        drop(self.lines.try_remove(number));
     }
 
     fn unpack(&mut self, parcel: Parcel) -> Happening {
@@ -319,10 +326,11 @@ impl<R: Net + Wait + Clock + Eprint + AllocGlobal + Drop> Port for SocketPort<R>
     }
 
     fn post(&mut self, worker: usize, mail: Mail) -> Result<(), PortFault> {
-        match self.slots.get(worker) {
-            Some(slot) => slot.hand(&self.rt, Parcel::Mail(mail)),
-            None => Err(PortFault),
-        }
+        let Some(slot) = self.slots.get(worker) else {
+            drop(mail);
+            return Err(PortFault);
+        };
+        slot.hand(&self.rt, Parcel::Mail(mail))
     }
 
     fn workers(&self) -> usize {

@@ -16,33 +16,56 @@ impl<N: Node, X: Attachment, P: Port> Worker<N, X, P> {
     /// The turn of one client.
     pub(crate) fn serve_client(&mut self, line: usize) -> Result<(), WorkEnd> {
         for _ in 0..STEPS {
-            let step = self.clients.step(&mut self.desk, self.node.pass(), line);
-            match step {
-                Step::Do(effects) => self.do_client(line, effects)?,
-                Step::Again => {}
-                Step::Wait => {
-                    self.clients.finish(&mut self.desk, line, true);
-                    return Ok(());
-                }
-                Step::Rest => {
-                    self.clients.finish(&mut self.desk, line, false);
-                    return Ok(());
-                }
-                Step::End(reason) => self.clients.end(&mut self.desk, line, reason),
-                Step::Over(reason) => {
-                    self.clients.close(&mut self.desk, line, reason);
-                    return Ok(());
-                }
+            if !self.step_client(line)? {
+                return Ok(());
             }
         }
         self.clients.finish(&mut self.desk, line, true);
         Ok(())
     }
 
+    // One step of a client's turn. False where the turn ends with it.
+    fn step_client(&mut self, line: usize) -> Result<bool, WorkEnd> {
+        let Worker {
+            node,
+            desk,
+            clients,
+            ..
+        } = self;
+        match clients.step(desk, node.pass(), line) {
+            Step::Do(effects) => {
+                self.do_client(line, effects)?;
+                return Ok(true);
+            }
+            Step::Again => return Ok(true),
+            Step::End(reason) => {
+                clients.end(desk, line, reason);
+                return Ok(true);
+            }
+            Step::Wait => clients.finish(desk, line, true),
+            Step::Rest => clients.finish(desk, line, false),
+            Step::Over(reason) => clients.close(desk, line, reason),
+        }
+        Ok(false)
+    }
+
     // Does what a line of a client comes to. Where that is refused the client is closed.
     fn do_client(&mut self, line: usize, effects: Vec<Effect>) -> Result<(), WorkEnd> {
         self.clients.note_registration(&mut self.desk, line);
-        for effect in &effects {
+        match self.do_client_effects(line, &effects)? {
+            Ok(()) => self.clients.recycle(line, effects),
+            Err(reason) => self.clients.close(&mut self.desk, line, reason),
+        }
+        Ok(())
+    }
+
+    // Does these in their order, up to one that is refused.
+    fn do_client_effects(
+        &mut self,
+        line: usize,
+        effects: &[Effect],
+    ) -> Result<Result<(), Reason>, WorkEnd> {
+        for effect in effects {
             let done = match effect {
                 Effect::Send(text) => self.clients.owe(line, text.as_bytes()),
                 Effect::Put(change) => self.put_for(line, change)?,
@@ -53,13 +76,11 @@ impl<N: Node, X: Attachment, P: Port> Worker<N, X, P> {
                     Ok(())
                 }
             };
-            if let Err(reason) = done {
-                self.clients.close(&mut self.desk, line, reason);
-                return Ok(());
+            if done.is_err() {
+                return Ok(done);
             }
         }
-        self.clients.recycle(line, effects);
-        Ok(())
+        Ok(Ok(()))
     }
 
     // Puts a client's marker, and tells the other sessions. Where it waits to be published, nobody can be told yet, and the

@@ -68,20 +68,26 @@ impl<N: Node, X: Attachment, P: Port> Worker<N, X, P> {
 
     /// All workers learn how the session with a network's server stands now, and whether a line that says so is passed on.
     pub(crate) fn spread(&mut self, standing: Standing, is_passed_on: bool) {
-        let Standing { network, entry } = standing;
         for worker in 0..self.desk.site.workers {
             if worker != self.desk.site.worker {
-                if let Ok(entry) = entry.try_clone(self.desk.site.alloc) {
-                    let mail = Mail::Entry {
-                        network,
-                        entry,
-                        is_passed_on,
-                    };
-                    let _ = self.desk.port.post(worker, mail);
-                }
+                self.post_entry(worker, &standing, is_passed_on);
             }
         }
+        let Standing { network, entry } = standing;
         self.take_entry(network, entry, is_passed_on);
+    }
+
+    // Another worker learns how the session with a network's server stands now.
+    fn post_entry(&mut self, worker: usize, standing: &Standing, is_passed_on: bool) {
+        let Ok(entry) = standing.entry.try_clone(self.desk.site.alloc) else {
+            return;
+        };
+        let mail = Mail::Entry {
+            network: standing.network,
+            entry,
+            is_passed_on,
+        };
+        let _ = self.desk.port.post(worker, mail);
     }
 
     /// Puts the floors that are due, and does so again in an hour.

@@ -4,9 +4,9 @@ use crate::station::WorkEnd;
 use crate::worker::Worker;
 use attach::Attachment;
 use bnc_ports::{Mail, Port};
+use byte_text::{NoMemory, Text};
 use chat_change::Change;
 use irc_line::{TagLimit, read_line};
-use memory::{NoMemory, Text};
 use std::alloc::Global;
 
 // A line by which somebody joins a channel (RFC 2812, section 3.2.1).
@@ -101,9 +101,19 @@ impl<N: Node, X: Attachment, P: Port> Worker<N, X, P> {
         target: &[u8],
         except: Option<usize>,
     ) -> Result<(), WorkEnd> {
-        let Ok(question) = marker_question(self.desk.site.alloc, target) else {
-            return Ok(());
-        };
+        match marker_question(self.desk.site.alloc, target) {
+            Ok(question) => self.tell_followers(network, question.as_bytes(), except),
+            Err(NoMemory) => Ok(()),
+        }
+    }
+
+    // This worker's sessions of the network that follow read markers are told the answer to a question, but for one client.
+    fn tell_followers(
+        &mut self,
+        network: usize,
+        question: &[u8],
+        except: Option<usize>,
+    ) -> Result<(), WorkEnd> {
         let mut from = 0;
         for _ in 0..usize::MAX {
             let Some(line) = self.clients.next_follower(from, network, except) else {
@@ -116,7 +126,7 @@ impl<N: Node, X: Attachment, P: Port> Worker<N, X, P> {
                 clients,
                 ..
             } = self;
-            clients.tell_answer(desk, node.pass(), line, question.as_bytes());
+            clients.tell_answer(desk, node.pass(), line, question);
             let Some(next) = line.checked_add(1) else {
                 return Ok(());
             };

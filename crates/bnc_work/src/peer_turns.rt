@@ -4,8 +4,8 @@ use crate::station::WorkEnd;
 use crate::worker::Worker;
 use attach::Attachment;
 use bnc_ports::{Mail, Port, Reason};
+use byte_text::NoMemory;
 use chat_change::Change;
-use memory::NoMemory;
 use peer_session::{Arrived, Outcome, changes_of};
 use work_peers::Step;
 
@@ -22,22 +22,32 @@ impl<N: Node, X: Attachment, P: Port> Worker<N, X, P> {
     /// The turn of one peer.
     pub(crate) fn serve_peer(&mut self, line: usize) -> Result<(), WorkEnd> {
         for _ in 0..STEPS {
-            match self.peers.step(&mut self.desk, line) {
-                Step::Take(place, arrived) => self.take_message(line, place, &arrived)?,
-                Step::Again => {}
-                Step::Rest => {
-                    self.peers.finish(&mut self.desk, line);
-                    return Ok(());
-                }
-                Step::Over(reason) => {
-                    self.peers.close(&mut self.desk, line, reason);
-                    return Ok(());
-                }
+            if !self.step_peer(line)? {
+                return Ok(());
             }
         }
         self.peers.wake(line);
         self.peers.finish(&mut self.desk, line);
         Ok(())
+    }
+
+    // One step of a peer's turn. False where the turn ends with it.
+    fn step_peer(&mut self, line: usize) -> Result<bool, WorkEnd> {
+        match self.peers.step(&mut self.desk, line) {
+            Step::Take(place, arrived) => {
+                self.take_message(line, place, &arrived)?;
+                Ok(true)
+            }
+            Step::Again => Ok(true),
+            Step::Rest => {
+                self.peers.finish(&mut self.desk, line);
+                Ok(false)
+            }
+            Step::Over(reason) => {
+                self.peers.close(&mut self.desk, line, reason);
+                Ok(false)
+            }
+        }
     }
 
     // Carries out a message of the peer at that place. Sessions are told of the markers that came with it.
@@ -74,18 +84,26 @@ impl<N: Node, X: Attachment, P: Port> Worker<N, X, P> {
     // done last: a marker that changed nothing isn't told again.
     fn catch_up(&mut self, is_told: bool) -> Result<(), WorkEnd> {
         for _ in 0..u64::MAX {
-            let Ok(delta) = self.node.pass().delta(self.desk.site.alloc, self.seen) else {
+            if !self.take_delta(is_told)? {
                 return Ok(());
-            };
-            if delta.is_empty() {
-                return Ok(());
-            }
-            self.seen = delta.to();
-            if is_told {
-                self.tell_marks(delta.changes(), None)?;
             }
         }
         Ok(())
+    }
+
+    // Goes on by what the node can tell at once. False where nothing is new, or there was no memory.
+    fn take_delta(&mut self, is_told: bool) -> Result<bool, WorkEnd> {
+        let Ok(delta) = self.node.pass().delta(self.desk.site.alloc, self.seen) else {
+            return Ok(false);
+        };
+        if delta.is_empty() {
+            return Ok(false);
+        }
+        self.seen = delta.to();
+        if is_told {
+            self.tell_marks(delta.changes(), None)?;
+        }
+        Ok(true)
     }
 
     /// Changes were put, which the peers are to have.

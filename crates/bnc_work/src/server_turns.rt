@@ -4,8 +4,8 @@ use crate::station::WorkEnd;
 use crate::worker::Worker;
 use attach::Attachment;
 use bnc_ports::{Mail, Port, Reason};
+use byte_text::{NoMemory, Text};
 use chat_change::{Change, Record};
-use memory::{NoMemory, Text};
 use shared_node::PutFault;
 use std::slice;
 use upstream_session::{Recipients, UpEffect, is_from};
@@ -19,22 +19,39 @@ impl<N: Node, X: Attachment, P: Port> Worker<N, X, P> {
     /// The turn of one server.
     pub(crate) fn serve_server(&mut self, line: usize) -> Result<(), WorkEnd> {
         for _ in 0..STEPS {
-            match self.servers.step(&mut self.desk, line) {
-                Step::Do(effects) => self.do_server(line, effects)?,
-                Step::Again => {}
-                Step::Rest => {
-                    self.finish_server(line);
-                    return Ok(());
-                }
-                Step::Over(reason) => {
-                    self.close_server(line, reason);
-                    return Ok(());
-                }
+            if !self.step_server(line)? {
+                return Ok(());
             }
         }
         self.servers.wake(line);
         self.finish_server(line);
         Ok(())
+    }
+
+    // One step of a server's turn. False where the turn ends with it.
+    fn step_server(&mut self, line: usize) -> Result<bool, WorkEnd> {
+        match self.servers.step(&mut self.desk, line) {
+            Step::Do(effects) => {
+                self.do_server(line, effects)?;
+                Ok(true)
+            }
+            Step::Again => Ok(true),
+            Step::Rest => {
+                self.finish_server(line);
+                Ok(false)
+            }
+            Step::Over(reason) => {
+                self.close_server(line, reason);
+                Ok(false)
+            }
+        }
+    }
+
+    /// A server that was silent for long is given up.
+    pub(crate) fn check_quiet(&mut self, line: usize) {
+        if let Some(standing) = self.servers.check_quiet(&mut self.desk, line) {
+            self.spread(standing, false);
+        }
     }
 
     fn finish_server(&mut self, line: usize) {
@@ -69,13 +86,22 @@ impl<N: Node, X: Attachment, P: Port> Worker<N, X, P> {
         if let Some(standing) = self.servers.note_entry(&mut self.desk, line) {
             self.spread(standing, is_passed_on(&effects));
         }
-        for effect in &effects {
+        if self.do_server_effects(line, &effects)? {
+            self.servers.recycle(line, effects);
+        } else {
+            self.close_server(line, Reason::NoMemory);
+        }
+        Ok(())
+    }
+
+    // Does these in their order. False where the node refuses a change: the rest is left then.
+    fn do_server_effects(&mut self, line: usize, effects: &[UpEffect]) -> Result<bool, WorkEnd> {
+        for effect in effects {
             match effect {
                 UpEffect::Send(text) => self.servers.owe(line, text.as_bytes()),
                 UpEffect::Put(change) => {
                     if !self.put_from(line, change) {
-                        self.close_server(line, Reason::NoMemory);
-                        return Ok(());
+                        return Ok(false);
                     }
                 }
                 UpEffect::Relay(text, to) => self.pass_on(line, *to, text)?,
@@ -85,8 +111,7 @@ impl<N: Node, X: Attachment, P: Port> Worker<N, X, P> {
                 }
             }
         }
-        self.servers.recycle(line, effects);
-        Ok(())
+        Ok(true)
     }
 
     // Puts what a server's line came to, and says whether the node has it. A message is told as it comes, also where it waits

@@ -3,7 +3,7 @@ use crate::station::{Station, WorkEnd};
 use crate::worker::try_work;
 use attach::Attachment;
 use bnc_ports::{Gate, Port};
-use memory::NoMemory;
+use byte_text::NoMemory;
 use shared_node::{Naming, Pass, SharedNode};
 use std::alloc::AllocError;
 use std::sync::Wait;

@@ -1,9 +1,9 @@
 //! What a worker begins with, and how its work ends.
 use attach::Boxed;
 use bnc_ports::Lobby;
+use byte_text::Text;
 use client_directory::Directory;
 use gossip_link::{NodeName, Terms};
-use memory::Text;
 use upstream_session::Config;
 
 /// How the work of one worker ended.

@@ -3,8 +3,9 @@ use crate::node::{GatedNode, Node};
 use crate::station::{Station, WorkEnd};
 use attach::Attachment;
 use bnc_ports::{Dial, Gate, Happening, Port};
+use byte_text::NoMemory;
 use chat_change::Moment;
-use memory::NoMemory;
+use gossip_link::{NodeName, Terms};
 use shared_node::{Naming, NodeTaker, Pass, SharedNode};
 use std::alloc::Global;
 use std::sync::Wait;
@@ -70,70 +71,96 @@ pub(crate) fn try_work<
     port: P,
     gate: &G,
 ) -> Result<WorkEnd, NoMemory> {
+    let taker = NodeTaker::new(node, pass, rt);
+    let node = GatedNode { taker, gate };
     let mut port = port;
-    let Some(time) = clock(&mut port) else {
-        return Ok(WorkEnd::Failed);
-    };
-    let (desk, clients, servers, peers) = begin(rt.alloc(), worker, time, station, port)?;
-    let mut worker = Worker {
-        node: GatedNode {
-            taker: NodeTaker::new(node, pass, rt),
-            gate,
-        },
-        desk,
-        clients,
-        servers,
-        peers,
-        seen: 0,
-    };
-    worker.open();
-    for _ in rt.forever() {
-        if let Err(end) = worker.turn() {
-            return Ok(end);
-        }
+    match clock(&mut port) {
+        Some(time) => serve(rt, worker, node, time, station, port),
+        None => Ok(WorkEnd::Failed),
     }
-    unreachable!()
 }
 
-fn begin<X: Attachment, P: Port>(
-    alloc: Global,
-    worker: usize,
-    (now, moment): (u64, Moment),
+// Serves from that time on.
+fn serve<W: Wait + AllocGlobal, N: Node, X: Attachment, P: Port>(
+    rt: &W,
+    number: usize,
+    node: N,
+    time: (u64, Moment),
     station: Station<X>,
     port: P,
-) -> Result<(Desk<P>, Clients<X>, Servers, Peers), NoMemory> {
-    let Station {
-        lobby,
-        cluster,
-        maximum,
-        directory,
-        networks,
-        terms,
-        peers,
-        retain_days,
-    } = station;
-    let clients = Clients::new(alloc, lobby);
-    let servers = Servers::new(alloc, networks.len())?;
-    let count = peers.len();
-    let peers = Peers::new(alloc, &terms, peers)?;
-    let site = Site {
-        alloc,
-        worker,
-        workers: port.workers(),
-        now,
-        moment,
-        cluster,
-        maximum,
-        directory,
-        networks,
-        terms,
-        retain_days,
-    };
-    let desk = Desk::new(site, port, count)?;
-    Ok((desk, clients, servers, peers))
+) -> Result<WorkEnd, NoMemory> {
+    let mut worker = Worker::new(rt.alloc(), number, node, time, station, port)?;
+    Ok(worker.run(rt))
+}
+
+// A worker's servers, of so many networks, and its peers, of these names.
+fn tables_of(
+    alloc: Global,
+    networks: usize,
+    terms: &Terms,
+    names: Vec<NodeName>,
+) -> Result<(Servers, Peers), NoMemory> {
+    let peers = Peers::new(alloc, terms, names)?;
+    let servers = Servers::new(alloc, networks)?;
+    Ok((servers, peers))
 }
 
 impl<N: Node, X: Attachment, P: Port> Worker<N, X, P> {
+    // The worker of that number, without a connection.
+    fn new(
+        alloc: Global,
+        number: usize,
+        node: N,
+        (now, moment): (u64, Moment),
+        station: Station<X>,
+        port: P,
+    ) -> Result<Worker<N, X, P>, NoMemory> {
+        let Station {
+            lobby,
+            cluster,
+            maximum,
+            directory,
+            networks,
+            terms,
+            peers,
+            retain_days,
+        } = station;
+        let count = peers.len();
+        let (servers, peers) = tables_of(alloc, networks.len(), &terms, peers)?;
+        let site = Site {
+            alloc,
+            worker: number,
+            workers: port.workers(),
+            now,
+            moment,
+            cluster,
+            maximum,
+            directory,
+            networks,
+            terms,
+            retain_days,
+        };
+        Ok(Worker {
+            node,
+            desk: Desk::new(site, port, count)?,
+            clients: Clients::new(alloc, lobby),
+            servers,
+            peers,
+            seen: 0,
+        })
+    }
+
+    // Works until the gate shuts, or the port ends or fails.
+    fn run<W: Wait>(&mut self, rt: &W) -> WorkEnd {
+        self.open();
+        for _ in rt.forever() {
+            if let Err(end) = self.turn() {
+                return end;
+            }
+        }
+        unreachable!()
+    }
+
     // Connects to the servers of this worker's networks. The first worker connects to peers too, and has the floors put.
     fn open(&mut self) {
         let Worker {
@@ -169,15 +196,22 @@ impl<N: Node, X: Attachment, P: Port> Worker<N, X, P> {
         }
     }
 
-    // One thing that happened, what is due, and the turns of one server, one peer and one client.
-    fn turn(&mut self) -> Result<(), WorkEnd> {
+    // What happens next. The clock is read then.
+    fn next(&mut self) -> Result<Happening, WorkEnd> {
         let patience = self.patience();
         let Ok(happening) = self.desk.port.next(patience) else {
             return Err(WorkEnd::Failed);
         };
-        if !self.desk.read_clock() {
-            return Err(WorkEnd::Failed);
+        if self.desk.read_clock() {
+            Ok(happening)
+        } else {
+            Err(WorkEnd::Failed)
         }
+    }
+
+    // One thing that happened, what is due, and the turns of one server, one peer and one client.
+    fn turn(&mut self) -> Result<(), WorkEnd> {
+        let happening = self.next()?;
         self.take(happening)?;
         self.look_after_timers()?;
         if let Some(line) = self.servers.next_busy() {
@@ -267,11 +301,7 @@ impl<N: Node, X: Attachment, P: Port> Worker<N, X, P> {
         } = self;
         match timer {
             Timer::RetryNetwork(network) => servers.dial(desk, network),
-            Timer::QuietUpstream(line) => {
-                if let Some(standing) = servers.check_quiet(desk, line) {
-                    self.spread(standing, false);
-                }
-            }
+            Timer::QuietUpstream(line) => self.check_quiet(line),
             Timer::Unregistered(line) => {
                 clients.check_registered(desk, line);
                 peers.check_greeted(desk, line);

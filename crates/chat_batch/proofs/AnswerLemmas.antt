@@ -1,10 +1,10 @@
--- Answers of sets of one normal form, and what a call that gives an answer leaves.
+-- Answers of sets of one normal form, and what a call that writes an answer leaves.
 use Rattle.std.proofs.Common.{◌≡◌, ℕ, cond, List, [], ◌∷◌, Option, Some, None, Result, Ok, Err, codes, refl, sym, ap, ◌∙◌, subst}
 use Rattle.std.specs.Prelude.{IfOk, ◌&&◌}
 use Rattle.std.specs.Str.{str_eq_ignore_ascii_case}
 use Rattle.irc_line.specs.Line.{Reading}
-use Rattle.output.specs.Writes.{AppendsPrefix, WritesKnown}
-use Rattle.output.proofs.CallerLemmas.{prefix_none}
+use Rattle.byte_text.specs.Writes.{AppendsPrefix, WritesKnown}
+use Rattle.byte_text.proofs.CallerLemmas.{prefix_none}
 use Rattle.irc_reply.specs.Reply.{mark_text}
 use Rattle.chat_change.specs.Buffer.{Buffer, buffer_of}
 use Rattle.chat_change.specs.declared.change.Change.{Change}
@@ -17,7 +17,7 @@ use Rattle.chat_page.specs.declared.parameters.QueryFault.{QueryFault}
 use Rattle.chat_page.specs.declared.parameters.QueryFault.TheVariants.{InvalidTarget}
 use Rattle.chat_batch.specs.Answers.{Answer, plain, fail, unknown, has_buffers, has_buffer, scope_of, subcommand_of, code_of, reason_of, refusal_about, query_refusal, unknown_message, page_or_unknown, query_or_refusal, history_answer, marker_refusal, asks_or_sets, marker_or_refusal, answer_of}
 use Rattle.chat_batch.specs.declared.facts.Facts.{Facts}
-use Rattle.chat_batch.specs.Gives.{Gives, IsUnwritten}
+use Rattle.chat_batch.specs.WritesAnswer.{WritesAnswer, IsUnwritten}
 use Rattle.chat_batch.specs.declared.facts.Answered.{Answered}
 use Rattle.chat_batch.specs.declared.facts.Answered.TheVariants.{NotAQuery}
 use Rattle.chat_batch.specs.declared.answers.AnswerFault.{AnswerFault}
@@ -63,16 +63,16 @@ bare_refused facts fault code reason d f = λ i. fail facts (codes "CHATHISTORY"
 
 -- ---- what a call leaves
 
-pub gives_text : {W : Type 0} (contents : W → Option (List ℕ)) (old new : W) (r : Result Answered AnswerFault) (answer : Answer)
-    → Gives contents old new r answer → IsUnwritten r old new → WritesKnown (contents old) (contents new) r answer.text
-gives_text contents old new (Ok a) answer g u = g.0
-gives_text contents old new (Err Write) answer g u = g
-gives_text contents old new (Err NoMemory) answer g u = subst (λ w. AppendsPrefix (contents old) (contents w) answer.text) (sym u) (prefix_none (contents old) answer.text)
+pub written_text : {W : Type 0} (contents : W → Option (List ℕ)) (old new : W) (r : Result Answered AnswerFault) (answer : Answer)
+    → WritesAnswer contents old new r answer → IsUnwritten r old new → WritesKnown (contents old) (contents new) r answer.text
+written_text contents old new (Ok a) answer g u = g.0
+written_text contents old new (Err Write) answer g u = g
+written_text contents old new (Err NoMemory) answer g u = subst (λ w. AppendsPrefix (contents old) (contents w) answer.text) (sym u) (prefix_none (contents old) answer.text)
 
-pub gives_answered : {W : Type 0} (contents : W → Option (List ℕ)) (old new : W) (r : Result Answered AnswerFault) (answer : Answer)
-    → Gives contents old new r answer → IfOk r (λ a. a ≡ answer.answered)
-gives_answered contents old new (Ok a) answer g = g.1
-gives_answered contents old new (Err e) answer g = tt
+pub written_answered : {W : Type 0} (contents : W → Option (List ℕ)) (old new : W) (r : Result Answered AnswerFault) (answer : Answer)
+    → WritesAnswer contents old new r answer → IfOk r (λ a. a ≡ answer.answered)
+written_answered contents old new (Ok a) answer g = g.1
+written_answered contents old new (Err e) answer g = tt
 
 pub is_unwritten : {W : Type 0} (old new : W) (r : Result Answered AnswerFault) → IsUnwritten r old new → r ≡ Err NoMemory → new ≡ old
 is_unwritten old new (Ok a) u e = cc

@@ -92,7 +92,7 @@ upper_word most text is =
 some_bytes : (text : List ℕ) → not (length text == 0) ≡ true → 0 < length text
 some_bytes text e = grind arith
 
-echoed_word : (word : List ℕ) → HasNoBadByte word → IsWordTo word_limit (echoed word)
+pub echoed_word : (word : List ℕ) → HasNoBadByte word → IsWordTo word_limit (echoed word)
 echoed_word word good = go (can_be_echoed word) refl where
   go : (t : Bool) → can_be_echoed word ≡ t → IsWordTo word_limit (cond t word (codes "*"))
   go true e =

@@ -6,11 +6,10 @@ use Rattle.std.specs.Str.{str_eq_ignore_ascii_case}
 use Rattle.irc_line.specs.Line.{Reading}
 use Rattle.irc_reply.specs.Echo.{echoed}
 use Rattle.irc_reply.specs.Reply.{fail_text, mark_text, unknown_text}
-use Rattle.chat_change.specs.Words.{is_name, is_target}
 use Rattle.chat_change.specs.Buffer.{buffer_of}
 use Rattle.chat_change.specs.declared.change.Change.{Change}
 use Rattle.chat_history.specs.History.{mark}
-use Rattle.chat_page.specs.Scope.{Scope}
+use Rattle.chat_page.specs.Scope as scope
 use Rattle.chat_page.specs.Parameters.{read_query, moment_of}
 use Rattle.chat_page.specs.Page.{Page, page}
 use Rattle.chat_page.specs.declared.query.Query.{Query}
@@ -42,12 +41,13 @@ fail facts command code context reason = plain (fail_text facts.cluster command 
 
 -- a session whose account or network is no name has no buffers
 abbrev pub has_buffers : Facts → Bool
-has_buffers facts = is_name facts.account && is_name facts.network
+has_buffers facts = scope.has_buffers facts.account facts.network
 
+-- a target has a buffer of the session
 abbrev pub has_buffer : Facts → List ℕ → Bool
-has_buffer facts target = has_buffers facts && is_target target
+has_buffer facts target = scope.has_buffer facts.account facts.network target
 
-abbrev pub scope_of : Facts → Scope
+abbrev pub scope_of : Facts → scope.Scope
 scope_of facts = record {
   account = facts.account;
   network = facts.network;

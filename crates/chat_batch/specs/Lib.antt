@@ -6,5 +6,5 @@ pub mod Batch
 pub mod Reference
 pub mod Answers
 pub mod Standing
--- what only the proofs use of the code: what a call that answers leaves
-pub mod Gives
+-- what only the proofs use of the code: what a call that writes an answer leaves
+pub mod WritesAnswer

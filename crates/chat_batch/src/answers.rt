@@ -1,10 +1,10 @@
 //! Questions about the past, and their answers.
 ghost use Rattle.std.specs.Prelude.{◌≡◌, Err, List, IfOk, codes};
-ghost use Rattle.output.specs.Writes.{Writes};
+ghost use Rattle.byte_text.specs.Writes.{Writes};
 ghost use Rattle.chat_change.specs.declared.change.Change.{Change};
 ghost use Rattle.chat_history.specs.History.{norm};
 ghost use Rattle.chat_batch.specs.Answers as spec;
-ghost use Rattle.chat_batch.specs.Gives.{Gives, IsUnwritten};
+ghost use Rattle.chat_batch.specs.WritesAnswer.{WritesAnswer, IsUnwritten};
 
 use crate::facts::{Answered, Facts};
 use crate::history::answer_history;
@@ -33,7 +33,7 @@ pub(crate) fn write_incapable<W: Write>(
     command: &[u8],
     writer: &mut W,
 ) -> Result<Answered, AnswerFault>
-    ensures text { Gives W.contents writer.old writer.new result
+    ensures text { WritesAnswer W.contents writer.old writer.new result
         (spec.unknown facts.now command.now) }
     ensures memory { IsUnwritten result writer.old writer.new }
 {
@@ -78,7 +78,7 @@ pub fn answer<W: Write>(
     answer_command(alloc, state, facts, line, writer)
 }
 
-ghost use Rattle.chat_batch.specs.Gives.{GivesOf};
+ghost use Rattle.chat_batch.specs.WritesAnswer.{WritesAnswerFrom};
 
 fn answer_command<W: Write>(
     alloc: Global,
@@ -87,7 +87,7 @@ fn answer_command<W: Write>(
     line: &Line<'_>,
     writer: &mut W,
 ) -> Result<Answered, AnswerFault>
-    ensures text { GivesOf W.contents writer.old writer.new result state.now.history
+    ensures text { WritesAnswerFrom W.contents writer.old writer.new result state.now.history
         (λ changes. spec.answer_of changes facts.now line.now) }
     ensures memory { IsUnwritten result writer.old writer.new }
 {

@@ -1,17 +1,17 @@
 //! Batches (IRCv3 batch).
 ghost use Rattle.std.specs.Prelude.{◌++◌, [], map, codes, if◌then◌else◌};
-ghost use Rattle.output.specs.Writes.{Writes};
+ghost use Rattle.byte_text.specs.Writes.{Writes};
 ghost use Rattle.irc_reply.specs.Reply.{ending};
 ghost use Rattle.chat_batch.specs.Batch.{batch_start, opening, closing, records_text, history_text, buffer_text, buffers_text, targets_text};
 
 use super::message::put_record;
 use super::tags::put_three;
+use byte_text::put;
 use chat_change::Record;
 use chat_page::ListedBuffer;
 use irc_caps::CapSet;
 use irc_reply::write_reply;
 use irc_time::write_time;
-use output::put;
 use std::io;
 use std::io::Write;
 
@@ -167,7 +167,8 @@ fn put_buffers<W: Write>(
 /// Writes a page of records as a batch of the type `chathistory` under the reference: the line
 /// `:cluster BATCH +reference chathistory given`, a line for each record in the order of the page, tagged with the
 /// reference, and the line `:cluster BATCH -reference`. `given` is the target as the client spelled it. A session
-/// without the capability `batch` gets the records alone, without that tag. Fails where the writer fails.
+/// without the capability `batch` gets the records alone, without that tag. Names, target and reference are written as they
+/// are: that each may stand in its place of a line is the caller's to see to. Fails where the writer fails.
 pub fn write_page<W: Write>(
     records: &[&Record],
     given: &[u8],

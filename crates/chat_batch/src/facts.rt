@@ -1,7 +1,13 @@
 //! Of whom an answer speaks, and what it was.
+ghost use Rattle.std.specs.Prelude.{◌≡◌, IfOk, true};
+ghost use Rattle.chat_change.specs.Buffer.{buffer_of};
+ghost use Rattle.chat_batch.specs.Answers as spec;
 
+use byte_text::{NoMemory, Text};
+use chat_change::Buffer;
+use chat_page::{has_buffer, lawful_buffer};
 use irc_caps::CapSet;
-use memory::Text;
+use std::alloc::Global;
 
 /// What is known of a session that asks.
 #[derive(Drop)]
@@ -20,6 +26,60 @@ pub struct Facts {
     pub cluster: Text,
     /// The most records or buffers of an answer.
     pub maximum: u32,
+}
+
+impl Facts {
+    /// The facts of a session that has asked nothing yet: its next batch is the first.
+    pub fn new(
+        alloc: Global,
+        account: &[u8],
+        network: &[u8],
+        nick: &[u8],
+        caps: CapSet,
+        cluster: &[u8],
+        maximum: u32,
+    ) -> Result<Facts, NoMemory>
+        ensures { IfOk result (λ facts. facts ≡ record {
+          account = account.now;
+          network = network.now;
+          nick = nick.now;
+          caps = caps;
+          reference = 1;
+          cluster = cluster.now;
+          maximum = maximum;
+        }) }
+    {
+        Ok(Facts {
+            account: Text::new(alloc, account)?,
+            network: Text::new(alloc, network)?,
+            nick: Text::new(alloc, nick)?,
+            caps,
+            reference: 1,
+            cluster: Text::new(alloc, cluster)?,
+            maximum,
+        })
+    }
+
+    /// Whether a target has a buffer of the session.
+    pub fn has_buffer(&self, target: &[u8]) -> bool
+        ensures { result ≡ spec.has_buffer self.now target.now }
+    {
+        has_buffer(self.account.as_bytes(), self.network.as_bytes(), target)
+    }
+
+    /// The buffer of a target that [has one](Facts::has_buffer). It fails for want of memory alone.
+    pub fn buffer(&self, alloc: Global, target: &[u8]) -> Result<Buffer, NoMemory>
+        requires { spec.has_buffer self.now target.now ≡ true }
+        ensures { IfOk result (λ buffer. buffer
+            ≡ buffer_of self.now.account self.now.network target.now) }
+    {
+        lawful_buffer(
+            alloc,
+            self.account.as_bytes(),
+            self.network.as_bytes(),
+            target,
+        )
+    }
 }
 
 /// What an answer was.

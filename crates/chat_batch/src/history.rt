@@ -1,10 +1,10 @@
 //! Answers to CHATHISTORY (IRCv3 draft/chathistory).
 ghost use Rattle.std.specs.Prelude.{◌≡◌, codes, map, if◌then◌else◌};
-ghost use Rattle.output.specs.Writes.{Writes};
+ghost use Rattle.byte_text.specs.Writes.{Writes};
 ghost use Rattle.chat_page.specs.Answer.{value_of};
 ghost use Rattle.chat_batch.specs.Answers as spec;
 ghost use Rattle.chat_batch.specs.Batch.{page_text};
-ghost use Rattle.chat_batch.specs.Gives.{Gives, GivesOf, IsUnwritten};
+ghost use Rattle.chat_batch.specs.WritesAnswer.{WritesAnswer, WritesAnswerFrom, IsUnwritten};
 
 use crate::answers::{AnswerFault, write_incapable};
 use crate::batch::{write_page, write_targets};
@@ -18,16 +18,6 @@ use irc_line::Line;
 use std::alloc::Global;
 use std::io;
 use std::io::Write;
-
-/// Lets a page go.
-fn discard(page: Page<'_>) {
-    let _ = page;
-}
-
-/// Lets a query go.
-fn discard_query(query: Query<'_>) {
-    let _ = query;
-}
 
 fn put_page<W: Write>(
     page: &Page<'_>,
@@ -65,7 +55,7 @@ fn write_answer<W: Write>(
     page: &Page<'_>,
     writer: &mut W,
 ) -> Result<Answered, AnswerFault>
-    ensures text { Gives W.contents writer.old writer.new result
+    ensures text { WritesAnswer W.contents writer.old writer.new result
         (spec.page_answer facts.now given.now (value_of page.now)) }
     ensures memory { IsUnwritten result writer.old writer.new }
 {
@@ -116,7 +106,7 @@ fn answer_in_scope<W: Write>(
     query: &Query<'_>,
     writer: &mut W,
 ) -> Result<Answered, AnswerFault>
-    ensures text { GivesOf W.contents writer.old writer.new result state.now.history
+    ensures text { WritesAnswerFrom W.contents writer.old writer.new result state.now.history
         (λ changes. spec.page_or_unknown facts.now (map (λ p. p.now) parameters.now)
         (page changes scope.now query.now)) }
     ensures memory { IsUnwritten result writer.old writer.new }
@@ -124,7 +114,7 @@ fn answer_in_scope<W: Write>(
     match page(alloc, state, scope, query) {
         Ok(page) => {
             let answered = write_answer(alloc, facts, given_of(parameters), &page, writer);
-            discard(page);
+            drop(page);
             answered
         }
         Err(PageFault::UnknownMessage) => refuse_selector(
@@ -149,7 +139,7 @@ fn answer_query<W: Write>(
     query: &Query<'_>,
     writer: &mut W,
 ) -> Result<Answered, AnswerFault>
-    ensures text { GivesOf W.contents writer.old writer.new result state.now.history
+    ensures text { WritesAnswerFrom W.contents writer.old writer.new result state.now.history
         (λ changes. spec.query_answer changes facts.now (map (λ p. p.now) parameters.now)
         query.now) }
     ensures memory { IsUnwritten result writer.old writer.new }
@@ -172,7 +162,7 @@ fn answer_line<W: Write>(
     line: &Line<'_>,
     writer: &mut W,
 ) -> Result<Answered, AnswerFault>
-    ensures text { GivesOf W.contents writer.old writer.new result state.now.history
+    ensures text { WritesAnswerFrom W.contents writer.old writer.new result state.now.history
         (λ changes. spec.query_or_refusal changes facts.now line.now.parameters
         (read_query line.now.parameters)) }
     ensures memory { IsUnwritten result writer.old writer.new }
@@ -180,7 +170,7 @@ fn answer_line<W: Write>(
     match read_query(line) {
         Ok(query) => {
             let answered = answer_query(alloc, state, facts, line.parameters(), &query, writer);
-            discard_query(query);
+            drop(query);
             answered
         }
         Err(fault) => refuse_query(alloc, facts, line.parameters(), fault, writer),
@@ -197,7 +187,7 @@ pub(crate) fn answer_history<W: Write>(
     line: &Line<'_>,
     writer: &mut W,
 ) -> Result<Answered, AnswerFault>
-    ensures text { GivesOf W.contents writer.old writer.new result state.now.history
+    ensures text { WritesAnswerFrom W.contents writer.old writer.new result state.now.history
         (λ changes. spec.history_answer changes facts.now line.now.parameters) }
     ensures memory { IsUnwritten result writer.old writer.new }
 {

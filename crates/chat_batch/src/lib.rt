@@ -1,12 +1,9 @@
 //! What the cluster answers to a session that asks for the past: pages as batches (IRCv3 batch and draft/chathistory),
 //! read markers (IRCv3 draft/read-marker), and refusals (IRCv3 standard-replies, and the numerics 417 and 421).
 //!
-//! [`answer`] answers a line, from what a state holds. What it writes is defined over the set of changes that was taken
-//! (`specs/Answers.antt`), and [`laws`] says that it depends on the normal form of the set alone.
-//!
-//! Each of the other functions writes over any writer, takes no memory, and says the bytes exactly: all of them at `Ok`,
-//! and a prefix of them where the writer failed. Every line ends with CR LF. Parts that are handed in are written as they
-//! are: that each may stand in its place of a line is the caller's to see to.
+//! It stands on the pages of `chat_page` and the lines of `irc_reply`. Read [`answer`] first: it answers a line from what a
+//! state holds, by a definition over the set of changes that was taken (`specs/Answers.antt`). What is written is said to
+//! the byte, and [`laws`] says that it is lines that read back, and depends on the normal form of the set alone.
 #![tactic(auto)]
 
 mod answers;

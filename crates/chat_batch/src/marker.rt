@@ -1,23 +1,18 @@
 //! Answers to MARKREAD (IRCv3 draft/read-marker).
 ghost use Rattle.std.specs.Prelude.{◌≡◌, codes, map, IfOk};
 ghost use Rattle.chat_batch.specs.Answers as spec;
-ghost use Rattle.chat_batch.specs.Gives.{Gives, GivesOf, IsUnwritten};
+ghost use Rattle.chat_batch.specs.WritesAnswer.{WritesAnswer, WritesAnswerFrom, IsUnwritten};
 
 use crate::answers::{AnswerFault, write_incapable};
 use crate::facts::{Answered, Facts};
 use crate::refusal::refuse;
-use chat_change::{Buffer, Moment, is_name, is_target};
+use byte_text::NoMemory;
+use chat_change::Moment;
 use chat_page::read_moment;
 use chat_state::State;
 use irc_reply::{Context, write_mark};
-use std::alloc::{AllocError, Global};
+use std::alloc::Global;
 use std::io::Write;
-
-fn has_buffer(facts: &Facts, given: &[u8]) -> bool
-    ensures { result ≡ spec.has_buffer facts.now given.now }
-{
-    is_name(facts.account.as_bytes()) && is_name(facts.network.as_bytes()) && is_target(given)
-}
 
 /// Whether the parameters behind a target ask for its marker, or set it.
 fn asks_or_sets(parameters: &[&[u8]]) -> bool
@@ -36,7 +31,7 @@ fn refuse_marker<W: Write>(
     reason: &[u8],
     writer: &mut W,
 ) -> Result<Answered, AnswerFault>
-    ensures text { Gives W.contents writer.old writer.new result
+    ensures text { WritesAnswer W.contents writer.old writer.new result
         (spec.marker_refusal facts.now code.now reason.now) }
     ensures memory { IsUnwritten result writer.old writer.new }
 {
@@ -49,20 +44,12 @@ fn marker_of(
     state: &State,
     facts: &Facts,
     given: &[u8],
-) -> Result<Option<Moment>, AllocError>
+) -> Result<Option<Moment>, NoMemory>
     requires { spec.has_buffer facts.now given.now ≡ true }
     ensures { (changes : List Change) → state.now.history ≡ norm changes
         → IfOk result (λ marker. marker ≡ spec.marker_of changes facts.now given.now) }
 {
-    // Names and target are lawful.
-    let Ok(buffer) = Buffer::new(
-        alloc,
-        facts.account.as_bytes(),
-        facts.network.as_bytes(),
-        given,
-    ) else {
-        return Err(AllocError);
-    };
+    let buffer = facts.buffer(alloc, given)?;
     Ok(state.mark(&buffer))
 }
 
@@ -79,7 +66,7 @@ fn write_marker<W: Write>(
     writer: &mut W,
 ) -> Result<Answered, AnswerFault>
     requires { spec.has_buffer facts.now given.now ≡ true }
-    ensures text { GivesOf W.contents writer.old writer.new result state.now.history
+    ensures text { WritesAnswerFrom W.contents writer.old writer.new result state.now.history
         (λ changes. spec.marker_answer changes facts.now given.now) }
     ensures memory { IsUnwritten result writer.old writer.new }
 {
@@ -100,14 +87,14 @@ fn answer_parameters<W: Write>(
     parameters: &[&[u8]],
     writer: &mut W,
 ) -> Result<Answered, AnswerFault>
-    ensures text { GivesOf W.contents writer.old writer.new result state.now.history
+    ensures text { WritesAnswerFrom W.contents writer.old writer.new result state.now.history
         (λ changes. spec.marker_or_refusal changes facts.now (map (λ p. p.now) parameters.now)) }
     ensures memory { IsUnwritten result writer.old writer.new }
 {
     match parameters {
         [] => refuse_marker(facts, b"NEED_MORE_PARAMS", b"Missing parameters", writer),
         [given, rest @ ..] => {
-            if asks_or_sets(rest) && has_buffer(facts, given) {
+            if asks_or_sets(rest) && facts.has_buffer(given) {
                 write_marker(alloc, state, facts, given, writer)
             } else {
                 refuse_marker(facts, b"INVALID_PARAMS", b"Invalid parameters", writer)
@@ -124,7 +111,7 @@ pub(crate) fn answer_marker<W: Write>(
     parameters: &[&[u8]],
     writer: &mut W,
 ) -> Result<Answered, AnswerFault>
-    ensures text { GivesOf W.contents writer.old writer.new result state.now.history
+    ensures text { WritesAnswerFrom W.contents writer.old writer.new result state.now.history
         (λ changes. spec.markread_answer changes facts.now (map (λ p. p.now) parameters.now)) }
     ensures memory { IsUnwritten result writer.old writer.new }
 {

@@ -1,5 +1,5 @@
 //! The line of a record (RFC 2812, sections 2.3, 3.3.1 and 3.3.2).
-ghost use Rattle.output.specs.Writes.{Writes};
+ghost use Rattle.byte_text.specs.Writes.{Writes};
 ghost use Rattle.chat_batch.specs.Message.{message_line, record_text, live_text};
 
 use super::tags::put_tags;

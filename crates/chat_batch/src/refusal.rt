@@ -3,13 +3,13 @@ ghost use Rattle.std.specs.Prelude.{◌≡◌, Some, None, IfOk, map};
 ghost use Rattle.std.specs.Option.{option_copied};
 ghost use Rattle.irc_reply.specs.Reply.{value_of};
 ghost use Rattle.chat_batch.specs.Answers as spec;
-ghost use Rattle.chat_batch.specs.Gives.{Gives, IsUnwritten};
+ghost use Rattle.chat_batch.specs.WritesAnswer.{WritesAnswer, IsUnwritten};
 
 use crate::answers::AnswerFault;
 use crate::facts::{Answered, Facts};
+use byte_text::Text;
 use chat_page::QueryFault;
 use irc_reply::{Context, echoed, write_fail};
-use memory::Text;
 use std::alloc::{AllocError, Global};
 use std::io::Write;
 
@@ -22,7 +22,7 @@ pub(crate) fn refuse<W: Write>(
     reason: &[u8],
     writer: &mut W,
 ) -> Result<Answered, AnswerFault>
-    ensures text { Gives W.contents writer.old writer.new result
+    ensures text { WritesAnswer W.contents writer.old writer.new result
         (spec.fail facts.now command.now code.now (value_of context.entry) reason.now) }
     ensures memory { IsUnwritten result writer.old writer.new }
 {
@@ -79,7 +79,7 @@ fn refuse_subcommand<W: Write>(
     fault: QueryFault,
     writer: &mut W,
 ) -> Result<Answered, AnswerFault>
-    ensures text { Gives W.contents writer.old writer.new result
+    ensures text { WritesAnswer W.contents writer.old writer.new result
         (spec.refusal_about facts.now (Some word.now) fault) }
     ensures memory { IsUnwritten result writer.old writer.new }
 {
@@ -111,7 +111,7 @@ fn refuse_bare<W: Write>(
     fault: QueryFault,
     writer: &mut W,
 ) -> Result<Answered, AnswerFault>
-    ensures text { Gives W.contents writer.old writer.new result
+    ensures text { WritesAnswer W.contents writer.old writer.new result
         (spec.refusal_about facts.now None fault) }
     ensures memory { IsUnwritten result writer.old writer.new }
 {
@@ -133,7 +133,7 @@ pub(crate) fn refuse_query<W: Write>(
     fault: QueryFault,
     writer: &mut W,
 ) -> Result<Answered, AnswerFault>
-    ensures text { Gives W.contents writer.old writer.new result
+    ensures text { WritesAnswer W.contents writer.old writer.new result
         (spec.query_refusal facts.now (map (λ p. p.now) parameters.now) fault) }
     ensures memory { IsUnwritten result writer.old writer.new }
 {
@@ -151,7 +151,7 @@ pub(crate) fn refuse_selector<W: Write>(
     given: &[u8],
     writer: &mut W,
 ) -> Result<Answered, AnswerFault>
-    ensures text { Gives W.contents writer.old writer.new result
+    ensures text { WritesAnswer W.contents writer.old writer.new result
         (spec.unknown_message facts.now word.now given.now) }
     ensures memory { IsUnwritten result writer.old writer.new }
 {

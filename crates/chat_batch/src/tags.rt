@@ -1,14 +1,14 @@
 //! The tags of a message (IRCv3 message-tags), each written only where the session has its capability.
 ghost use Rattle.std.specs.Prelude.{◌≡◌, ◌++◌, ◌||◌, [], codes, if◌then◌else◌, OnOk};
-ghost use Rattle.output.specs.Writes.{Writes};
+ghost use Rattle.byte_text.specs.Writes.{Writes};
 ghost use Rattle.irc_tags.specs.Value.{value_text};
 ghost use Rattle.chat_batch.specs.Tags.{next_tag, tag_part, batch_tags, message_tags, separator};
 
+use byte_text::put;
 use chat_change::Record;
 use irc_caps::CapSet;
 use irc_tags::write_value;
 use irc_time::write_time;
-use output::put;
 use std::io;
 use std::io::Write;
 

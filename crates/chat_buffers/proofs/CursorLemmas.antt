@@ -20,7 +20,7 @@ use Rattle.chat_history.specs.Visible.{by_spot, records_in}
 use Rattle.chat_history.specs.declared.cut.Cut.{Cut}
 use Rattle.chat_history.proofs.CallerLemmas.{among-filter, among_passing, sorted_alike, sorted_reverse, among-reverse, reverse_among}
 use Rattle.chat_history.proofs.CallerLemmas.{change_held, held_change, record_of, of_record, records_sorted, rising_total}
-use Rattle.buffer_messages.specs.Kept.{IsKept, AreKept}
+use Rattle.chat_buffers.specs.Kept.{IsKept, AreKept}
 use Rattle.chat_buffers.specs.Store.{IsKeyedStore, history_in}
 use Rattle.chat_buffers.specs.declared.held.Held.{Held}
 use Rattle.chat_buffers.proofs.SettleLemmas.{Tree, seen}

@@ -14,10 +14,10 @@ use Rattle.chat_history.specs.Choice.{Among}
 use Rattle.chat_history.specs.History.{IsKeyed, changes_of}
 use Rattle.chat_history.specs.Retention.{at_or_above}
 use Rattle.chat_history.proofs.CallerLemmas.{change_held, held_change}
-use Rattle.buffer_messages.specs.Messages.{kept_in}
-use Rattle.buffer_messages.specs.Kept.{IsKept}
-use Rattle.buffer_messages.specs.declared.standing.Standing.{Standing}
-use Rattle.buffer_messages.specs.declared.standing.Standing.TheVariants.{Kept, Gone}
+use Rattle.chat_buffers.specs.Messages.{kept_in}
+use Rattle.chat_buffers.specs.Kept.{IsKept}
+use Rattle.chat_buffers.specs.declared.held_message.HeldMessage.{HeldMessage}
+use Rattle.chat_buffers.specs.declared.held_message.HeldMessage.TheVariants.{Kept, Gone}
 use Rattle.chat_buffers.specs.Store.{Numbered, IsKeyedStore, change_at, history_in}
 use Rattle.chat_buffers.specs.Held.{numbered, held_floor}
 use Rattle.chat_buffers.specs.declared.held.Held.{Held}
@@ -34,12 +34,12 @@ same_post q r e = cc e
 no_post : {A : Type 0} (b : Buffer) (m : List ℕ) (t : Option ℕ) (r : Record) → Redact b m t ≡ Post r → A
 no_post b m t r e = cc e
 
-post_kept : (b : Buffer) (m : List ℕ) (f : ℕ) (o : Option Standing) (r : Record) → option_map change (option_map (numbered b m f) o) ≡ Some (Post r) → kept_in o ≡ Some r
+post_kept : (b : Buffer) (m : List ℕ) (f : ℕ) (o : Option HeldMessage) (r : Record) → option_map change (option_map (numbered b m f) o) ≡ Some (Post r) → kept_in o ≡ Some r
 post_kept b m f None r e = cc e
 post_kept b m f (Some (Kept q n)) r e = ap Some (same_post q r (same_Some (Post q) (Post r) e))
 post_kept b m f (Some (Gone t n)) r e = no_post b m (at_or_above f t) r (same_Some (Redact b m (at_or_above f t)) (Post r) e)
 
-kept_under : (o : Option Standing) (r : Record) → kept_in o ≡ Some r → (n : ℕ) × (o ≡ Some (Kept r n))
+kept_under : (o : Option HeldMessage) (r : Record) → kept_in o ≡ Some r → (n : ℕ) × (o ≡ Some (Kept r n))
 kept_under None r e = cc e
 kept_under (Some (Kept q n)) r e = let is : q ≡ r = same_Some q r e in (n, ap (λ x. Some (Kept x n)) is)
 kept_under (Some (Gone t n)) r e = cc e

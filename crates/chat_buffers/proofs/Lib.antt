@@ -1,3 +1,7 @@
+mod SpotLemmas
+mod AgreementLemmas
+mod StepLemmas
+mod KeptRecordLemmas
 mod StoreLemmas
 mod HeldLemmas
 mod SettleLemmas

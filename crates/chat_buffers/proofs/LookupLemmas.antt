@@ -9,8 +9,8 @@ use Rattle.chat_change.specs.Order.{buffer_cmp}
 use Rattle.chat_change.specs.declared.change.Change.{Change}
 use Rattle.chat_change.specs.declared.change.Change.TheVariants.{Post, Mark, Floor}
 use Rattle.chat_change.specs.Key.{Key, FloorOf, MarkerOf, MessageOf, key_buffer}
-use Rattle.buffer_messages.specs.declared.standing.Standing.{Standing}
-use Rattle.buffer_messages.specs.declared.standing.Standing.TheVariants.{Kept}
+use Rattle.chat_buffers.specs.declared.held_message.HeldMessage.{HeldMessage}
+use Rattle.chat_buffers.specs.declared.held_message.HeldMessage.TheVariants.{Kept}
 use Rattle.chat_buffers.specs.Store.{Store, Numbered, change_at, IsKeyedStore}
 use Rattle.chat_buffers.specs.Held.{held_piece, numbered, held_floor}
 use Rattle.chat_buffers.specs.declared.held.Held.{Held}
@@ -38,7 +38,7 @@ module _ (bs : Tree) (s : Store) (is : seen bs ≡ s) where
   pub marker_here : (b : Buffer) (h : Held) → tree.get buffer_cmp bs b ≡ Some h → change_at s (MarkerOf b) ≡ option_map (Mark b) (option_map (λ (s : Stamp). s.at) h.marker)
   marker_here b h e = change_here (MarkerOf b) (Some h) e ∙ mark_said b h.marker
 
-  pub message_here : (b : Buffer) (m : List ℕ) (h : Held) (o : Option Standing) → tree.get buffer_cmp bs b ≡ Some h → finite.get h.messages m ≡ o → change_at s (MessageOf b m) ≡ option_map change (option_map (numbered b m (held_floor h)) o)
+  pub message_here : (b : Buffer) (m : List ℕ) (h : Held) (o : Option HeldMessage) → tree.get buffer_cmp bs b ≡ Some h → finite.get h.messages m ≡ o → change_at s (MessageOf b m) ≡ option_map change (option_map (numbered b m (held_floor h)) o)
   message_here b m h o e f = change_here (MessageOf b m) (Some h) e ∙ ap (λ x. option_map change (option_map (numbered b m (held_floor h)) x)) f
 
 same_message : (a b : Buffer) (m n : List ℕ) → MessageOf a m ≡ MessageOf b n → (a ≡ b) × (m ≡ n)

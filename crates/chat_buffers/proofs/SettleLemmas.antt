@@ -19,9 +19,9 @@ use Rattle.chat_history.specs.Retention.{at_or_above, same_buffer, is_covered}
 use Rattle.chat_history.proofs.CallerLemmas.{key_of-remainder}
 use Rattle.ordered_maps.specs.MapView.{held_by, IsWith}
 use Rattle.ordered_maps.proofs.CallerLemmas.{get-held_by}
-use Rattle.buffer_messages.specs.declared.standing.Standing.{Standing}
-use Rattle.buffer_messages.specs.declared.standing.Standing.TheVariants.{Kept, Gone}
-use Rattle.buffer_messages.specs.Messages.{Messages, kept_in, number_of, IsFrom}
+use Rattle.chat_buffers.specs.declared.held_message.HeldMessage.{HeldMessage}
+use Rattle.chat_buffers.specs.declared.held_message.HeldMessage.TheVariants.{Kept, Gone}
+use Rattle.chat_buffers.specs.Messages.{Messages, kept_in, number_of, IsFrom}
 use Rattle.chat_buffers.specs.Store.{Store, Numbered, floor_in, number_at, IsKeyedStore}
 use Rattle.chat_buffers.specs.Entering.{FitsStore, beside, with_remainder, IsEntered, TakesOne, IsSweptOf}
 use Rattle.chat_buffers.specs.Held.{held_floor, numbered, held_piece, store_in, Fits, Settles}
@@ -63,11 +63,11 @@ above_both f t (Some x) l =
 -- ---- a piece comes to its key in a buffer
 
 module _ (h : Held) (n : ℕ) where
-  kept_at : (b : Buffer) (m : List ℕ) (r : Record) (a : Bool) (o : Option Standing) → option_map (numbered b m (held_floor h)) (cond a (Some (Kept r n)) o) ≡ cond a (Some (record { number = n; change = Post r })) (option_map (numbered b m (held_floor h)) o)
+  kept_at : (b : Buffer) (m : List ℕ) (r : Record) (a : Bool) (o : Option HeldMessage) → option_map (numbered b m (held_floor h)) (cond a (Some (Kept r n)) o) ≡ cond a (Some (record { number = n; change = Post r })) (option_map (numbered b m (held_floor h)) o)
   kept_at b m r true o = refl
   kept_at b m r false o = refl
 
-  gone_at : (b : Buffer) (m i : List ℕ) (t : Option ℕ) (a : Bool) (o : Option Standing) → at_or_above (held_floor h) t ≡ t → same_id m i ≡ a → option_map (numbered b m (held_floor h)) (cond a (Some (Gone t n)) o) ≡ cond a (Some (record { number = n; change = Redact b i t })) (option_map (numbered b m (held_floor h)) o)
+  gone_at : (b : Buffer) (m i : List ℕ) (t : Option ℕ) (a : Bool) (o : Option HeldMessage) → at_or_above (held_floor h) t ≡ t → same_id m i ≡ a → option_map (numbered b m (held_floor h)) (cond a (Some (Gone t n)) o) ≡ cond a (Some (record { number = n; change = Redact b i t })) (option_map (numbered b m (held_floor h)) o)
   gone_at b m i t true o rests e = let id : m ≡ i = same_id_is m i e in λ j. Some (record { number = n; change = Redact b (id j) (rests j) })
   gone_at b m i t false o rests e = refl
 
@@ -99,7 +99,7 @@ module _ (h : Held) (n : ℕ) where
   mark_left b d t None = refl
   mark_left b d t (Some s) = refl
 
-  message_left : (b d : Buffer) (m : List ℕ) (t : ℕ) (o : Option Standing) → b ≡ d → held_floor h ≤ t → option_map (numbered b m t) o ≡ option_map (with_remainder d t) (option_map (numbered b m (held_floor h)) o)
+  message_left : (b d : Buffer) (m : List ℕ) (t : ℕ) (o : Option HeldMessage) → b ≡ d → held_floor h ≤ t → option_map (numbered b m t) o ≡ option_map (with_remainder d t) (option_map (numbered b m (held_floor h)) o)
   message_left b d m t None e l = refl
   message_left b d m t (Some (Kept r x)) e l = refl
   message_left b d m t (Some (Gone u x)) e l =
@@ -153,7 +153,7 @@ stamp_left : (f : Stamp → Numbered) (b : Buffer) (t : ℕ) → ((s : Stamp) �
 stamp_left f b t h None = refl
 stamp_left f b t h (Some s) = ap Some (h s)
 
-standing_left : (b d : Buffer) (t f : ℕ) (m : List ℕ) (o : Option Standing) → same_buffer b d ≡ false → option_map (with_remainder b t) (option_map (numbered d m f) o) ≡ option_map (numbered d m f) o
+standing_left : (b d : Buffer) (t f : ℕ) (m : List ℕ) (o : Option HeldMessage) → same_buffer b d ≡ false → option_map (with_remainder b t) (option_map (numbered d m f) o) ≡ option_map (numbered d m f) o
 standing_left b d t f m None e = refl
 standing_left b d t f m (Some (Kept r n)) e = refl
 standing_left b d t f m (Some (Gone u n)) e = λ i. Some (record { number = n; change = Redact d m (cond (e i) (at_or_above t (at_or_above f u)) (at_or_above f u)) })
@@ -217,7 +217,7 @@ none_seen bs none = finite.same_map key_total key_exact (seen bs) finite.empty (
 
 -- ---- the number of a key's piece
 
-number_of_numbered : (b : Buffer) (m : List ℕ) (f : ℕ) (o : Option Standing) → option_map (λ (p : Numbered). p.number) (option_map (numbered b m f) o) ≡ option_map number_of o
+number_of_numbered : (b : Buffer) (m : List ℕ) (f : ℕ) (o : Option HeldMessage) → option_map (λ (p : Numbered). p.number) (option_map (numbered b m f) o) ≡ option_map number_of o
 number_of_numbered b m f None = refl
 number_of_numbered b m f (Some (Kept r n)) = refl
 number_of_numbered b m f (Some (Gone t n)) = refl
@@ -311,7 +311,7 @@ same_post q r e = cc e
 no_post : {A : Type 0} (b : Buffer) (m : List ℕ) (t : Option ℕ) (r : Record) → Redact b m t ≡ Post r → A
 no_post b m t r e = cc e
 
-kept_post : (b : Buffer) (m : List ℕ) (f : ℕ) (o : Option Standing) (r : Record) (n : ℕ) → option_map (numbered b m f) o ≡ Some (record { number = n; change = Post r }) → kept_in o ≡ Some r
+kept_post : (b : Buffer) (m : List ℕ) (f : ℕ) (o : Option HeldMessage) (r : Record) (n : ℕ) → option_map (numbered b m f) o ≡ Some (record { number = n; change = Post r }) → kept_in o ≡ Some r
 kept_post b m f None r n e = cc e
 kept_post b m f (Some (Kept q x)) r n e = ap Some (same_post q r (ap change (same_Some (record { number = x; change = Post q }) (record { number = n; change = Post r }) e)))
 kept_post b m f (Some (Gone t x)) r n e = no_post b m (at_or_above f t) r (ap change (same_Some (record { number = x; change = Redact b m (at_or_above f t) }) (record { number = n; change = Post r }) e))

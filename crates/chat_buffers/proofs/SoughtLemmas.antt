@@ -25,8 +25,8 @@ use Rattle.chat_history.specs.History.{History, changes_of}
 use Rattle.chat_history.proofs.CallerLemmas.{le_self, first_alike, among-filter, among_passing, among-filter_map, among_made, got, get_entry}
 use Rattle.ordered_maps.specs.MapView.{held_by}
 use Rattle.ordered_maps.proofs.CallerLemmas.{get-held_by, entries-from_ordered}
-use Rattle.buffer_messages.specs.Messages.{Messages}
-use Rattle.buffer_messages.specs.Kept.{IsKept, IsFirstKept}
+use Rattle.chat_buffers.specs.Messages.{Messages}
+use Rattle.chat_buffers.specs.Kept.{IsKept, IsFirstKept}
 use Rattle.chat_buffers.specs.Store.{IsKeyedStore, history_in}
 use Rattle.chat_buffers.specs.Sought.{is_sought, is_past, sought_in, sought_past, all_past}
 use Rattle.chat_buffers.specs.Ahead.{HasSought, HasNoneSought, IsOfOneBuffer, is_behind}

@@ -4,8 +4,8 @@ use Rattle.std.specs.Ordering.{is_gt, ordering_then}
 use Rattle.chat_change.specs.Buffer.{Buffer}
 use Rattle.chat_change.specs.Record.{Record}
 use Rattle.chat_change.specs.Order.{text_cmp}
-use Rattle.buffer_messages.specs.Messages.{Messages}
-use Rattle.buffer_messages.specs.Kept.{IsKept}
+use Rattle.chat_buffers.specs.Messages.{Messages}
+use Rattle.chat_buffers.specs.Kept.{IsKept}
 use Rattle.chat_buffers.specs.declared.sought.Sought.{Sought}
 use Rattle.chat_buffers.specs.declared.sought.Sought.TheVariants.{Outdated, OfNetwork}
 use Rattle.chat_buffers.specs.Sought.{is_sought}

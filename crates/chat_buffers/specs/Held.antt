@@ -9,8 +9,8 @@ use Rattle.chat_change.specs.declared.change.Change.{Change}
 use Rattle.chat_change.specs.declared.change.Change.TheVariants.{Post, Redact, Mark, Floor}
 use Rattle.chat_change.specs.Key.{Key, FloorOf, MarkerOf, MessageOf, key_buffer, key_of, same_key}
 use Rattle.chat_history.specs.Retention.{at_or_above}
-use Rattle.buffer_messages.specs.declared.standing.Standing.{Standing}
-use Rattle.buffer_messages.specs.declared.standing.Standing.TheVariants.{Kept, Gone}
+use Rattle.chat_buffers.specs.declared.held_message.HeldMessage.{HeldMessage}
+use Rattle.chat_buffers.specs.declared.held_message.HeldMessage.TheVariants.{Kept, Gone}
 use Rattle.chat_buffers.specs.Store.{Store, Numbered}
 use Rattle.chat_buffers.specs.Entering.{beside}
 use Rattle.chat_buffers.specs.declared.held.Held.{Held}
@@ -28,7 +28,7 @@ abbrev pub held_floor : Held → ℕ
 held_floor h = floor_moment h.floor
 
 -- the piece of a message. A redaction is read at the floor: a moment below it is forgotten
-abbrev pub numbered : Buffer → List ℕ → ℕ → Standing → Numbered
+abbrev pub numbered : Buffer → List ℕ → ℕ → HeldMessage → Numbered
 numbered b m f (Kept r n) = record { number = n; change = Post r }
 numbered b m f (Gone t n) = record { number = n; change = Redact b m (at_or_above f t) }
 

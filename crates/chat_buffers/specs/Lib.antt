@@ -3,14 +3,24 @@
 -- what a store holds, and what is placed in it
 pub mod Store
 -- what it answers of a message
-pub mod Fate
+pub mod MessageRef
 -- how a piece enters it, and a floor takes records away one by one
 pub mod Entering
 -- the search for the next buffer
 pub mod Sought
+-- what is held of the messages of a buffer, and which records are kept of them
+pub mod Messages
+pub mod Kept
 -- ---- what only the proofs use of the code
 
 -- what is held of one buffer, and of many
 pub mod Held
 -- what a walk over the buffers has ahead of it
 pub mod Ahead
+-- how the two maps of a buffer's messages agree
+pub mod Agreement
+-- the ends of ranges, and what a cursor over messages has left
+pub mod Ends
+pub mod MessageWalk
+-- how a moment that may not be known is kept
+pub mod MomentIfKnown

@@ -6,21 +6,21 @@ ghost use Rattle.chat_change.specs.Key as key;
 ghost use Rattle.chat_change.specs.Key.{key_of, key_buffer, value_of};
 ghost use Rattle.std.specs.Option.{option_map};
 ghost use Rattle.chat_change.specs.declared.change.Change.TheVariants as value;
-ghost use Rattle.chat_buffers.specs.Fate.{message_change, IsMessageOf};
+ghost use Rattle.chat_buffers.specs.MessageRef.{message_change, IsMessageOf};
 ghost use Rattle.chat_buffers.specs.Store as spec;
 ghost use Rattle.chat_buffers.specs.Entering.{FitsStore, IsEntered, TakesOne, IsSweptOf};
 
 use crate::held::{Held, at_or_above, moment_of, nothing_held, number_of, settle};
-use buffer_messages::Standing;
+use crate::held_message::HeldMessage;
 use chat_change::{Buffer, Change, Key, Moment, MsgId, Record};
-use ordered_maps::{discard, put};
+use ordered_maps::put;
 use std::alloc::{AllocError, Global};
 use std::collections::BTreeMap;
 use std::marker::Model;
 
 /// What is held of a message.
 #[derive(Clone, Copy)]
-pub enum Fate<'a> {
+pub enum MessageRef<'a> {
     /// Its kept record.
     Kept(&'a Record),
     /// It was redacted, and stood at that moment. None where its moment isn't known.
@@ -76,8 +76,8 @@ impl Buffers {
             Key::Floor(_) => number_of(&held.floor),
             Key::Marker(_) => number_of(&held.marker),
             Key::Message(_, id) => {
-                let standing = held.messages.standing(id)?;
-                Some(standing.number())
+                let held_message = held.messages.held_message(id)?;
+                Some(held_message.number())
             }
         }
     }
@@ -99,15 +99,15 @@ impl Buffers {
     }
 
     /// What is held of a message, if anything.
-    pub fn message(&self, buffer: &Buffer, id: &MsgId) -> Option<Fate<'_>>
+    pub fn message(&self, buffer: &Buffer, id: &MsgId) -> Option<MessageRef<'_>>
         ensures held { spec.change_at self.now (key.MessageOf buffer.now id.now) ≡
             option_map (message_change buffer.now id.now) result }
         ensures bears { IfSome result (IsMessageOf buffer.now id.now) }
     {
         let held = self.held.get(buffer)?;
-        match held.messages.standing(id)? {
-            Standing::Kept(post, _) => Some(Fate::Kept(post)),
-            Standing::Gone(at, _) => Some(Fate::Gone(at_or_above(&held.floor, at.get()))),
+        match held.messages.held_message(id)? {
+            HeldMessage::Kept(post, _) => Some(MessageRef::Kept(post)),
+            HeldMessage::Gone(at, _) => Some(MessageRef::Gone(at_or_above(&held.floor, at.get()))),
         }
     }
 
@@ -135,13 +135,13 @@ impl Buffers {
         ensures refused { OnErr result (self.new ≡ self.old) }
     {
         let Ok(buffer) = change.key().buffer().try_clone() else {
-            discard(change);
+            drop(change);
             return Err(AllocError);
         };
         let mut held = nothing_held(self.alloc);
         let Ok(_) = settle(&mut held, number, change) else {
-            discard(buffer);
-            discard(held);
+            drop(buffer);
+            drop(held);
             return Err(AllocError);
         };
         if !put(&mut self.held, buffer, held) {

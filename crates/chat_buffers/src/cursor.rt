@@ -6,7 +6,7 @@ ghost use Rattle.chat_history.specs.Visible.{records_in};
 ghost use Rattle.chat_buffers.specs.Store.{history_in};
 
 use crate::buffers::Buffers;
-use buffer_messages::{Down, Up};
+use crate::walk::{Down, Up};
 use chat_change::Buffer;
 use chat_history::Cut;
 

@@ -6,9 +6,8 @@ ghost use Rattle.chat_change.specs.Key.{Key, key_of};
 ghost use Rattle.chat_history.specs.Retention as spec;
 ghost use Rattle.chat_buffers.specs.Held.{Fits, Settles, held_piece, floor_moment};
 
-use buffer_messages::Messages;
+use crate::messages::Messages;
 use chat_change::{Change, Moment};
-use ordered_maps::discard;
 use std::alloc::{AllocError, Global};
 
 /// A moment under the number of its piece.
@@ -100,17 +99,17 @@ pub(crate) fn settle(
     match change {
         Change::Post(post) => held.messages.post(post, number),
         Change::Redact { buffer, id, at } => {
-            discard(buffer);
+            drop(buffer);
             held.messages.redact(id, at, number)
         }
         Change::Mark { buffer, at } => {
-            discard(buffer);
+            drop(buffer);
             let before = number_of(&held.marker);
             held.marker = Some(Stamp { at, number });
             Ok(before)
         }
         Change::Floor { buffer, at } => {
-            discard(buffer);
+            drop(buffer);
             let before = number_of(&held.floor);
             held.floor = Some(Stamp { at, number });
             Ok(before)

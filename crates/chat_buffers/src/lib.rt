@@ -1,11 +1,20 @@
-//! The numbered pieces of many buffers, in ordered maps, seen as one store.
+//! The numbered pieces of many buffers, in ordered maps, seen as one store: a finite map from keys to numbered changes.
+//!
+//! [`Buffers`] has for each buffer its floor, its marker and its messages, which lie in two maps that agree: by id, and by
+//! where they stand. So a message is found by its id, and the visible records after or before a cut are walked in one range
+//! with no memory of their own ([`Up`], [`Down`]). It stands on `ordered_maps`, whose changes happen whole or not at all, and
+//! on the definitions of `chat_history`. Read [`Buffers::enter`] first.
 #![tactic(auto)]
 
 mod buffers;
 mod cursor;
 mod held;
+mod held_message;
+mod messages;
+mod moment_if_known;
 mod sought;
+mod walk;
 
-pub use buffer_messages::{Down, Up};
-pub use buffers::{Buffers, Fate};
+pub use buffers::{Buffers, MessageRef};
 pub use sought::Sought;
+pub use walk::{Down, Up};

@@ -14,7 +14,7 @@ ghost use Rattle.chat_buffers.specs.Sought as spec;
 ghost use Rattle.chat_buffers.specs.Store.{history_in};
 
 use crate::buffers::Buffers;
-use buffer_messages::Messages;
+use crate::messages::Messages;
 use chat_change::{Buffer, Moment, Record};
 use std::ops::Bound;
 

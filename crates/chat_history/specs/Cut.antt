@@ -21,11 +21,11 @@ cut_total =
     (on_total (λ (s : Spot). s.id) (options_total (lists_total nat_cmp_total)))
 
 -- spots as keys of a map, the latest first
-abbrev pub spot_cmp : Spot → Spot → Ordering
-spot_cmp = flip_args cut_cmp
+abbrev pub latest_first : Spot → Spot → Ordering
+latest_first = flip_args cut_cmp
 
-pub spot_total : IsTotalOrder spot_cmp
-spot_total = back_total cut_total
+pub latest_first_total : IsTotalOrder latest_first
+latest_first_total = back_total cut_total
 
 -- where a record stands
 abbrev pub of_record : Record → Spot

@@ -4,7 +4,7 @@ ghost use Rattle.std.specs.Prelude.{◌≡◌};
 ghost use Rattle.std.proofs.Common.{rules};
 ghost use Rattle.std.specs.Cmp.Rules.{comparing};
 ghost use Rattle.std.specs.Ordering.{as_partial_cmp, eq_by_cmp};
-ghost use Rattle.chat_history.specs.Cut.{cut_cmp, spot_cmp, spot_total, of_record, is_after};
+ghost use Rattle.chat_history.specs.Cut.{cut_cmp, latest_first, latest_first_total, of_record, is_after};
 
 use chat_change::{Moment, MsgId, Record};
 use std::alloc::AllocError;
@@ -81,9 +81,9 @@ impl Spot {
 }
 
 impl PartialEq for Spot {
-    ghost eq = { eq_by_cmp spot_cmp };
+    ghost eq = { eq_by_cmp latest_first };
 
-    ghost laws = { Prim.search (comparing, spot_total, rules) };
+    ghost laws = { Prim.search (comparing, latest_first_total, rules) };
 
     fn eq(&self, other: &Spot) -> bool {
         self.cmp(other).is_eq()
@@ -91,13 +91,13 @@ impl PartialEq for Spot {
 }
 
 impl Eq for Spot {
-    ghost laws = { Prim.search (comparing, spot_total, rules) };
+    ghost laws = { Prim.search (comparing, latest_first_total, rules) };
 }
 
 impl PartialOrd for Spot {
-    ghost partial_cmp = { as_partial_cmp spot_cmp };
+    ghost partial_cmp = { as_partial_cmp latest_first };
 
-    ghost laws = { Prim.search (comparing, spot_total, rules) };
+    ghost laws = { Prim.search (comparing, latest_first_total, rules) };
 
     fn partial_cmp(&self, other: &Spot) -> Option<Ordering> {
         Some(self.cmp(other))
@@ -107,9 +107,9 @@ impl PartialOrd for Spot {
 /// The latest spot comes first. Most messages come in the order of their moments, and a map looks at its first keys first:
 /// so the place of a new one is found at once.
 impl Ord for Spot {
-    ghost cmp = { spot_cmp };
+    ghost cmp = { latest_first };
 
-    ghost total = { Prim.search (comparing, spot_total, rules) };
+    ghost total = { Prim.search (comparing, latest_first_total, rules) };
 
     ghost matches_partial_cmp = { Prim.search (comparing, rules) };
 

@@ -9,18 +9,13 @@ ghost use Rattle.chat_page.specs.Answer.{IsAnswer, AreRecords, side_of, between_
 
 use crate::listed_buffer::listed_between;
 use crate::pages::{Page, PageFault};
-use crate::place::{Place, over, place_of, under};
+use crate::place::{SelectorPlace, over, place_of, under};
 use crate::query::{Query, Selector, Target};
 use crate::scope::Scope;
 use crate::walk::{first_between, last_between};
 use chat_change::{Buffer, ChangeFault, Moment, Record};
 use chat_state::{Cut, Spot, State};
 use std::alloc::{AllocError, Global};
-
-/// Lets a place go.
-fn discard(place: Place) {
-    let _ = place;
-}
 
 /// Which records of a buffer are asked for by one selector.
 #[derive(Clone, Copy)]
@@ -43,14 +38,14 @@ fn around<'a>(
     alloc: Global,
     state: &'a State,
     buffer: &Buffer,
-    place: &Place,
+    place: &SelectorPlace,
     n: usize,
 ) -> Result<Vec<&'a Record>, AllocError>
     ensures { (p : spec.Point) → value_of place.now ≡ Some p → IfOk result (λ page.
         map (λ r. r.now) page.items ≡ spec.around_cut n
         (records_in state.now.history buffer.now) p) }
 {
-    // The prover is to be shown each type that a cut may hold.
+    // Without it the prover doesn't find the types that a cut may hold.
     let _held: (Option<Moment>, Option<&Spot>) = (None, None);
     let cut = under(place);
     let mut page = last_between(alloc, state, buffer, &Cut::Bottom, &cut, n / 2)?;
@@ -64,15 +59,15 @@ fn beside<'a>(
     alloc: Global,
     state: &'a State,
     buffer: &Buffer,
-    place: &Place,
+    place: &SelectorPlace,
     side: Side,
     n: usize,
 ) -> Result<Vec<&'a Record>, AllocError>
     ensures { (p : spec.Point) → value_of place.now ≡ Some p → IfOk result (λ page.
         map (λ r. r.now) page.items ≡ side_cut side n (records_in state.now.history buffer.now) p) }
 {
-    // The prover is to be shown each type that a cut may hold.
-    let _held: (Option<Moment>, Option<&Spot>) = (None, None);
+    // Without it the prover doesn't find the type of the spots that a cut may hold.
+    let _held: Option<&Spot> = None;
     match side {
         Side::LatestAfter => last_between(alloc, state, buffer, &over(place), &Cut::Top, n),
         Side::Before => last_between(alloc, state, buffer, &Cut::Bottom, &under(place), n),
@@ -86,8 +81,8 @@ fn between_places<'a>(
     alloc: Global,
     state: &'a State,
     buffer: &Buffer,
-    one: &Place,
-    other: &Place,
+    one: &SelectorPlace,
+    other: &SelectorPlace,
     n: usize,
 ) -> Result<Vec<&'a Record>, AllocError>
     ensures { (p q : spec.Point) → value_of one.now ≡ Some p → value_of other.now ≡ Some q
@@ -95,7 +90,7 @@ fn between_places<'a>(
         map (λ r. r.now) page.items ≡ spec.between_cut n
         (records_in state.now.history buffer.now) p q) }
 {
-    // The prover is to be shown each type that a cut may hold.
+    // Without it the prover doesn't find the types that a cut may hold.
     let _held: (Option<Moment>, Option<&Spot>) = (None, None);
     let rising = first_between(alloc, state, buffer, &over(one), &under(other), n)?;
     if rising.is_empty() {
@@ -131,7 +126,7 @@ fn selected<'a>(
 {
     let place = place_of(alloc, state, buffer, selector)?;
     let found = beside(alloc, state, buffer, &place, side, n);
-    discard(place);
+    drop(place);
     or_no_memory(found)
 }
 
@@ -151,13 +146,13 @@ fn between<'a>(
     let place_after = match place_of(alloc, state, buffer, other) {
         Ok(found) => found,
         Err(fault) => {
-            discard(place);
+            drop(place);
             return Err(fault);
         }
     };
     let found = between_places(alloc, state, buffer, &place, &place_after, n);
-    discard(place);
-    discard(place_after);
+    drop(place);
+    drop(place_after);
     or_no_memory(found)
 }
 
@@ -236,7 +231,7 @@ fn latest_page<'a>(
         (records_in state.now.history (spec.buffer_of scope.now target.now))))) result }
 {
     let buffer = buffer_of(alloc, scope, target)?;
-    // The prover is to be shown each type that a cut may hold.
+    // Without it the prover doesn't find the types that a cut may hold.
     let _held: (Option<Moment>, Option<&Spot>) = (None, None);
     let n = limit.min(scope.maximum());
     match last_between(alloc, state, &buffer, &Cut::Bottom, &Cut::Top, n) {

@@ -1,12 +1,13 @@
-//! Pages of a chat history (IRCv3 draft/chathistory).
+//! Pages of a chat history (IRCv3 draft/chathistory): what the parameters of a CHATHISTORY line ask for, and the records
+//! or buffers that answer it. It stands on the states of `chat_state`, and on the normal form of a set of changes of
+//! `chat_history`, over which a page is defined (`specs/Page.antt`).
 //!
-//! [`read_query`] reads what the parameters of a CHATHISTORY line ask for, and [`page`] answers it from a state. A page is
-//! defined over a set of changes (`specs/Page.antt`): the visible records of one buffer, sorted by moment and id, filtered
-//! by the selectors of the query and cut to its limit. [`laws`] says that it depends on the normal form of the set alone,
-//! and that reading a buffer page by page gives each record once.
+//! Read [`page`] first: the visible records of one buffer, sorted by moment and id, filtered by the selectors of the query
+//! and cut to its limit. [`laws`] says that reading a buffer page by page gives each record once.
 #![tactic(auto)]
 
 mod answer;
+mod lawful;
 pub mod laws;
 mod limit;
 mod listed_buffer;
@@ -18,6 +19,7 @@ mod scope;
 mod walk;
 
 pub use answer::page;
+pub use lawful::{has_buffer, lawful_buffer, lawful_id};
 pub use listed_buffer::ListedBuffer;
 pub use pages::{Page, PageFault};
 pub use parameters::{QueryFault, read_moment, read_query};

@@ -14,7 +14,7 @@ use std::alloc::Global;
 
 /// A moment, or the spot of a message.
 #[derive(Drop)]
-pub(crate) enum Place {
+pub(crate) enum SelectorPlace {
     Moment(Moment),
     Message(Spot),
 }
@@ -27,7 +27,7 @@ pub(crate) fn place_of(
     state: &State,
     buffer: &Buffer,
     selector: &Selector<'_>,
-) -> Result<Place, PageFault>
+) -> Result<SelectorPlace, PageFault>
     ensures place { (changes : List Change) → state.now.history ≡ norm changes
         → IfOk result (λ place. point_of (norm changes) buffer.now selector.now ≡ value_of place) }
     ensures some { IfOk result (λ place. IsSome (value_of place)) }
@@ -36,7 +36,7 @@ pub(crate) fn place_of(
         ≡ None }
 {
     match selector {
-        Selector::Timestamp(at) => Ok(Place::Moment(*at)),
+        Selector::Timestamp(at) => Ok(SelectorPlace::Moment(*at)),
         Selector::Message(id) => {
             let Ok(id) = MsgId::new(alloc, id.as_bytes()) else {
                 return Err(PageFault::NoMemory);
@@ -44,29 +44,29 @@ pub(crate) fn place_of(
             let Some(at) = state.position(buffer, &id) else {
                 return Err(PageFault::UnknownMessage);
             };
-            Ok(Place::Message(Spot { at, id: Some(id) }))
+            Ok(SelectorPlace::Message(Spot { at, id: Some(id) }))
         }
     }
 }
 
 /// The cut below what stands at the place.
-pub(crate) fn under(place: &Place) -> Cut<'_>
+pub(crate) fn under(place: &SelectorPlace) -> Cut<'_>
     ensures { (p : Point) → value_of place.now ≡ Some p → (r : Record) → not
         (is_after_cut result r) ≡ is_before p r }
 {
     match place {
-        Place::Moment(at) => Cut::UnderTime(*at),
-        Place::Message(spot) => Cut::UnderMsg(spot),
+        SelectorPlace::Moment(at) => Cut::UnderTime(*at),
+        SelectorPlace::Message(spot) => Cut::UnderMsg(spot),
     }
 }
 
 /// The cut above what stands at the place.
-pub(crate) fn over(place: &Place) -> Cut<'_>
+pub(crate) fn over(place: &SelectorPlace) -> Cut<'_>
     ensures { (p : Point) → value_of place.now ≡ Some p → (r : Record) → is_after_cut result r
         ≡ is_after p r }
 {
     match place {
-        Place::Moment(at) => Cut::OverTime(*at),
-        Place::Message(spot) => Cut::OverMsg(spot),
+        SelectorPlace::Moment(at) => Cut::OverTime(*at),
+        SelectorPlace::Message(spot) => Cut::OverMsg(spot),
     }
 }

@@ -1,4 +1,10 @@
 //! A chat history that can be merged: a state that holds its normal form.
+//!
+//! A [`State`] is seen as the normal form of the changes that it took, with the numbers of its pieces. [`State::absorb`]
+//! takes one change, [`State::take`] a list, [`State::merge`] what another state holds, and [`run`] begins with nothing.
+//! Lookups, cursors from either end of a buffer, the floors that are due, and the latest record of each buffer are read off
+//! it, and take no memory. [`Peek`] is what sessions ask of a state or of a reader of one. [`laws`] says that states join.
+//! The maps lie in `chat_store`, the definitions in `chat_history`. Read [`State`] first.
 #![tactic(auto)]
 
 mod cursor;
@@ -11,10 +17,10 @@ mod peek;
 mod retention;
 mod state;
 
+pub use byte_text::NoMemory;
 pub use chat_history::{Cut, Spot, laws};
 pub use chat_store::{ChangeRef, Down, Piece, Up};
 pub use faults::{NoEntry, StateFault, TakeFault};
 pub use latest::Latest;
-pub use memory::NoMemory;
 pub use peek::Peek;
 pub use state::{State, run};

@@ -6,7 +6,7 @@ ghost use Rattle.chat_history.specs.Lookups.{IsShown};
 
 use crate::state::State;
 use chat_change::{Buffer, Moment, MsgId};
-use chat_store::Fate;
+use chat_store::MessageRef;
 
 // The moment at which 1970 began.
 pub(crate) fn first_moment() -> Moment
@@ -50,8 +50,8 @@ impl State {
             result ≡ spec.is_gone changes buffer.now id.now }
     {
         match self.store.message(buffer, id) {
-            Some(Fate::Gone(_)) => true,
-            Some(Fate::Kept(_)) => false,
+            Some(MessageRef::Gone(_)) => true,
+            Some(MessageRef::Kept(_)) => false,
             None => false,
         }
     }
@@ -64,8 +64,8 @@ impl State {
             result ≡ spec.position_of changes buffer.now id.now }
     {
         match self.store.message(buffer, id) {
-            Some(Fate::Kept(post)) => Some(post.at()),
-            Some(Fate::Gone(at)) => at,
+            Some(MessageRef::Kept(post)) => Some(post.at()),
+            Some(MessageRef::Gone(at)) => at,
             None => None,
         }
     }
@@ -75,8 +75,8 @@ impl State {
         ensures { IsTrue result ↔ IsShown self.now.history buffer.now id.now }
     {
         match self.store.message(buffer, id) {
-            Some(Fate::Kept(_)) => true,
-            Some(Fate::Gone(_)) => false,
+            Some(MessageRef::Kept(_)) => true,
+            Some(MessageRef::Gone(_)) => false,
             None => false,
         }
     }

@@ -5,8 +5,8 @@ ghost use Rattle.chat_store.specs.Piece.{entry_of};
 ghost use Rattle.chat_history.specs.Newer.{AreFirstNewer};
 
 use crate::state::State;
+use byte_text::NoMemory;
 use chat_store::Piece;
-use memory::NoMemory;
 use std::alloc::Global;
 
 impl State {

@@ -6,9 +6,9 @@ ghost use Rattle.chat_history.specs.Retention as spec;
 ghost use Rattle.chat_store.specs.Store.{history_in};
 
 use crate::state::State;
+use byte_text::NoMemory;
 use chat_change::{Buffer, Change, Moment};
 use chat_store::{Sought, Store};
-use memory::NoMemory;
 use std::alloc::Global;
 
 const DAY_LENGTH: u64 = 86_400_000;

@@ -8,9 +8,9 @@ ghost use Rattle.chat_store.specs.Piece.{change_of};
 ghost use Rattle.chat_state.specs.declared.faults.StateFault.TheVariants as fault;
 
 use crate::faults::{StateFault, TakeFault};
+use byte_text::NoMemory;
 use chat_change::Change;
 use chat_store::{ChangeRef, Store, form_of, piece_in};
-use memory::NoMemory;
 use std::alloc::Global;
 use std::marker::Model;
 
@@ -68,7 +68,7 @@ impl State {
         ensures err { OnErr result (self.new ≡ self.old) }
     {
         let taken = self.absorb_copy(&ChangeRef::of(&change));
-        discard(change);
+        drop(change);
         taken
     }
 
@@ -133,9 +133,6 @@ impl State {
         })
     }
 }
-
-// It lets a change go in a function of its own, so that what a drop does is proved once.
-fn discard(_change: Change) {}
 
 /// Takes each delta in turn into an empty state. After a refusal no state is handed out; `taken` counts through the
 /// deltas as one list.

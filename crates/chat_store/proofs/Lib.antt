@@ -1,1 +1,4 @@
+mod IndexLemmas
+mod SweepLemmas
+mod WalkLemmas
 pub mod CallerLemmas

@@ -10,9 +10,10 @@ ghost use Rattle.chat_store.specs.Form as spec;
 ghost use Rattle.chat_store.specs.Piece.{change_of};
 ghost use Rattle.chat_store.specs.Store.{floor_in};
 
-use chat_buffers::Fate;
+use crate::piece::ChangeRef;
+use crate::store::Store;
+use chat_buffers::MessageRef;
 use chat_change::{Buffer, Change, Moment, MsgId, Record, goes_before};
-use chat_index::{ChangeRef, Indexed as Store};
 use std::alloc::AllocError;
 
 /// The form of the piece that a change makes.
@@ -75,8 +76,8 @@ fn form_of_post(store: &Store, post: &Record) -> Option<Form>
     let floor = floor_ms(store, post.buffer());
     let counts = match store.message(post.buffer(), post.id()) {
         None => floor <= post.at().ms(),
-        Some(Fate::Kept(old)) => goes_before(post, old),
-        Some(Fate::Gone(named)) => {
+        Some(MessageRef::Kept(old)) => goes_before(post, old),
+        Some(MessageRef::Gone(named)) => {
             if raises(floor, named, Some(post.at())) {
                 return Some(Form::Gone(Some(post.at())));
             }
@@ -99,11 +100,11 @@ fn form_of_redaction(
     let floor = floor_ms(store, buffer);
     match store.message(buffer, id) {
         None => Some(Form::Gone(at_or_above(floor, *at))),
-        Some(Fate::Kept(old)) => {
+        Some(MessageRef::Kept(old)) => {
             let stood = Some(old.at());
             Some(Form::Gone(later(stood, *at)))
         }
-        Some(Fate::Gone(named)) => {
+        Some(MessageRef::Gone(named)) => {
             if raises(floor, named, *at) {
                 Some(Form::Gone(*at))
             } else {

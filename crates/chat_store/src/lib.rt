@@ -1,9 +1,21 @@
 //! The store below a state: numbered changes, one for each key, with what is looked up and searched among them, and the
 //! form in which a change counts.
+//!
+//! A [`Store`] is seen as one finite map from keys to numbered changes. It is `chat_buffers` with an index beside it, in
+//! which each piece is found by its number; [`laws`] says that nothing of a redacted text is left there. What a change comes
+//! to is [`form_of`], in the words of `chat_history`. Read [`Store::place`] first.
 #![tactic(auto)]
 
 mod form;
+pub mod laws;
+mod lookups;
+mod number;
+mod piece;
+mod piece_name;
+mod store;
+mod walk;
 
-pub use chat_buffers::{Down, Fate, Sought, Up};
-pub use chat_index::{ChangeRef, Indexed as Store, Piece};
+pub use chat_buffers::{Down, MessageRef, Sought, Up};
 pub use form::{Form, form_of, piece_in};
+pub use piece::{ChangeRef, Piece};
+pub use store::Store;

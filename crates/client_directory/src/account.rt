@@ -5,10 +5,10 @@ ghost use Rattle.std.specs.Option.{option_copied};
 ghost use Rattle.std.specs.Str.{bytes_eq};
 ghost use Rattle.client_directory.specs.Directory as spec;
 
-use crate::entry::{Entry, discard};
+use crate::entry::Entry;
 use crate::network::Network;
 use crate::secret::is_same_secret;
-use memory::{NoMemory, Text};
+use byte_text::{NoMemory, Text};
 use std::alloc::Global;
 use std::marker::Model;
 
@@ -107,7 +107,7 @@ impl Account {
         ensures { self.new ≡ spec.account_with self.old network.now entry }
     {
         match self.index_of(network) {
-            None => discard(entry),
+            None => drop(entry),
             Some(at) => self.networks[at].set_entry(entry),
         }
     }

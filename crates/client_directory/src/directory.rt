@@ -5,8 +5,8 @@ ghost use Rattle.std.specs.Str.{bytes_eq};
 ghost use Rattle.client_directory.specs.Directory as spec;
 
 use crate::account::Account;
-use crate::entry::{Entry, discard};
-use memory::NoMemory;
+use crate::entry::Entry;
+use byte_text::NoMemory;
 use std::alloc::Global;
 use std::marker::Model;
 
@@ -98,7 +98,7 @@ impl Directory {
         ensures { self.new ≡ spec.directory_with self.old account.now network.now entry }
     {
         match self.index_of(account) {
-            None => discard(entry),
+            None => drop(entry),
             Some(at) => self.accounts[at].set_entry(network, entry),
         }
     }

@@ -3,7 +3,7 @@ ghost use Rattle.std.specs.Prelude.{◌≡◌, List, not, map, IfOk, OnErr};
 ghost use Rattle.std.specs.List.{list_any};
 ghost use Rattle.client_directory.specs.Entry as spec;
 
-use memory::{NoMemory, Text};
+use byte_text::{NoMemory, Text};
 use std::alloc::{AllocError, Global};
 use std::marker::Model;
 
@@ -52,11 +52,6 @@ fn copies_of(alloc: Global, texts: &[Text]) -> Result<Vec<Text>, AllocError>
         copies.push(copy)?;
     }
     Ok(copies)
-}
-
-/// Lets an entry go.
-pub(crate) fn discard(entry: Entry) {
-    let _ = entry;
 }
 
 impl Entry {

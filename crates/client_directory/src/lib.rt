@@ -15,6 +15,3 @@ pub use account::Account;
 pub use directory::Directory;
 pub use entry::Entry;
 pub use network::Network;
-
-#[cfg(test)]
-mod tests;

@@ -4,7 +4,7 @@ ghost use Rattle.std.specs.Str.{bytes_eq};
 ghost use Rattle.client_directory.specs.Directory as spec;
 
 use crate::entry::Entry;
-use memory::Text;
+use byte_text::Text;
 use std::marker::Model;
 
 /// A network of an account, by its name.

@@ -11,13 +11,13 @@ use Rattle.chat_change.specs.Words.{is_id}
 use Rattle.chat_batch.specs.declared.facts.Facts.{Facts}
 use Rattle.client_directory.specs.Directory.{Directory, account_in, entry_in}
 use Rattle.client_session.specs.Command.{command_of}
-use Rattle.client_session.specs.declared.command.Command.{Command}
-use Rattle.client_session.specs.declared.command.Command.TheVariants.{Cap, Pass, Nick, User, Ping, Pong, Quit, Chathistory, Markread, Redact, Tagmsg, Other}
+use Rattle.client_session.specs.declared.command.ClientCommand.{ClientCommand}
+use Rattle.client_session.specs.declared.command.ClientCommand.TheVariants.{Cap, Pass, Nick, User, Ping, Pong, Quit, Chathistory, Markread, Redact, Tagmsg, Other}
 use Rattle.client_session.specs.Step.{Step}
-use Rattle.client_session.specs.Registered.{has_buffer}
+use Rattle.chat_batch.specs.Answers.{has_buffer}
 use Rattle.client_session.specs.Session.{step, reading_step}
-use Rattle.client_session.specs.Lookup.{Place, place_by_command, place_in, place_sought}
-use Rattle.client_session.specs.Events.{Event, Claim, after, effects_of, run, claim_by_reading, claim_by_event, claim_after, HasSecret, IsUserOf, IsLetIn, IsRegistered, IsAnswer, IsGreeting, IsOwnEffect, IsOfSame, HasClose}
+use Rattle.client_session.specs.Lookup.{MessageName, name_by_command, name_in, name_sought}
+use Rattle.client_session.specs.Events.{ClientEvent, Claim, after, effects_of, run, claim_by_reading, claim_by_event, claim_after, HasSecret, IsUserOf, IsLetIn, IsRegistered, IsAnswer, IsGreeting, IsOwnEffect, IsOfSame, HasClose}
 use Rattle.client_session.specs.Events as event
 use Rattle.client_session.specs.declared.effect.Effect.{Effect}
 use Rattle.client_session.specs.declared.effect.Effect.TheVariants.{Send, Put, Ask, Upstream, Close}
@@ -31,27 +31,27 @@ use Rattle.client_session.proofs.RegisteredLemmas as course
 
 -- ---- one event
 
-abbrev pub step_by : Stage → Event → Step
+abbrev pub step_by : Stage → ClientEvent → Step
 step_by session event = record { session = after session event; effects = effects_of session event }
 
-abbrev pub directory_of : Event → Directory
+abbrev pub directory_of : ClientEvent → Directory
 directory_of (event.Line directory shown bytes) = directory
 directory_of (event.CutLine directory) = directory
 directory_of (event.Answer a) = []
 
-pub waiting_outcome : (w : Waiting) (e : Event) → Outcome (ToCome w) (directory_of e) (claim_by_event (claim_of w) e) (step_by (stage.Waiting w) e)
+pub waiting_outcome : (w : Waiting) (e : ClientEvent) → Outcome (ToCome w) (directory_of e) (claim_by_event (claim_of w) e) (step_by (stage.Waiting w) e)
 unfolding step
 waiting_outcome w (event.Line directory shown bytes) = line_before directory shown w bytes (read Client bytes)
 waiting_outcome w (event.CutLine directory) = refused_before directory w TooLong
 waiting_outcome w (event.Answer a) = before.waiting w refl (λ h. (refl, h)) tt
 
-pub registered_course : (f : Facts) (e : Event) → Course f (step_by (stage.Registered f) e)
+pub registered_course : (f : Facts) (e : ClientEvent) → Course f (step_by (stage.Registered f) e)
 unfolding step
 registered_course f (event.Line directory shown bytes) = line_after directory shown f bytes (read Client bytes)
 registered_course f (event.CutLine directory) = refused_after directory f TooLong
 registered_course f (event.Answer a) = course.registered _ refl (refl, refl) tt
 
-pub closed_after : (e : Event) → after stage.Closed e ≡ stage.Closed
+pub closed_after : (e : ClientEvent) → after stage.Closed e ≡ stage.Closed
 unfolding step
 closed_after (event.Line directory shown bytes) = closed_reading (read Client bytes) where
   closed_reading : (r : Result Reading LineFault) → (reading_step directory shown stage.Closed bytes r).session ≡ stage.Closed
@@ -60,7 +60,7 @@ closed_after (event.Line directory shown bytes) = closed_reading (read Client by
 closed_after (event.CutLine directory) = refl
 closed_after (event.Answer a) = refl
 
-pub closed_effects : (e : Event) → effects_of stage.Closed e ≡ []
+pub closed_effects : (e : ClientEvent) → effects_of stage.Closed e ≡ []
 unfolding step
 closed_effects (event.Line directory shown bytes) = closed_reading (read Client bytes) where
   closed_reading : (r : Result Reading LineFault) → (reading_step directory shown stage.Closed bytes r).effects ≡ []
@@ -69,7 +69,7 @@ closed_effects (event.Line directory shown bytes) = closed_reading (read Client 
 closed_effects (event.CutLine directory) = refl
 closed_effects (event.Answer a) = refl
 
-pub closed_run : (events : List Event) → run stage.Closed events ≡ stage.Closed
+pub closed_run : (events : List ClientEvent) → run stage.Closed events ≡ stage.Closed
 closed_run [] = refl
 closed_run (e ∷ events) = ap (λ s. run s events) (closed_after e) ∙ closed_run events
 
@@ -80,21 +80,21 @@ same_from f g (stage.Waiting w) same h = h
 same_from f g (stage.Registered k) same h = (h.0 ∙ same.0, h.1 ∙ same.1)
 same_from f g stage.Closed same h = tt
 
-same_next : (f : Facts) (e : Event) (events : List Event) → ((g : Facts) → IsOfSame g (run (stage.Registered g) events))
+same_next : (f : Facts) (e : ClientEvent) (events : List ClientEvent) → ((g : Facts) → IsOfSame g (run (stage.Registered g) events))
     → Course f (step_by (stage.Registered f) e) → IsOfSame f (run (after (stage.Registered f) e) events)
 same_next f e events rest (course.registered g is same all) =
     subst (λ (s : Stage). IsOfSame f (run s events)) (sym is) (same_from f g _ same (rest g))
 same_next f e events rest (course.closed is all) =
     subst (λ (s : Stage). IsOfSame f (run s events)) (sym is) (subst (λ (s : Stage). IsOfSame f s) (sym (closed_run events)) tt)
 
-pub same_run : (f : Facts) (events : List Event) → IsOfSame f (run (stage.Registered f) events)
+pub same_run : (f : Facts) (events : List ClientEvent) → IsOfSame f (run (stage.Registered f) events)
 same_run f [] = (refl, refl)
 same_run f (e ∷ events) = same_next f e events (λ g. same_run g events) (registered_course f e)
 
 -- ---- the secret
 
-abbrev pub LetInFrom : Claim → List Event → Facts → Type 0
-LetInFrom g events f = (prefix : List Event) × (directory : Directory) × (shown : Bool) × (bytes : List ℕ) × (later : List Event)
+abbrev pub LetInFrom : Claim → List ClientEvent → Facts → Type 0
+LetInFrom g events f = (prefix : List ClientEvent) × (directory : Directory) × (shown : Bool) × (bytes : List ℕ) × (later : List ClientEvent)
     × (events ≡ prefix ++ event.Line directory shown bytes ∷ later)
     × IsLetIn directory f (claim_after g (prefix ++ event.Line directory shown bytes ∷ []))
 
@@ -113,11 +113,11 @@ let_in_same directory g f given same h = record {
 }
 
 -- after one event more
-later : (g : Claim) (e : Event) (events : List Event) (f : Facts) → LetInFrom (claim_by_event g e) events f → LetInFrom g (e ∷ events) f
+later : (g : Claim) (e : ClientEvent) (events : List ClientEvent) (f : Facts) → LetInFrom (claim_by_event g e) events f → LetInFrom g (e ∷ events) f
 later g e events f h = (e ∷ h.0, h.1, h.2, h.3, h.4, ap (λ l. e ∷ l) h.5, h.6)
 
 -- a line lets in, the rest of the events does not change the account and the network
-entered_at : (w : Waiting) (e : Event) (events : List Event) (f g : Facts) → ToCome w → after (stage.Waiting w) e ≡ stage.Registered g
+entered_at : (w : Waiting) (e : ClientEvent) (events : List ClientEvent) (f g : Facts) → ToCome w → after (stage.Waiting w) e ≡ stage.Registered g
     → IsLetIn (directory_of e) g (claim_by_event (claim_of w) e) → run (after (stage.Waiting w) e) events ≡ stage.Registered f
     → LetInFrom (claim_of w) (e ∷ events) f
 entered_at w (event.Line directory shown bytes) events f g p is known h =
@@ -127,7 +127,7 @@ entered_at w (event.Line directory shown bytes) events f g p is known h =
 entered_at w (event.CutLine directory) events f g p is known h = absurd (cc)
 entered_at w (event.Answer a) events f g p is known h = absurd (cc)
 
-entered_next : (w : Waiting) (e : Event) (events : List Event) (f : Facts)
+entered_next : (w : Waiting) (e : ClientEvent) (events : List ClientEvent) (f : Facts)
     → ((v : Waiting) → ToCome v → run (stage.Waiting v) events ≡ stage.Registered f → LetInFrom (claim_of v) events f)
     → ToCome w → Outcome (ToCome w) (directory_of e) (claim_by_event (claim_of w) e) (step_by (stage.Waiting w) e)
     → run (after (stage.Waiting w) e) events ≡ stage.Registered f → LetInFrom (claim_of w) (e ∷ events) f
@@ -138,7 +138,7 @@ entered_next w e events f rest p (before.closed is all) h =
     let never : stage.Closed ≡ stage.Registered f = sym (closed_run events) ∙ ap (λ (s : Stage). run s events) (sym is) ∙ h in absurd (cc)
 entered_next w e events f rest p (before.registered g is known all) h = entered_at w e events f g p is (known p) h
 
-pub entered : (w : Waiting) (events : List Event) (f : Facts) → ToCome w → run (stage.Waiting w) events ≡ stage.Registered f → LetInFrom (claim_of w) events f
+pub entered : (w : Waiting) (events : List ClientEvent) (f : Facts) → ToCome w → run (stage.Waiting w) events ≡ stage.Registered f → LetInFrom (claim_of w) events f
 entered w [] f p h = absurd (cc)
 entered w (e ∷ events) f p h = entered_next w e events f (λ v q k. entered v events f q k) p (waiting_outcome w e) h
 
@@ -163,7 +163,7 @@ answers_alone P directory g s (before.waiting w is facts all) out = all_map send
 answers_alone P directory g s (before.closed is all) out = all
 answers_alone P directory g s (before.registered f is known all) out = absurd (out (subst IsRegistered (sym is) tt))
 
-pub outside : (session : Stage) (e : Event) → ¬ IsRegistered session → ¬ IsRegistered (after session e) → AreAnswers (effects_of session e)
+pub outside : (session : Stage) (e : ClientEvent) → ¬ IsRegistered session → ¬ IsRegistered (after session e) → AreAnswers (effects_of session e)
 outside (stage.Waiting w) e here next = answers_alone (ToCome w) (directory_of e) _ _ (waiting_outcome w e) next
 outside (stage.Registered f) e here next = absurd (here tt)
 outside stage.Closed e here next = subst AreAnswers (sym (closed_effects e)) tt
@@ -173,7 +173,7 @@ greets_alone P directory g s (before.waiting w is facts all) h = absurd (subst I
 greets_alone P directory g s (before.closed is all) h = absurd (subst IsRegistered is h)
 greets_alone P directory g s (before.registered f is known all) h = all
 
-pub entering : (session : Stage) (e : Event) → ¬ IsRegistered session → IsRegistered (after session e) → AllByRecursion IsGreeting (effects_of session e)
+pub entering : (session : Stage) (e : ClientEvent) → ¬ IsRegistered session → IsRegistered (after session e) → AllByRecursion IsGreeting (effects_of session e)
 entering (stage.Waiting w) e here next = greets_alone (ToCome w) (directory_of e) _ _ (waiting_outcome w e) next
 entering (stage.Registered f) e here next = absurd (here tt)
 entering stage.Closed e here next = absurd (subst IsRegistered (closed_after e) next)
@@ -218,25 +218,25 @@ own_after : (f : Facts) (s : Step) → Course f s → AreOwn (stage.Registered f
 own_after f s (course.registered g is same all) = all_map (served_is_own f) s.effects all
 own_after f s (course.closed is all) = all_map (answer_is_own (stage.Registered f)) s.effects all
 
-pub own_effects : (session : Stage) (e : Event) → AreOwn session (effects_of session e)
+pub own_effects : (session : Stage) (e : ClientEvent) → AreOwn session (effects_of session e)
 own_effects (stage.Waiting w) e = own_before w (ToCome w) (directory_of e) _ _ (waiting_outcome w e)
 own_effects (stage.Registered f) e = own_after f _ (registered_course f e)
 own_effects stage.Closed e = subst (AreOwn stage.Closed) (sym (closed_effects e)) tt
 
 -- ---- where a step looks
 
-abbrev pub IsOwnPlace : Facts → Option Place → Type 0
-IsOwnPlace f None = Unit {0}
-IsOwnPlace f (Some place) = (place.buffer.account ≡ f.account) × (place.buffer.network ≡ f.network)
+abbrev pub IsOwnName : Facts → Option MessageName → Type 0
+IsOwnName f None = Unit {0}
+IsOwnName f (Some place) = (place.buffer.account ≡ f.account) × (place.buffer.network ≡ f.network)
 
-own_place_if : (f : Facts) (b : Bool) (place : Place) → IsOwnPlace f (Some place) → IsOwnPlace f (if b then Some place else None)
-own_place_if f true place h = h
-own_place_if f false place h = tt
+own_name_if : (f : Facts) (b : Bool) (place : MessageName) → IsOwnName f (Some place) → IsOwnName f (if b then Some place else None)
+own_name_if f true place h = h
+own_name_if f false place h = tt
 
-own_place_of : (f : Facts) (command : Command) (ps : List (List ℕ)) → IsOwnPlace f (place_by_command f command ps)
+own_place_of : (f : Facts) (command : ClientCommand) (ps : List (List ℕ)) → IsOwnName f (name_by_command f command ps)
 own_place_of f Redact [] = tt
 own_place_of f Redact (target ∷ []) = tt
-own_place_of f Redact (target ∷ id ∷ more) = own_place_if f (f.caps.message_redaction && (has_buffer f target && is_id id)) _ (refl, refl)
+own_place_of f Redact (target ∷ id ∷ more) = own_name_if f (f.caps.message_redaction && (has_buffer f target && is_id id)) _ (refl, refl)
 own_place_of f Cap ps = tt
 own_place_of f Pass ps = tt
 own_place_of f Nick ps = tt
@@ -249,12 +249,12 @@ own_place_of f Markread ps = tt
 own_place_of f Tagmsg ps = tt
 own_place_of f Other ps = tt
 
-own_place_in : (f : Facts) (reading : Result Reading LineFault) → IsOwnPlace f (place_in f reading)
+own_place_in : (f : Facts) (reading : Result Reading LineFault) → IsOwnName f (name_in f reading)
 own_place_in f (Err fault) = tt
 own_place_in f (Ok line) = own_place_of f (command_of line.command) line.parameters
 
-pub own_place : (f : Facts) (bytes : List ℕ) (place : Place) → place_sought (stage.Registered f) bytes ≡ Some place → IsOwnPlace f (Some place)
-own_place f bytes place h = subst (IsOwnPlace f) h (own_place_in f (read Client bytes))
+pub own_name : (f : Facts) (bytes : List ℕ) (place : MessageName) → name_sought (stage.Registered f) bytes ≡ Some place → IsOwnName f (Some place)
+own_name f bytes place h = subst (IsOwnName f) h (own_place_in f (read Client bytes))
 
 -- ---- Close
 
@@ -275,7 +275,7 @@ closes_after : (f : Facts) (s : Step) → Course f s → HasClose s.effects → 
 closes_after f s (course.registered g is same all) h = absurd (no_close (IsServed f) (λ x. x) s.effects all h)
 closes_after f s (course.closed is all) h = is
 
-pub closes : (session : Stage) (e : Event) → HasClose (effects_of session e) → after session e ≡ stage.Closed
+pub closes : (session : Stage) (e : ClientEvent) → HasClose (effects_of session e) → after session e ≡ stage.Closed
 closes (stage.Waiting w) e h = closes_before (ToCome w) (directory_of e) _ _ (waiting_outcome w e) h
 closes (stage.Registered f) e h = closes_after f _ (registered_course f e) h
 closes stage.Closed e h = closed_after e

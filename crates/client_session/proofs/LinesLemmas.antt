@@ -2,8 +2,7 @@
 use Rattle.std.proofs.Common.{◌≡◌, ℕ, ◌+◌, ◌*◌, ◌≤◌, ◌<◌, Bool, true, false, cond, List, [], ◌∷◌, ◌++◌, length, map, take, drop, filter, codes, Option, None, Some, Result, Ok, Err, refl, sym, ap, ◌∙◌, arith, length-append, take-append-drop, lit≤}
 use Rattle.std.specs.Prelude.{◌==◌, ◌&&◌, ◌||◌, not, nat_lt, nat_le, IfSome, IfOk, is_some}
 use Rattle.std.specs.List.{AllByRecursion, list_any, list_all, slice_split, onto_first}
-use Rattle.std.specs.Str.{bytes_eq}
-use Rattle.std.proofs.lemmas.Bool.{and_parts, or_parts, leb-true, not-true}
+use Rattle.std.proofs.lemmas.Bool.{and_parts, or_parts, leb-true}
 use Rattle.std.proofs.lemmas.Bool.Decides.{nat_tests}
 use Rattle.std.proofs.lemmas.List.{length-take}
 use Rattle.std.proofs.lemmas.List.Folds.{list_any-append}
@@ -12,21 +11,21 @@ use Rattle.irc_line.specs.declared.line.LineFault.{LineFault}
 use Rattle.irc_line.specs.declared.line.LineFault.TheVariants.{Empty, TagsTooLong, TooLong, BadByte, NoCommand}
 use Rattle.irc_line.specs.declared.line.TagLimit.{TagLimit}
 use Rattle.irc_line.specs.declared.line.TagLimit.TheVariants.{Client}
-use Rattle.irc_line.specs.Line.{Reading, Reads, colon, space, begins_with, is_bad, is_command}
+use Rattle.irc_line.specs.Line.{Reading, Reads, is_bad, is_command}
 use Rattle.irc_line.specs.Read.{read}
 use Rattle.irc_line.specs.CanStand.{HasNoBadByte, CanBeMiddle}
 use Rattle.irc_line.specs.Lines.{AreLines}
-use Rattle.irc_line.proofs.CallerLemmas.{one_line, good_append, middle_from, no_space_from, no_bad_above, read_parameters_whole, read_ok}
+use Rattle.irc_line.proofs.CallerLemmas.{one_line, good_append, middle_from, no_bad_above, read_parameters_whole, read_ok}
 use Rattle.irc_caps.specs.declared.CapSet.{CapSet}
 use Rattle.irc_caps.specs.declared.capability.Capability.{Capability}
 use Rattle.irc_caps.specs.declared.capability.Capability.TheVariants.{Batch, Chathistory as History, MessageRedaction, ReadMarker, EchoMessage, MessageTags, ServerTime}
 use Rattle.irc_caps.specs.Capability.{capabilities, name_of}
 use Rattle.irc_caps.specs.CapSet.{all_capabilities, holds, names}
 use Rattle.irc_caps.specs.Negotiation.{Negotiation, Answer, registered, cap_line, ls, list, ack, nak, req_words, req, list_in, ended, invalid, is_same_word, cap_answer}
-use Rattle.irc_reply.specs.Echo.{can_be_echoed, echoed}
+use Rattle.irc_reply.specs.Echo.{echoed}
 use Rattle.irc_caps.specs.Words.{joined, words_of, is_word, list_limit, is_acknowledged, wish_of}
 use Rattle.irc_reply.specs.Reply.{reply, unknown_text, need_more_params}
-use Rattle.irc_reply.specs.Standing.{IsCluster, IsWordTo, target_limit, word_limit}
+use Rattle.irc_reply.specs.Standing.{IsCluster, IsWordTo, target_limit}
 use Rattle.irc_reply.proofs.CallerLemmas.{reply_line, unknown_line, too_long_line}
 use Rattle.chat_change.specs.declared.words.TheConstants.{NAME_LIMIT}
 use Rattle.chat_change.specs.Words.{has_length_to, is_name_byte, is_name, is_target, is_id}
@@ -36,19 +35,22 @@ use Rattle.chat_change.specs.declared.faults.ChangeFault.TheVariants.{BadName, B
 use Rattle.chat_change.specs.declared.change.Change.{Change}
 use Rattle.chat_change.specs.declared.change.Change.TheVariants.{Post, Redact as Redaction, Mark, Floor}
 use Rattle.chat_change.proofs.CallerLemmas.{lawful_buffer}
+use Rattle.chat_page.specs.Parameters.{has_timestamp_key, timestamp_of, moment_of}
+use Rattle.chat_batch.specs.Answers.{has_buffer, first_of}
 use Rattle.chat_batch.specs.Standing.{IsSoundSession}
 use Rattle.chat_batch.specs.declared.facts.Facts.{Facts}
-use Rattle.chat_batch.proofs.CallerLemmas.{target_word}
+use Rattle.chat_batch.proofs.CallerLemmas.{echoed_word, target_word}
 use Rattle.client_directory.specs.Entry.{Entry}
 use Rattle.client_directory.specs.Directory.{Directory, entry_in}
-use Rattle.client_replies.specs.Replies.{no_nick_given, erroneous_nick, may_not_reregister, pong, not_connected, closing_link, passed_line}
+use Rattle.irc_reply.specs.ToClient.{no_nick_given, erroneous_nick, may_not_reregister, pong, not_connected, closing_link}
+use Rattle.irc_reply.specs.ToServer.{passed_line}
 use Rattle.client_session.specs.Command.{command_of}
 use Rattle.client_session.specs.Step.{Step, answer, refusal, ping, nick_refusal}
 use Rattle.client_session.specs.Registration.{user_name}
-use Rattle.client_session.specs.Registered.{stays, is_up, takes_redact, with_nick_of, upstream, answer_if, need_more, pass, user_if, nick_unless, with_capability, has_buffer, marker_in, marker_put, markread_put, first_of, redact_named, redact_of, after_registration}
+use Rattle.client_session.specs.Registered.{stays, is_up, takes_redact, with_nick_of, upstream, answer_if, need_more, pass, user_if, nick_unless, with_capability, marker_put, markread_put, redact_named, redact_of, after_registration}
 use Rattle.client_session.specs.Session.{facts_now, refuse, reading_step, step, too_long}
-use Rattle.client_session.specs.declared.command.Command.{Command}
-use Rattle.client_session.specs.declared.command.Command.TheVariants.{Cap, Pass, Nick, User, Ping, Pong, Quit, Chathistory, Markread, Redact, Tagmsg, Other}
+use Rattle.client_session.specs.declared.command.ClientCommand.{ClientCommand}
+use Rattle.client_session.specs.declared.command.ClientCommand.TheVariants.{Cap, Pass, Nick, User, Ping, Pong, Quit, Chathistory, Markread, Redact, Tagmsg, Other}
 use Rattle.client_session.specs.declared.effect.Effect.{Effect}
 use Rattle.client_session.specs.declared.effect.Effect.TheVariants.{Send, Put, Ask, Upstream, Close}
 use Rattle.client_session.specs.declared.stage.Stage.{Stage}
@@ -191,23 +193,6 @@ caps_good caps =
     let short = names_short held in
     let seven : length held ≤ 7 = few (λ c. holds caps c) capabilities in
     (good_joined (names caps) (names_good held), omega arith)
-
--- ---- a word that is told again
-
-some_bytes : (text : List ℕ) → not (length text == 0) ≡ true → 0 < length text
-some_bytes text e = grind arith
-
-echoed_word : (word : List ℕ) → HasNoBadByte word → IsWordTo word_limit (echoed word)
-echoed_word word good = go (can_be_echoed word) refl where
-  go : (t : Bool) → can_be_echoed word ≡ t → IsWordTo word_limit (cond t word (codes "*"))
-  go true e =
-      let a = and_parts (not (length word == 0) && nat_le (length word) 64 && not (begins_with colon word)) (not (list_any (λ b. b == space) word)) e in
-      let b = and_parts (not (length word == 0) && nat_le (length word) 64) (not (begins_with colon word)) a.0 in
-      let c = and_parts (not (length word == 0)) (nat_le (length word) 64) b.0 in (
-        (some_bytes word c.0, not-true (begins_with colon word) b.1, no_space_from word (not-true (list_any (λ b. b == space) word) a.1), good),
-        leb-true (length word) 64 c.1,
-      )
-  go false e = (middle_from (codes "*") refl, lit≤ tt)
 
 -- ---- replies
 
@@ -371,10 +356,10 @@ module _ (limit : TagLimit) (f : Facts) (sound : IsSoundFacts f) where
 
   -- ---- markers
 
-  marker_stands : (target word : List ℕ) (at : Option ℕ) → marker_in word ≡ at → EffectsStand limit (marker_put f target at)
+  marker_stands : (target word : List ℕ) (at : Option ℕ) → moment_of word ≡ at → EffectsStand limit (marker_put f target at)
   marker_stands target word None e = tt
   marker_stands target word (Some at) e =
-      either_effects limit (has_buffer f target) _ _ (λ is. ((lawful_of f.account f.network target is, (drop 10 word, timed (bytes_eq (take 10 word) (codes "timestamp=")) (time_of (drop 10 word)) at e)), tt)) (λ is. tt) where
+      either_effects limit (has_buffer f target) _ _ (λ is. ((lawful_of f.account f.network target is, (drop 10 word, timed (has_timestamp_key word) (timestamp_of word) at e)), tt)) (λ is. tt) where
         timed : (b : Bool) (o : Option ℕ) (at : ℕ) → cond b o None ≡ Some at → o ≡ Some at
         timed true o at e = e
         timed false o at e = cc
@@ -387,7 +372,7 @@ module _ (limit : TagLimit) (f : Facts) (sound : IsSoundFacts f) where
   put_stands : (ps : List (List ℕ)) → EffectsStand limit (markread_put f ps)
   put_stands [] = tt
   put_stands (target ∷ []) = tt
-  put_stands (target ∷ word ∷ more) = marker_stands target word (marker_in word) refl
+  put_stands (target ∷ word ∷ more) = marker_stands target word (moment_of word) refl
 
   -- ---- REDACT
 
@@ -430,7 +415,7 @@ module _ (limit : TagLimit) (f : Facts) (sound : IsSoundFacts f) where
   on : (effects : List Effect) → EffectsStand limit effects → StepStands limit (stays f effects)
   on effects p = record { effects = p; session = sound }
 
-  command_stands : (entry : Option Entry) (shown : Bool) (bytes : List ℕ) (command : Command) (ps : List (List ℕ)) → AllByRecursion HasNoBadByte ps
+  command_stands : (entry : Option Entry) (shown : Bool) (bytes : List ℕ) (command : ClientCommand) (ps : List (List ℕ)) → AllByRecursion HasNoBadByte ps
       → StepStands limit (after_registration entry f shown bytes command ps)
   command_stands entry shown bytes Cap ps good = record {
     effects = told_stands _ (cap_told limit f.cluster sound.session.cluster f.nick sound.session.nick (registered f.caps) ps good);

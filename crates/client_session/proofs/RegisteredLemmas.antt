@@ -5,17 +5,19 @@ use Rattle.irc_line.specs.declared.line.LineFault.{LineFault}
 use Rattle.irc_line.specs.declared.line.LineFault.TheVariants.{Empty, TagsTooLong, TooLong, BadByte, NoCommand}
 use Rattle.irc_line.specs.Line.{Reading}
 use Rattle.chat_change.specs.Words.{is_id}
+use Rattle.chat_page.specs.Parameters.{moment_of}
+use Rattle.chat_batch.specs.Answers.{has_buffer, first_of}
 use Rattle.chat_batch.specs.declared.facts.Facts.{Facts}
 use Rattle.client_directory.specs.Entry.{Entry}
 use Rattle.client_directory.specs.Directory.{Directory, entry_in}
 use Rattle.client_session.specs.Command.{command_of}
 use Rattle.client_session.specs.Step.{Step, refusal, ping}
 use Rattle.client_session.specs.Registration.{user_name}
-use Rattle.client_session.specs.Registered.{stays, is_up, takes_redact, with_nick_of, upstream, answer_if, pass, user_if, nick_unless, with_capability, has_buffer, marker_in, marker_put, markread_put, first_of, redact_named, redact_of, after_registration}
+use Rattle.client_session.specs.Registered.{stays, is_up, takes_redact, with_nick_of, upstream, answer_if, pass, user_if, nick_unless, with_capability, marker_put, markread_put, redact_named, redact_of, after_registration}
 use Rattle.client_session.specs.Session.{facts_now, refuse, reading_step}
 use Rattle.client_session.specs.Events.{IsAnswer, IsMarkOf}
-use Rattle.client_session.specs.declared.command.Command.{Command}
-use Rattle.client_session.specs.declared.command.Command.TheVariants.{Cap, Pass, Nick, User, Ping, Pong, Quit, Chathistory, Markread, Redact, Tagmsg, Other}
+use Rattle.client_session.specs.declared.command.ClientCommand.{ClientCommand}
+use Rattle.client_session.specs.declared.command.ClientCommand.TheVariants.{Cap, Pass, Nick, User, Ping, Pong, Quit, Chathistory, Markread, Redact, Tagmsg, Other}
 use Rattle.client_session.specs.declared.effect.Effect.{Effect}
 use Rattle.client_session.specs.declared.effect.Effect.TheVariants.{Send, Put, Ask, Upstream, Close}
 use Rattle.client_session.specs.declared.stage.Stage.TheVariants as stage
@@ -76,7 +78,7 @@ marker_served f target bytes (Some at) = either (λ l. AreServed f (l ++ Ask byt
 markread_served : (f : Facts) (bytes : List ℕ) (ps : List (List ℕ)) → AreServed f (markread_put f ps ++ Ask bytes ∷ [])
 markread_served f bytes [] = (tt, tt)
 markread_served f bytes (a ∷ []) = (tt, tt)
-markread_served f bytes (a ∷ b ∷ more) = marker_served f a bytes (marker_in b)
+markread_served f bytes (a ∷ b ∷ more) = marker_served f a bytes (moment_of b)
 
 named_served : (f : Facts) (entry : Option Entry) (shown : Bool) (target id : List ℕ) (reason : Option (List ℕ))
     → AreServed f (redact_named entry f shown target id reason)
@@ -90,7 +92,7 @@ redact_served f entry shown [] = (tt, tt)
 redact_served f entry shown (a ∷ []) = (tt, tt)
 redact_served f entry shown (a ∷ b ∷ more) = named_served f entry shown a b (first_of more)
 
-row_after : (entry : Option Entry) (f : Facts) (shown : Bool) (bytes : List ℕ) (command : Command) (ps : List (List ℕ))
+row_after : (entry : Option Entry) (f : Facts) (shown : Bool) (bytes : List ℕ) (command : ClientCommand) (ps : List (List ℕ))
     → Course f (after_registration entry f shown bytes command ps)
 row_after entry f shown bytes Cap ps = registered _ refl (refl, refl) (answer_served f _)
 row_after entry f shown bytes Quit ps = closed refl (tt, (tt, tt))

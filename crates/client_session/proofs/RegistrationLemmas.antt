@@ -14,14 +14,14 @@ use Rattle.chat_change.specs.Words.{is_target}
 use Rattle.chat_batch.specs.declared.facts.Facts.{Facts}
 use Rattle.client_directory.specs.Entry.{Entry}
 use Rattle.client_directory.specs.Directory.{Directory, Account, account_in, entry_of, entry_of_account, entry_if_secret, entry_by_secret}
-use Rattle.client_replies.specs.Replies.{no_nick}
+use Rattle.irc_reply.specs.ToClient.{no_nick}
 use Rattle.client_session.specs.Command.{command_of}
 use Rattle.client_session.specs.Step.{Step, answer, refusal, ping, nick_refusal}
 use Rattle.client_session.specs.Registration.{waits, account_of, network_of, channels_lines, facts_of, let_in_if, register, settle_user, settle, answer_or_settle, cap, pass, nick_unless, nick, user_name, user_if, user, before_registration}
 use Rattle.client_session.specs.Session.{reading_step}
 use Rattle.client_session.specs.Events.{Claim, IsAnswer, IsGreeting, IsLetIn, IsUserOf, HasSecret, user_after, is_nick, claim_by_command, claim_by_reading}
-use Rattle.client_session.specs.declared.command.Command.{Command}
-use Rattle.client_session.specs.declared.command.Command.TheVariants.{Cap, Pass, Nick, User, Ping, Pong, Quit, Chathistory, Markread, Redact, Tagmsg, Other}
+use Rattle.client_session.specs.declared.command.ClientCommand.{ClientCommand}
+use Rattle.client_session.specs.declared.command.ClientCommand.TheVariants.{Cap, Pass, Nick, User, Ping, Pong, Quit, Chathistory, Markread, Redact, Tagmsg, Other}
 use Rattle.client_session.specs.declared.effect.Effect.{Effect}
 use Rattle.client_session.specs.declared.effect.Effect.TheVariants.{Send, Put, Ask, Upstream, Close}
 use Rattle.client_session.specs.declared.stage.Waiting.{Waiting}
@@ -187,7 +187,7 @@ ping_row : (directory : Directory) (w : Waiting) (ps : List (List ℕ)) → Outc
 ping_row directory w [] = goes_on directory w _ (tt, tt)
 ping_row directory w (word ∷ more) = goes_on directory w _ (tt, tt)
 
-row_before : (directory : Directory) (w : Waiting) (command : Command) (ps : List (List ℕ))
+row_before : (directory : Directory) (w : Waiting) (command : ClientCommand) (ps : List (List ℕ))
     → Outcome (ToCome w) directory (claim_by_command (claim_of w) command ps) (before_registration directory w command ps)
 row_before directory w Cap ps = cap_row directory w ps
 row_before directory w Pass ps = pass_row directory w ps

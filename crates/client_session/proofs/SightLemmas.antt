@@ -6,17 +6,18 @@ use Rattle.irc_line.specs.declared.line.TagLimit.TheVariants.{Client}
 use Rattle.irc_line.specs.Line.{Reading}
 use Rattle.irc_line.specs.Read.{read}
 use Rattle.chat_change.specs.Words.{is_id}
+use Rattle.chat_batch.specs.Answers.{has_buffer}
 use Rattle.chat_batch.specs.declared.facts.Facts.{Facts}
 use Rattle.client_directory.specs.Entry.{Entry}
 use Rattle.client_directory.specs.Directory.{Directory, entry_in}
 use Rattle.client_session.specs.Command.{command_of}
-use Rattle.client_session.specs.declared.command.Command.{Command}
-use Rattle.client_session.specs.declared.command.Command.TheVariants.{Cap, Pass, Nick, User, Ping, Pong, Quit, Chathistory, Markread, Redact, Tagmsg, Other}
+use Rattle.client_session.specs.declared.command.ClientCommand.{ClientCommand}
+use Rattle.client_session.specs.declared.command.ClientCommand.TheVariants.{Cap, Pass, Nick, User, Ping, Pong, Quit, Chathistory, Markread, Redact, Tagmsg, Other}
 use Rattle.client_session.specs.declared.effect.Effect.{Effect}
 use Rattle.client_session.specs.declared.stage.Stage.{Stage}
 use Rattle.client_session.specs.declared.stage.Stage.TheVariants as stage
-use Rattle.client_session.specs.Registered.{with_nick_of, has_buffer, redact, after_registration, stays}
-use Rattle.client_session.specs.Lookup.{Place, place_of, place_by_command, place_in, place_sought}
+use Rattle.client_session.specs.Registered.{with_nick_of, redact, after_registration, stays}
+use Rattle.client_session.specs.Lookup.{MessageName, name_of, name_by_command, name_in, name_sought}
 use Rattle.client_session.specs.Session.{reading_step, step}
 
 -- the four tests of a REDACT, of which the last asks whether a message is shown
@@ -27,18 +28,18 @@ unasked true true false shown unknown bad missing more e = refl
 unasked true false lawful shown unknown bad missing more e = refl
 unasked false buffer lawful shown unknown bad missing more e = refl
 
-no_place : (b : Bool) (place : Place) → cond b (Some place) None ≡ None → b ≡ false
-no_place true place e = cc
-no_place false place e = refl
+no_name : (b : Bool) (place : MessageName) → cond b (Some place) None ≡ None → b ≡ false
+no_name true place e = cc
+no_name false place e = refl
 
-redact_unseen : (entry : Option Entry) (f : Facts) (shown : Bool) (target id : List ℕ) (more : List (List ℕ)) → place_of f target id ≡ None
+redact_unseen : (entry : Option Entry) (f : Facts) (shown : Bool) (target id : List ℕ) (more : List (List ℕ)) → name_of f target id ≡ None
     → redact entry (with_nick_of entry f) shown (target ∷ id ∷ more) ≡ redact entry (with_nick_of entry f) false (target ∷ id ∷ more)
 redact_unseen None f shown target id more e =
-    unasked f.caps.message_redaction (has_buffer f target) (is_id id) shown _ _ _ _ (no_place (f.caps.message_redaction && (has_buffer f target && is_id id)) _ e)
+    unasked f.caps.message_redaction (has_buffer f target) (is_id id) shown _ _ _ _ (no_name (f.caps.message_redaction && (has_buffer f target && is_id id)) _ e)
 redact_unseen (Some entry) f shown target id more e =
-    unasked f.caps.message_redaction (has_buffer f target) (is_id id) shown _ _ _ _ (no_place (f.caps.message_redaction && (has_buffer f target && is_id id)) _ e)
+    unasked f.caps.message_redaction (has_buffer f target) (is_id id) shown _ _ _ _ (no_name (f.caps.message_redaction && (has_buffer f target && is_id id)) _ e)
 
-command_unseen : (entry : Option Entry) (f : Facts) (shown : Bool) (bytes : List ℕ) (command : Command) (ps : List (List ℕ)) → place_by_command f command ps ≡ None
+command_unseen : (entry : Option Entry) (f : Facts) (shown : Bool) (bytes : List ℕ) (command : ClientCommand) (ps : List (List ℕ)) → name_by_command f command ps ≡ None
     → after_registration entry (with_nick_of entry f) shown bytes command ps ≡ after_registration entry (with_nick_of entry f) false bytes command ps
 command_unseen entry f shown bytes Cap ps e = refl
 command_unseen entry f shown bytes Pass ps e = refl
@@ -55,13 +56,13 @@ command_unseen entry f shown bytes Redact [] e = refl
 command_unseen entry f shown bytes Redact (target ∷ []) e = refl
 command_unseen entry f shown bytes Redact (target ∷ id ∷ more) e = ap (stays (with_nick_of entry f)) (redact_unseen entry f shown target id more e)
 
-reading_unseen : (directory : Directory) (shown : Bool) (f : Facts) (bytes : List ℕ) (r : Result Reading LineFault) → place_in f r ≡ None
+reading_unseen : (directory : Directory) (shown : Bool) (f : Facts) (bytes : List ℕ) (r : Result Reading LineFault) → name_in f r ≡ None
     → reading_step directory shown (stage.Registered f) bytes r ≡ reading_step directory false (stage.Registered f) bytes r
 reading_unseen directory shown f bytes (Err fault) e = refl
 reading_unseen directory shown f bytes (Ok line) e =
     command_unseen (entry_in directory f.account f.network) f shown bytes (command_of line.command) line.parameters e
 
-waiting_unseen : (directory : Directory) (shown : Bool) (session : Stage) (bytes : List ℕ) (r : Result Reading LineFault) → ((f : Facts) → session ≡ stage.Registered f → place_in f r ≡ None)
+waiting_unseen : (directory : Directory) (shown : Bool) (session : Stage) (bytes : List ℕ) (r : Result Reading LineFault) → ((f : Facts) → session ≡ stage.Registered f → name_in f r ≡ None)
     → reading_step directory shown session bytes r ≡ reading_step directory false session bytes r
 waiting_unseen directory shown (stage.Registered f) bytes r e = reading_unseen directory shown f bytes r (e f refl)
 waiting_unseen directory shown (stage.Waiting w) bytes (Ok line) e = refl
@@ -69,7 +70,7 @@ waiting_unseen directory shown (stage.Waiting w) bytes (Err fault) e = refl
 waiting_unseen directory shown stage.Closed bytes (Ok line) e = refl
 waiting_unseen directory shown stage.Closed bytes (Err fault) e = refl
 
-pub step_unseen : (directory : Directory) (shown : Bool) (session : Stage) (bytes : List ℕ) → place_sought session bytes ≡ None
+pub step_unseen : (directory : Directory) (shown : Bool) (session : Stage) (bytes : List ℕ) → name_sought session bytes ≡ None
     → step directory shown session bytes ≡ step directory false session bytes
 unfolding step
 step_unseen directory shown (stage.Registered f) bytes e = reading_unseen directory shown f bytes (read Client bytes) e

@@ -12,8 +12,8 @@ use Rattle.chat_batch.specs.declared.facts.Facts.{Facts}
 use Rattle.chat_batch.specs.declared.facts.Answered.{Answered}
 use Rattle.client_directory.specs.Directory.{Directory, Account, account_in, entry_in}
 use Rattle.client_session.specs.Command.{command_of}
-use Rattle.client_session.specs.declared.command.Command as commands
-use Rattle.client_session.specs.declared.command.Command.TheVariants as command
+use Rattle.client_session.specs.declared.command.ClientCommand as commands
+use Rattle.client_session.specs.declared.command.ClientCommand.TheVariants as command
 use Rattle.client_session.specs.declared.effect.Effect.{Effect}
 use Rattle.client_session.specs.declared.effect.Effect.TheVariants.{Send, Put, Ask, Upstream, Close}
 use Rattle.client_session.specs.declared.stage.Stage.{Stage}
@@ -22,23 +22,23 @@ use Rattle.client_session.specs.Registration.{account_of, network_of, user_name}
 use Rattle.client_session.specs.Session.{step, too_long, session_after}
 
 -- A line comes with the directory of its moment, and with whether the message is shown that it names if it is a REDACT.
-pub data Event : Type 0 where
-  Line : Directory → Bool → List ℕ → Event
-  CutLine : Directory → Event
-  Answer : Answered → Event
+pub data ClientEvent : Type 0 where
+  Line : Directory → Bool → List ℕ → ClientEvent
+  CutLine : Directory → ClientEvent
+  Answer : Answered → ClientEvent
 
-abbrev pub after : Stage → Event → Stage
+abbrev pub after : Stage → ClientEvent → Stage
 after session (Line directory shown bytes) = (step directory shown session bytes).session
 after session (CutLine directory) = (too_long directory session).session
 after session (Answer a) = session_after session a
 
-abbrev pub effects_of : Stage → Event → List Effect
+abbrev pub effects_of : Stage → ClientEvent → List Effect
 effects_of session (Line directory shown bytes) = (step directory shown session bytes).effects
 effects_of session (CutLine directory) = (too_long directory session).effects
 effects_of session (Answer a) = []
 
 -- the session after a list of events
-abbrev pub run : Stage → List Event → Stage
+abbrev pub run : Stage → List ClientEvent → Stage
 run session [] = session
 run session (event ∷ events) = run (after session event) events
 
@@ -77,7 +77,7 @@ abbrev pub is_nick : List (List ℕ) → Bool
 is_nick [] = false
 is_nick (nick ∷ more) = is_target nick
 
-abbrev pub claim_by_command : Claim → commands.Command → List (List ℕ) → Claim
+abbrev pub claim_by_command : Claim → commands.ClientCommand → List (List ℕ) → Claim
 claim_by_command g command.Cap ps = record g { is_held = is_held_after g.is_held ps }
 claim_by_command g command.Pass ps = record g { password = password_after g.password ps }
 claim_by_command g command.Nick ps = record g { has_nick = g.has_nick || is_nick ps }
@@ -88,13 +88,13 @@ abbrev pub claim_by_reading : Claim → Result Reading LineFault → Claim
 claim_by_reading g (Err fault) = g
 claim_by_reading g (Ok line) = claim_by_command g (command_of line.command) line.parameters
 
-abbrev pub claim_by_event : Claim → Event → Claim
+abbrev pub claim_by_event : Claim → ClientEvent → Claim
 claim_by_event g (Line directory shown bytes) = claim_by_reading g (read Client bytes)
 claim_by_event g (CutLine directory) = g
 claim_by_event g (Answer a) = g
 
 -- the claim after a list of events
-abbrev pub claim_after : Claim → List Event → Claim
+abbrev pub claim_after : Claim → List ClientEvent → Claim
 claim_after g [] = g
 claim_after g (event ∷ events) = claim_after (claim_by_event g event) events
 
@@ -109,7 +109,7 @@ abbrev pub IsUserOf : Facts → Option (List ℕ) → Type 0
 IsUserOf f None = ⊥
 IsUserOf f (Some user) = (account_of user ≡ f.account) × (network_of user ≡ f.network)
 
--- by this directory, the claim opens the door to the account and the network
+-- by this directory, the claim is let in to the account and the network
 pub record IsLetIn (directory : Directory) (f : Facts) (g : Claim) : Type 0 where
   pub secret : HasSecret (account_in directory f.account) g.password
   pub network : IsSome (entry_in directory f.account f.network)
@@ -117,10 +117,10 @@ pub record IsLetIn (directory : Directory) (f : Facts) (g : Claim) : Type 0 wher
   pub nick : g.has_nick ≡ true
   pub free : g.is_held ≡ false
 
--- One of the events is a line by whose directory the claim so far, this line included, opens the door.
-abbrev pub WasLetIn : List Event → Facts → Type 0
-WasLetIn events f = (before : List Event) × (directory : Directory) × (shown : Bool)
-    × (bytes : List ℕ) × (later : List Event)
+-- One of the events is a line by whose directory the claim so far, this line included, is let in.
+abbrev pub WasLetIn : List ClientEvent → Facts → Type 0
+WasLetIn events f = (before : List ClientEvent) × (directory : Directory) × (shown : Bool)
+    × (bytes : List ℕ) × (later : List ClientEvent)
     × (events ≡ before ++ Line directory shown bytes ∷ later)
     × IsLetIn directory f (claim_after no_claim (before ++ Line directory shown bytes ∷ []))
 

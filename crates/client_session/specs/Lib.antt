@@ -8,4 +8,4 @@ pub mod Session
 pub mod Lookup
 pub mod Events
 -- what only the proofs use of the code: how a registered session goes on
-pub mod Standing
+pub mod Continuation

@@ -1,18 +1,20 @@
 -- A session after its registration: what each command does.
-use Rattle.std.specs.Prelude.{ℕ, Bool, false, not, ◌&&◌, List, [], ◌∷◌, ◌++◌, codes, take, drop, Option, None, Some, if◌then◌else◌}
-use Rattle.std.specs.Str.{bytes_eq}
-use Rattle.irc_time.specs.Reading.{time_of}
+use Rattle.std.specs.Prelude.{ℕ, Bool, false, not, ◌&&◌, List, [], ◌∷◌, ◌++◌, codes, take, Option, None, Some, if◌then◌else◌}
 use Rattle.irc_reply.specs.Reply.{unknown_text}
 use Rattle.irc_caps.specs.Negotiation.{registered, cap_answer}
 use Rattle.irc_reply.specs.Reply.{need_more_params}
-use Rattle.chat_change.specs.Words.{is_name, is_target, is_id}
+use Rattle.chat_change.specs.Words.{is_id}
 use Rattle.chat_change.specs.Buffer.{buffer_of}
 use Rattle.chat_change.specs.declared.change.Change.TheVariants.{Mark}
+use Rattle.chat_page.specs.Parameters.{moment_of}
+use Rattle.chat_batch.specs.Answers.{has_buffer, first_of}
 use Rattle.chat_batch.specs.declared.facts.Facts.{Facts}
 use Rattle.client_directory.specs.Entry.{Entry}
-use Rattle.client_replies.specs.Replies.{may_not_reregister, not_connected, plain_line, passed_line, redact_needs_more, redact_bad_target, redact_unknown_id, redact_forbidden}
-use Rattle.client_session.specs.declared.command.Command.{Command}
-use Rattle.client_session.specs.declared.command.Command.TheVariants.{Cap, Pass, Nick, User, Ping, Pong, Quit, Chathistory, Markread, Redact, Tagmsg, Other}
+use Rattle.irc_reply.specs.ToClient.{may_not_reregister, not_connected, redact_needs_more, redact_bad_target, redact_unknown_id, redact_forbidden}
+use Rattle.irc_reply.specs.Reply.{plain_line}
+use Rattle.irc_reply.specs.ToServer.{passed_line}
+use Rattle.client_session.specs.declared.command.ClientCommand.{ClientCommand}
+use Rattle.client_session.specs.declared.command.ClientCommand.TheVariants.{Cap, Pass, Nick, User, Ping, Pong, Quit, Chathistory, Markread, Redact, Tagmsg, Other}
 use Rattle.client_session.specs.declared.effect.Effect.{Effect}
 use Rattle.client_session.specs.declared.effect.Effect.TheVariants.{Put, Ask, Upstream}
 use Rattle.client_session.specs.declared.stage.Stage.TheVariants as stage
@@ -86,15 +88,6 @@ with_capability has f command effects =
 abbrev pub chathistory : Facts → List ℕ → List Effect
 chathistory f bytes = with_capability f.caps.chathistory f (codes "CHATHISTORY") (Ask bytes ∷ [])
 
--- the target has a buffer
-abbrev pub has_buffer : Facts → List ℕ → Bool
-has_buffer f target = is_name f.account && is_name f.network && is_target target
-
--- the moment of `timestamp=` and a time
-abbrev pub marker_in : List ℕ → Option ℕ
-marker_in word =
-    if bytes_eq (take 10 word) (codes "timestamp=") then time_of (drop 10 word) else None
-
 abbrev pub marker_put : Facts → List ℕ → Option ℕ → List Effect
 marker_put f target None = []
 marker_put f target (Some at) =
@@ -102,7 +95,7 @@ marker_put f target (Some at) =
 
 -- `MARKREAD target timestamp=time` puts a marker
 abbrev pub markread_put : Facts → List (List ℕ) → List Effect
-markread_put f (target ∷ word ∷ more) = marker_put f target (marker_in word)
+markread_put f (target ∷ word ∷ more) = marker_put f target (moment_of word)
 markread_put f _ = []
 
 -- each MARKREAD is asked as it came, behind its marker
@@ -110,10 +103,6 @@ abbrev pub markread : Facts → List ℕ → List (List ℕ) → List Effect
 markread f bytes parameters =
     with_capability f.caps.read_marker f (codes "MARKREAD")
     (markread_put f parameters ++ Ask bytes ∷ [])
-
-abbrev pub first_of : List (List ℕ) → Option (List ℕ)
-first_of [] = None
-first_of (word ∷ words) = Some word
 
 -- `REDACT target id [reason]`, where it is known whether the buffer shows a message of that id
 abbrev pub redact_named :
@@ -136,7 +125,7 @@ redact entry f shown parameters =
 
 -- what the commands do that leave the session as it is
 abbrev pub effects :
-    Option Entry → Facts → Bool → List ℕ → Command → List (List ℕ) → List Effect
+    Option Entry → Facts → Bool → List ℕ → ClientCommand → List (List ℕ) → List Effect
 effects entry f shown bytes Cap parameters = []
 effects entry f shown bytes Quit parameters = []
 effects entry f shown bytes Pong parameters = []
@@ -152,7 +141,7 @@ effects entry f shown bytes Other parameters = upstream entry f (passed_line byt
 
 -- the table of the commands after registration
 abbrev pub after_registration :
-    Option Entry → Facts → Bool → List ℕ → Command → List (List ℕ) → Step
+    Option Entry → Facts → Bool → List ℕ → ClientCommand → List (List ℕ) → Step
 after_registration entry f shown bytes Cap parameters = cap f parameters
 after_registration entry f shown bytes Quit parameters = quit
 after_registration entry f shown bytes command parameters =

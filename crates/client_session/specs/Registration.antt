@@ -6,9 +6,9 @@ use Rattle.irc_reply.specs.Reply.{need_more_params}
 use Rattle.chat_batch.specs.declared.facts.Facts.{Facts}
 use Rattle.client_directory.specs.Entry.{Entry}
 use Rattle.client_directory.specs.Directory.{Directory, entry_by_secret}
-use Rattle.client_replies.specs.Replies.{no_nick, welcome, support, no_motd, not_registered, password_incorrect, closing_link, join_line, marker_question}
-use Rattle.client_session.specs.declared.command.Command.{Command}
-use Rattle.client_session.specs.declared.command.Command.TheVariants.{Cap, Pass, Nick, User, Ping, Pong, Quit}
+use Rattle.irc_reply.specs.ToClient.{no_nick, welcome, support, no_motd, not_registered, password_incorrect, closing_link, join_line, marker_question}
+use Rattle.client_session.specs.declared.command.ClientCommand.{ClientCommand}
+use Rattle.client_session.specs.declared.command.ClientCommand.TheVariants.{Cap, Pass, Nick, User, Ping, Pong, Quit}
 use Rattle.client_session.specs.declared.effect.Effect.{Effect}
 use Rattle.client_session.specs.declared.effect.Effect.TheVariants.{Send, Ask, Close}
 use Rattle.client_session.specs.declared.stage.Waiting.{Waiting}
@@ -146,7 +146,7 @@ abbrev pub user : Directory → Waiting → List (List ℕ) → Step
 user directory w parameters = user_if directory w (user_name parameters)
 
 -- the table of the commands before registration
-abbrev pub before_registration : Directory → Waiting → Command → List (List ℕ) → Step
+abbrev pub before_registration : Directory → Waiting → ClientCommand → List (List ℕ) → Step
 before_registration directory w Cap parameters = cap directory w parameters
 before_registration directory w Pass parameters = pass w parameters
 before_registration directory w Nick parameters = nick directory w parameters

@@ -10,7 +10,7 @@ use Rattle.chat_batch.specs.declared.facts.Facts.{Facts}
 use Rattle.chat_batch.specs.declared.facts.Answered.{Answered}
 use Rattle.chat_batch.specs.Reference.{after_answer}
 use Rattle.client_directory.specs.Directory.{Directory, entry_in}
-use Rattle.client_replies.specs.Replies.{no_nick}
+use Rattle.irc_reply.specs.ToClient.{no_nick}
 use Rattle.client_session.specs.Command.{command_of}
 use Rattle.client_session.specs.declared.stage.Stage.{Stage}
 use Rattle.client_session.specs.declared.stage.Stage.TheVariants.{Waiting, Registered, Closed}

@@ -5,7 +5,7 @@ use Rattle.irc_line.specs.declared.line.LineFault.TheVariants.{Empty, TagsTooLon
 use Rattle.irc_reply.specs.Reply.{too_long_text, unknown_text}
 use Rattle.irc_reply.specs.Reply.{need_more_params}
 use Rattle.chat_change.specs.Words.{is_target}
-use Rattle.client_replies.specs.Replies.{no_nick_given, erroneous_nick, pong, closing_link}
+use Rattle.irc_reply.specs.ToClient.{no_nick_given, erroneous_nick, pong, closing_link}
 use Rattle.client_session.specs.declared.effect.Effect.{Effect}
 use Rattle.client_session.specs.declared.effect.Effect.TheVariants.{Send, Close}
 use Rattle.client_session.specs.declared.stage.Stage.{Stage}

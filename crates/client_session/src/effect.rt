@@ -1,6 +1,6 @@
 //! What a session asks its caller to do.
+use byte_text::Text;
 use chat_change::Change;
-use memory::Text;
 
 /// What the caller does for a session, in the order of the list.
 #[derive(Drop)]

@@ -3,8 +3,8 @@
 ghost use Rattle.std.specs.Prelude.{◌≡◌, ◌++◌, ◌∷◌, [], List, ℕ, Some};
 ghost use Rattle.std.specs.List.{AllByRecursion};
 ghost use Rattle.client_session.specs.Session.{new};
-ghost use Rattle.client_session.specs.Lookup.{Place, place_sought};
-ghost use Rattle.client_session.specs.Events.{Event, run, after, effects_of, WasLetIn, IsRegistered, IsAnswer, IsGreeting, IsOwnEffect, IsOfSame, HasClose};
+ghost use Rattle.client_session.specs.Lookup.{MessageName, name_sought};
+ghost use Rattle.client_session.specs.Events.{ClientEvent, run, after, effects_of, WasLetIn, IsRegistered, IsAnswer, IsGreeting, IsOwnEffect, IsOfSame, HasClose};
 ghost use Rattle.chat_batch.specs.declared.facts.Facts.{Facts};
 ghost use Rattle.client_session.specs.declared.stage.Stage.{Stage};
 ghost use Rattle.client_session.specs.declared.stage.Stage.TheVariants.{Registered, Closed};
@@ -14,17 +14,17 @@ ghost use Rattle.client_session.specs.declared.stage.Stage.TheVariants.{Register
 /// that account's. The account and the network are those of the last USER, a NICK had come, and nothing held registration
 /// back.
 pub fn nobody_enters_without_the_secret()
-    ensures { (cluster : List ℕ) (maximum : ℕ) (events : List Event) (f : Facts)
+    ensures { (cluster : List ℕ) (maximum : ℕ) (events : List ClientEvent) (f : Facts)
         → run (new cluster maximum) events ≡ Registered f → WasLetIn events f }
 {}
 
 /// Before its registration a session puts nothing, asks nothing and sends nothing to the network's server. The line that
 /// registers it is answered with lines and questions alone.
 pub fn nothing_happens_before_the_door()
-    ensures outside { (session : Stage) (event : Event)
+    ensures outside { (session : Stage) (event : ClientEvent)
         → ¬ IsRegistered session → ¬ IsRegistered (after session event)
         → AllByRecursion IsAnswer (effects_of session event) }
-    ensures entering { (session : Stage) (event : Event)
+    ensures entering { (session : Stage) (event : ClientEvent)
         → ¬ IsRegistered session → IsRegistered (after session event)
         → AllByRecursion IsGreeting (effects_of session event) }
 {}
@@ -32,18 +32,18 @@ pub fn nothing_happens_before_the_door()
 /// A session reaches its own past alone. Each change that it puts is a marker of its own account and network, where a step
 /// looks for a message is a buffer of these, and they never change.
 pub fn each_reaches_its_own_past_alone()
-    ensures puts { (session : Stage) (event : Event)
+    ensures puts { (session : Stage) (event : ClientEvent)
         → AllByRecursion (IsOwnEffect session) (effects_of session event) }
-    ensures looks { (f : Facts) (bytes : List ℕ) (place : Place)
-        → place_sought (Registered f) bytes ≡ Some place
+    ensures looks { (f : Facts) (bytes : List ℕ) (place : MessageName)
+        → name_sought (Registered f) bytes ≡ Some place
         → (place.buffer.account ≡ f.account) × (place.buffer.network ≡ f.network) }
-    ensures same { (f : Facts) (events : List Event) → IsOfSame f (run (Registered f) events) }
+    ensures same { (f : Facts) (events : List ClientEvent) → IsOfSame f (run (Registered f) events) }
 {}
 
 /// After Close there are no effects, and nothing changes.
 pub fn nothing_follows_close()
-    ensures closed { (session : Stage) (event : Event)
+    ensures closed { (session : Stage) (event : ClientEvent)
         → HasClose (effects_of session event) → after session event ≡ Closed }
-    ensures stays { (events : List Event) → run Closed events ≡ Closed }
-    ensures silent { (event : Event) → effects_of Closed event ≡ [] }
+    ensures stays { (events : List ClientEvent) → run Closed events ≡ Closed }
+    ensures silent { (event : ClientEvent) → effects_of Closed event ≡ [] }
 {}

@@ -1,10 +1,9 @@
 //! The session of a client: registration, capabilities, and what each command comes to (RFC 2812, section 3; IRCv3
-//! capability negotiation, draft/chathistory, draft/read-marker and draft/message-redaction).
-//!
-//! A [`Session`] is a value and reads nothing. Each [`step`](Session::step) takes a line and the directory of that moment,
-//! and gives the [`Effect`]s that its caller carries out in their order: lines to the client, markers to take, questions
-//! about the past to answer, and lines for the network's server. Nobody gets in without the account's secret, nobody
-//! inside reaches another account's past, and after [`Effect::Close`] there is nothing more ([`laws`]).
+//! capability negotiation, draft/chathistory, draft/read-marker and draft/message-redaction). It stands on the directory of
+//! `client_directory`, the capabilities of `irc_caps` and the answers of `chat_batch`. A [`Session`] is a value and reads
+//! nothing. Read [`step`](Session::step) first: it takes a line and the directory of that moment, and gives the [`Effect`]s
+//! that its caller carries out in their order. [`laws`] says that nobody gets in without the account's secret, nobody
+//! inside reaches another account's past, and after [`Effect::Close`] there is nothing more.
 #![tactic(auto)]
 
 mod command;
@@ -20,8 +19,8 @@ mod session;
 mod shared;
 mod stage;
 
+pub use byte_text::{NoMemory, Text};
 pub use chat_batch::{Answered, Facts};
 pub use client_directory::{Account, Directory, Entry, Network};
 pub use effect::Effect;
-pub use memory::{NoMemory, Text};
 pub use session::{Session, StepFault};

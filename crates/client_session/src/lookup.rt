@@ -1,16 +1,19 @@
 //! Looking for the message that a REDACT names.
-ghost use Rattle.std.specs.Prelude.{◌≡◌, map, IfOk, MatchOption};
+ghost use Rattle.std.specs.Prelude.{◌≡◌, map, true, IfOk, IfErr, OnErr, IsSome, MatchOption};
 ghost use Rattle.irc_line.specs.Read.{read};
 ghost use Rattle.irc_line.specs.declared.line.TagLimit.TheVariants.{Client};
 ghost use Rattle.chat_change.specs.Buffer.{buffer_of};
+ghost use Rattle.chat_change.specs.Words as words;
+ghost use Rattle.chat_batch.specs.Answers.{has_buffer};
 ghost use Rattle.client_session.specs.Lookup as spec;
-ghost use Rattle.client_session.specs.declared.command.Command.TheVariants as commands;
+ghost use Rattle.client_session.specs.declared.command.ClientCommand.TheVariants as commands;
+ghost use Rattle.client_session.specs.declared.session.StepFault.TheVariants as fault;
 
-use crate::command::{Command, command_of};
-use crate::markread::has_buffer;
+use crate::command::{ClientCommand, command_of};
 use crate::session::StepFault;
 use chat_batch::Facts;
-use chat_change::{Buffer, MsgId, is_id};
+use chat_change::is_id;
+use chat_page::lawful_id;
 use chat_state::Peek;
 use irc_line::{TagLimit, read_line};
 use std::alloc::Global;
@@ -22,19 +25,17 @@ fn look_at<P: Peek>(
     id: &[u8],
     peek: &mut P,
 ) -> Result<bool, StepFault>
-    ensures { IfOk result (λ shown. P.peeks peek.old
+    requires buffer { has_buffer facts.now target.now ≡ true }
+    requires id { words.is_id id.now ≡ true }
+    ensures shown { IfOk result (λ shown. P.peeks peek.old
         (buffer_of facts.now.account facts.now.network target.now) id.now shown peek.new) }
+    ensures err { OnErr result (peek.new ≡ peek.old) }
 {
-    let account = facts.account.as_bytes();
-    match Buffer::new(alloc, account, facts.network.as_bytes(), target) {
-        Err(_) => Err(StepFault::NoMemory),
-        Ok(buffer) => match MsgId::new(alloc, id) {
-            Err(_) => Err(StepFault::NoMemory),
-            Ok(id) => match peek.shown(&buffer, &id) {
-                Err(_) => Err(StepFault::NoEntry),
-                Ok(shown) => Ok(shown),
-            },
-        },
+    let buffer = facts.buffer(alloc, target)?;
+    let id = lawful_id(alloc, id)?;
+    match peek.shown(&buffer, &id) {
+        Err(_) => Err(StepFault::NoEntry),
+        Ok(shown) => Ok(shown),
     }
 }
 
@@ -44,15 +45,18 @@ fn look_redact<P: Peek>(
     parameters: &[&[u8]],
     peek: &mut P,
 ) -> Result<bool, StepFault>
-    ensures { IfOk result (λ shown. MatchOption
-        (spec.place_by_command facts.now commands.Redact (map (λ p. p.now) parameters.now))
+    ensures shown { IfOk result (λ shown. MatchOption
+        (spec.name_by_command facts.now commands.Redact (map (λ p. p.now) parameters.now))
         (peek.new ≡ peek.old) (λ m. P.peeks peek.old m.buffer m.id shown peek.new)) }
+    ensures refused { IfErr result (λ e. e ≡ fault.NoEntry → IsSome
+        (spec.name_by_command facts.now commands.Redact (map (λ p. p.now) parameters.now))) }
+    ensures err { OnErr result (peek.new ≡ peek.old) }
 {
     if parameters.len() < 2 {
         return Ok(false);
     }
     let (target, id) = (parameters[0], parameters[1]);
-    if facts.caps.message_redaction && (has_buffer(facts, target) && is_id(id)) {
+    if facts.caps.message_redaction && (facts.has_buffer(target) && is_id(id)) {
         look_at(alloc, facts, target, id, peek)
     } else {
         Ok(false)
@@ -67,24 +71,28 @@ pub(crate) fn look<P: Peek>(
     bytes: &[u8],
     peek: &mut P,
 ) -> Result<bool, StepFault>
-    ensures { IfOk result (λ shown. MatchOption (spec.place_in facts.now (read Client bytes.now))
+    ensures shown { IfOk result (λ shown.
+        MatchOption (spec.name_in facts.now (read Client bytes.now))
         (peek.new ≡ peek.old) (λ m. P.peeks peek.old m.buffer m.id shown peek.new)) }
+    ensures refused { IfErr result (λ e. e ≡ fault.NoEntry
+        → IsSome (spec.name_in facts.now (read Client bytes.now))) }
+    ensures err { OnErr result (peek.new ≡ peek.old) }
 {
     match read_line(bytes, TagLimit::Client) {
         Err(_) => Ok(false),
         Ok(line) => match command_of(line.command()) {
-            Command::Redact => look_redact(alloc, facts, line.parameters(), peek),
-            Command::Cap
-            | Command::Pass
-            | Command::Nick
-            | Command::User
-            | Command::Ping
-            | Command::Pong
-            | Command::Quit
-            | Command::Chathistory
-            | Command::Markread
-            | Command::Tagmsg
-            | Command::Other => Ok(false),
+            ClientCommand::Redact => look_redact(alloc, facts, line.parameters(), peek),
+            ClientCommand::Cap
+            | ClientCommand::Pass
+            | ClientCommand::Nick
+            | ClientCommand::User
+            | ClientCommand::Ping
+            | ClientCommand::Pong
+            | ClientCommand::Quit
+            | ClientCommand::Chathistory
+            | ClientCommand::Markread
+            | ClientCommand::Tagmsg
+            | ClientCommand::Other => Ok(false),
         },
     }
 }

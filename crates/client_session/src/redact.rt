@@ -1,23 +1,24 @@
 //! REDACT of a registered session (IRCv3 draft/message-redaction).
 ghost use Rattle.std.specs.Prelude.{◌≡◌, ◌∷◌, [], map, IfOk};
 ghost use Rattle.std.specs.Option.{option_copied};
+ghost use Rattle.chat_batch.specs.Answers.{first_of};
 ghost use Rattle.client_session.specs.Registered as spec;
 
 use crate::effect::Effect;
-use crate::markread::has_buffer;
 use crate::registered::{takes_redact, unknown_command};
 use crate::shared::{answer, one};
+use byte_text::NoMemory;
 use chat_batch::Facts;
 use chat_change::is_id;
 use client_directory::Entry;
-use client_replies::{
-    redact_bad_target, redact_forbidden, redact_line, redact_needs_more, redact_unknown_id,
+use irc_reply::to_client::{
+    redact_bad_target, redact_forbidden, redact_needs_more, redact_unknown_id,
 };
-use memory::NoMemory;
+use irc_reply::to_server::redact_line;
 use std::alloc::Global;
 
 fn first_of<'a>(parameters: &[&'a [u8]]) -> Option<&'a [u8]>
-    ensures { option_copied result ≡ spec.first_of (map (λ p. p.now) parameters.now) }
+    ensures { option_copied result ≡ first_of (map (λ p. p.now) parameters.now) }
 {
     if parameters.is_empty() {
         None
@@ -39,7 +40,7 @@ fn redact_named(
         facts.now shown target.now id.now (option_copied reason.entry)) }
 {
     let cluster = facts.cluster.as_bytes();
-    if !has_buffer(facts, target) {
+    if !facts.has_buffer(target) {
         let text = redact_bad_target(alloc, cluster)?;
         answer(alloc, text)
     } else if !(is_id(id) && shown) {

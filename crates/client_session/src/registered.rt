@@ -2,27 +2,29 @@
 ghost use Rattle.std.specs.Prelude.{◌≡◌, ◌∷◌, [], map, take, codes, IfOk, OnErr, None};
 ghost use Rattle.std.specs.Option.{option_copied};
 ghost use Rattle.irc_reply.specs.Reply.{unknown_text};
-ghost use Rattle.client_replies.specs.Replies.{plain_line, may_not_reregister};
+ghost use Rattle.irc_reply.specs.Reply.{plain_line};
+ghost use Rattle.irc_reply.specs.ToClient.{may_not_reregister};
 ghost use Rattle.client_session.specs.Step as steps;
 ghost use Rattle.client_session.specs.Registered as spec;
 ghost use Rattle.client_session.specs.Session as session;
-ghost use Rattle.client_session.specs.Standing.{stage_of, with_former_nick};
+ghost use Rattle.client_session.specs.Continuation.{stage_of, with_former_nick};
 
-use crate::command::Command;
+use crate::command::ClientCommand;
 use crate::effect::Effect;
 use crate::markread::markread;
 use crate::redact::redact;
 use crate::registration::user_name;
 use crate::scratch::Scratch;
 use crate::shared::{answer, closing, nick_refusal, one, ping, refusal};
-use crate::stage::Standing;
+use crate::stage::Continuation;
+use byte_text::{NoMemory, Text};
 use chat_batch::Facts;
 use client_directory::Entry;
-use client_replies::{may_not_reregister, nick_line, not_connected, passed_line, unknown};
 use irc_caps::Negotiation;
 use irc_line::LineFault;
 use irc_reply::need_more_params;
-use memory::{NoMemory, Text};
+use irc_reply::to_client::{may_not_reregister, not_connected, unknown};
+use irc_reply::to_server::{nick_line, passed_line};
 use std::alloc::Global;
 use std::mem;
 
@@ -172,7 +174,7 @@ fn pass_on(
     }
 }
 
-ghost use Rattle.client_replies.specs.Replies.{passed_line};
+ghost use Rattle.irc_reply.specs.ToServer.{passed_line};
 
 /// What a command does that leaves the session as it is.
 fn effects(
@@ -182,25 +184,26 @@ fn effects(
     facts: &Facts,
     shown: bool,
     bytes: &[u8],
-    command: Command,
+    command: ClientCommand,
     parameters: &[&[u8]],
 ) -> Result<Vec<Effect>, NoMemory>
     ensures { IfOk result (λ list. list.items ≡ spec.effects (option_copied entry.entry)
         facts.now shown bytes.now command (map (λ p. p.now) parameters.now)) }
 {
     match command {
-        Command::Cap | Command::Quit | Command::Pong | Command::Tagmsg => Ok(Vec::new(alloc)),
-        Command::Pass => pass(alloc, facts, parameters),
-        Command::User => user(alloc, facts, parameters),
-        Command::Ping => {
+        ClientCommand::Cap | ClientCommand::Quit | ClientCommand::Pong | ClientCommand::Tagmsg =>
+            Ok(Vec::new(alloc)),
+        ClientCommand::Pass => pass(alloc, facts, parameters),
+        ClientCommand::User => user(alloc, facts, parameters),
+        ClientCommand::Ping => {
             let cluster = facts.cluster.as_bytes();
             ping(alloc, cluster, facts.nick.as_bytes(), parameters)
         }
-        Command::Nick => nick(alloc, entry, facts, parameters),
-        Command::Chathistory => chathistory(alloc, facts, bytes),
-        Command::Markread => markread(alloc, facts, bytes, parameters),
-        Command::Redact => redact(alloc, entry, facts, shown, parameters),
-        Command::Other => pass_on(alloc, scratch, entry, facts, bytes),
+        ClientCommand::Nick => nick(alloc, entry, facts, parameters),
+        ClientCommand::Chathistory => chathistory(alloc, facts, bytes),
+        ClientCommand::Markread => markread(alloc, facts, bytes, parameters),
+        ClientCommand::Redact => redact(alloc, entry, facts, shown, parameters),
+        ClientCommand::Other => pass_on(alloc, scratch, entry, facts, bytes),
     }
 }
 
@@ -228,37 +231,37 @@ fn serve_named(
     facts: &mut Facts,
     shown: bool,
     bytes: &[u8],
-    command: Command,
+    command: ClientCommand,
     parameters: &[&[u8]],
-) -> Result<(Standing, Vec<Effect>), NoMemory>
+) -> Result<(Continuation, Vec<Effect>), NoMemory>
     ensures ok { IfOk result (λ r. record { session = stage_of r.0 facts.new; effects = r.1.items }
         ≡ spec.after_registration (option_copied entry.entry) facts.old shown bytes.now command
         (map (λ p. p.now) parameters.now)) }
     ensures err { OnErr result (facts.new ≡ facts.old) }
 {
     match command {
-        Command::Cap => {
+        ClientCommand::Cap => {
             let list = cap(alloc, facts, parameters)?;
-            Ok((Standing::Stays, list))
+            Ok((Continuation::Stays, list))
         }
-        Command::Quit => {
+        ClientCommand::Quit => {
             let list = closing(alloc)?;
-            Ok((Standing::Closes, list))
+            Ok((Continuation::Closes, list))
         }
-        Command::Pass
-        | Command::User
-        | Command::Ping
-        | Command::Pong
-        | Command::Tagmsg
-        | Command::Nick
-        | Command::Chathistory
-        | Command::Markread
-        | Command::Redact
-        | Command::Other => {
+        ClientCommand::Pass
+        | ClientCommand::User
+        | ClientCommand::Ping
+        | ClientCommand::Pong
+        | ClientCommand::Tagmsg
+        | ClientCommand::Nick
+        | ClientCommand::Chathistory
+        | ClientCommand::Markread
+        | ClientCommand::Redact
+        | ClientCommand::Other => {
             let list = effects(
                 alloc, scratch, entry, facts, shown, bytes, command, parameters,
             )?;
-            Ok((Standing::Stays, list))
+            Ok((Continuation::Stays, list))
         }
     }
 }
@@ -274,7 +277,7 @@ fn changed_nick(
     match entry {
         None => Ok(None),
         Some(found) => {
-            if is_same_nick(facts.nick.as_bytes(), found.nick()) {
+            if facts.nick.as_bytes() == found.nick() {
                 Ok(None)
             } else {
                 Ok(Some(Text::new(alloc, found.nick())?))
@@ -282,14 +285,6 @@ fn changed_nick(
         }
     }
 }
-
-fn is_same_nick(a: &[u8], b: &[u8]) -> bool
-    ensures { result ≡ bytes_eq a.now b.now }
-{
-    a == b
-}
-
-ghost use Rattle.std.specs.Str.{bytes_eq};
 
 // Gives the facts another nick, if there is one, and answers the one that they had.
 fn exchange_nick(facts: &mut Facts, nick: Option<Text>) -> Option<Text>
@@ -302,10 +297,6 @@ fn exchange_nick(facts: &mut Facts, nick: Option<Text>) -> Option<Text>
     }
 }
 
-fn discard(nick: Option<Text>) {
-    let _ = nick;
-}
-
 /// What a command comes to, under the network's present nick. For want of memory nothing changes.
 pub(crate) fn serve(
     alloc: Global,
@@ -314,9 +305,9 @@ pub(crate) fn serve(
     facts: &mut Facts,
     shown: bool,
     bytes: &[u8],
-    command: Command,
+    command: ClientCommand,
     parameters: &[&[u8]],
-) -> Result<(Standing, Vec<Effect>), NoMemory>
+) -> Result<(Continuation, Vec<Effect>), NoMemory>
     ensures ok { IfOk result (λ r. record { session = stage_of r.0 facts.new; effects = r.1.items }
         ≡ spec.after_registration (option_copied entry.entry)
         (spec.with_nick_of (option_copied entry.entry) facts.old) shown bytes.now command
@@ -329,11 +320,11 @@ pub(crate) fn serve(
         alloc, scratch, entry, facts, shown, bytes, command, parameters,
     ) {
         Ok(turn) => {
-            discard(former);
+            drop(former);
             Ok(turn)
         }
         Err(fault) => {
-            discard(exchange_nick(facts, former));
+            drop(exchange_nick(facts, former));
             Err(fault)
         }
     }
@@ -359,11 +350,11 @@ pub(crate) fn refuse(
         fault,
     ) {
         Ok(list) => {
-            discard(former);
+            drop(former);
             Ok(list)
         }
         Err(fault) => {
-            discard(exchange_nick(facts, former));
+            drop(exchange_nick(facts, former));
             Err(fault)
         }
     }

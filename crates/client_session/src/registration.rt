@@ -3,23 +3,22 @@ ghost use Rattle.std.specs.Prelude.{◌≡◌, ◌<◌, ◌++◌, ◌∷◌, [],
 ghost use Rattle.std.specs.Option.{option_copied};
 ghost use Rattle.client_session.specs.Step as steps;
 ghost use Rattle.client_session.specs.Registration as spec;
-ghost use Rattle.client_replies.specs.Replies.{no_nick, not_registered};
+ghost use Rattle.irc_reply.specs.ToClient.{no_nick, not_registered};
 
-use crate::command::Command;
+use crate::command::ClientCommand;
 use crate::effect::Effect;
 use crate::shared::{answer, closing, nick_refusal, one, ping, push, refusal};
 use crate::stage::{Stage, Waiting};
-use byte_search::find_byte;
+use byte_text::{NoMemory, Text, find_byte};
 use chat_batch::Facts;
 use client_directory::{Directory, Entry};
-use client_replies::{
-    closing_link, join_line, marker_question, no_motd, not_registered, password_incorrect, support,
-    welcome,
-};
 use irc_caps::CapSet;
 use irc_line::LineFault;
 use irc_reply::need_more_params;
-use memory::{NoMemory, Text};
+use irc_reply::to_client::{
+    closing_link, join_line, marker_question, no_motd, not_registered, password_incorrect, support,
+    welcome,
+};
 use std::alloc::Global;
 
 /// The nick of a session before registration.
@@ -151,19 +150,17 @@ impl Waiting {
         ensures { IfOk result (λ facts. facts ≡ spec.facts_of self.now user.now entry.now) }
     {
         let (account, network) = split_user(user);
-        let account = Text::new(alloc, account)?;
-        let network = Text::new(alloc, network)?;
-        let nick = Text::new(alloc, entry.nick())?;
-        let cluster = self.cluster.try_clone(alloc)?;
-        Ok(Facts {
+        let caps = self.negotiation.caps();
+        let cluster = self.cluster.as_bytes();
+        Facts::new(
+            alloc,
             account,
             network,
-            nick,
-            caps: self.negotiation.caps(),
-            reference: 1,
+            entry.nick(),
+            caps,
             cluster,
-            maximum: self.maximum,
-        })
+            self.maximum,
+        )
     }
 
     fn let_in(
@@ -298,7 +295,7 @@ impl Waiting {
         self,
         alloc: Global,
         directory: &Directory,
-        command: Command,
+        command: ClientCommand,
         parameters: &[&[u8]],
     ) -> Result<(Stage, Vec<Effect>), NoMemory>
         ensures { IfOk result (λ r. record { session = r.0; effects = r.1.items }
@@ -306,21 +303,21 @@ impl Waiting {
             (map (λ p. p.now) parameters.now)) }
     {
         match command {
-            Command::Cap => self.cap(alloc, directory, parameters),
-            Command::Pass => self.pass(alloc, parameters),
-            Command::Nick => self.nick(alloc, directory, parameters),
-            Command::User => self.user(alloc, directory, parameters),
-            Command::Ping => self.ping(alloc, parameters),
-            Command::Pong => Ok((Stage::Waiting(self), Vec::new(alloc))),
-            Command::Quit => {
+            ClientCommand::Cap => self.cap(alloc, directory, parameters),
+            ClientCommand::Pass => self.pass(alloc, parameters),
+            ClientCommand::Nick => self.nick(alloc, directory, parameters),
+            ClientCommand::User => self.user(alloc, directory, parameters),
+            ClientCommand::Ping => self.ping(alloc, parameters),
+            ClientCommand::Pong => Ok((Stage::Waiting(self), Vec::new(alloc))),
+            ClientCommand::Quit => {
                 let list = closing(alloc)?;
                 Ok((Stage::Closed, list))
             }
-            Command::Chathistory
-            | Command::Markread
-            | Command::Redact
-            | Command::Tagmsg
-            | Command::Other => self.not_yet(alloc),
+            ClientCommand::Chathistory
+            | ClientCommand::Markread
+            | ClientCommand::Redact
+            | ClientCommand::Tagmsg
+            | ClientCommand::Other => self.not_yet(alloc),
         }
     }
 

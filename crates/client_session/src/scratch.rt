@@ -3,7 +3,7 @@ ghost use Rattle.std.specs.Prelude.{◌≡◌, ◌∷◌, [], IfOk};
 
 use crate::effect::Effect;
 use crate::shared::push;
-use memory::NoMemory;
+use byte_text::NoMemory;
 use std::alloc::Global;
 
 /// The room of a list and of the line in it that were given back, if any.

@@ -1,21 +1,21 @@
 //! Client sessions.
-ghost use Rattle.std.specs.Prelude.{◌≡◌, Bool, Ok, IfOk, OnErr, MatchOption};
+ghost use Rattle.std.specs.Prelude.{◌≡◌, Bool, Ok, None, IfOk, IfErr, OnErr, IsSome, MatchOption};
 ghost use Rattle.std.specs.Option.{option_copied};
 ghost use Rattle.client_session.specs.Session as spec;
-ghost use Rattle.client_session.specs.Lookup.{place_sought};
+ghost use Rattle.client_session.specs.Lookup.{name_sought};
 
 use crate::command::command_of;
 use crate::effect::Effect;
 use crate::lookup::look;
 use crate::registered;
 use crate::scratch::Scratch;
-use crate::stage::{Stage, Standing, Waiting};
+use crate::stage::{Continuation, Stage, Waiting};
+use byte_text::{NoMemory, Text};
 use chat_batch::{Answered, Facts, next_reference};
 use chat_state::Peek;
 use client_directory::Directory;
 use irc_caps::Negotiation;
 use irc_line::{Line, LineFault, TagLimit, read_line};
-use memory::{NoMemory, Text};
 use std::alloc::Global;
 use std::marker::Model;
 use thiserror::Error;
@@ -29,6 +29,16 @@ pub enum StepFault {
     /// There was no memory.
     #[error("no memory")]
     NoMemory,
+}
+
+impl From<NoMemory> for StepFault {
+    ghost use Rattle.client_session.specs.declared.session.StepFault.TheVariants as fault;
+
+    ghost from_gives = { λ _ given. given ≡ fault.NoMemory };
+
+    fn from(_fault: NoMemory) -> StepFault {
+        StepFault::NoMemory
+    }
 }
 
 /// The session of a client: it waits for its registration, is registered, or is closed.
@@ -126,7 +136,7 @@ impl Session {
             Stage::Registered(facts) => {
                 let entry = directory.entry(facts.account.as_bytes(), facts.network.as_bytes());
                 let parameters = line.parameters();
-                let (standing, list) = registered::serve(
+                let (continuation, list) = registered::serve(
                     alloc,
                     &mut self.scratch,
                     entry,
@@ -136,9 +146,9 @@ impl Session {
                     command,
                     parameters,
                 )?;
-                match standing {
-                    Standing::Stays => {}
-                    Standing::Closes => self.stage = Stage::Closed,
+                match continuation {
+                    Continuation::Stays => {}
+                    Continuation::Closes => self.stage = Stage::Closed,
                 }
                 Ok(list)
             }
@@ -200,20 +210,21 @@ impl Session {
         peek: &mut P,
     ) -> Result<Vec<Effect>, StepFault>
         ensures step { IfOk result (λ list. (shown : Bool)
-            × MatchOption (place_sought self.old bytes.now) (peek.new ≡ peek.old)
+            × MatchOption (name_sought self.old bytes.now) (peek.new ≡ peek.old)
             (λ m. P.peeks peek.old m.buffer m.id shown peek.new)
             × (record { session = self.new; effects = list.items }
             ≡ spec.step directory.now shown self.old bytes.now)) }
+        // Only a line that looks can be refused for want of an entry, and no other line looks.
+        ensures refused { IfErr result (λ e. e ≡ StepFault.NoEntry
+            → IsSome (name_sought self.old bytes.now)) }
+        ensures unlooked { name_sought self.old bytes.now ≡ None → peek.new ≡ peek.old }
         ensures err { OnErr result (self.new ≡ self.old) }
     {
         let shown = match self.facts() {
             None => false,
             Some(facts) => look(alloc, facts, bytes, peek)?,
         };
-        match self.step_shown(alloc, directory, shown, bytes) {
-            Ok(list) => Ok(list),
-            Err(_) => Err(StepFault::NoMemory),
-        }
+        Ok(self.step_shown(alloc, directory, shown, bytes)?)
     }
 
     /// What a line comes to that was too long to be taken in (`irc_line::Next::TooLong`). A refused call leaves the

@@ -4,11 +4,11 @@ ghost use Rattle.client_session.specs.Step as spec;
 ghost use Rattle.client_session.specs.declared.effect.Effect.TheVariants as effects;
 
 use crate::effect::Effect;
+use byte_text::{NoMemory, Text};
 use chat_change::is_target;
-use client_replies::{closing_link, erroneous_nick, no_nick_given, pong, too_long, unknown};
 use irc_line::LineFault;
 use irc_reply::need_more_params;
-use memory::{NoMemory, Text};
+use irc_reply::to_client::{closing_link, erroneous_nick, no_nick_given, pong, too_long, unknown};
 use std::alloc::{AllocError, Global};
 
 fn list_of(alloc: Global, effect: Effect) -> Result<Vec<Effect>, AllocError>

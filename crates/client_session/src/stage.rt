@@ -1,9 +1,9 @@
 //! How far a session is.
 ghost use Rattle.std.specs.Prelude.{◌≡◌, IfOk};
 
+use byte_text::{NoMemory, Text};
 use chat_batch::Facts;
 use irc_caps::Negotiation;
-use memory::{NoMemory, Text};
 use std::alloc::Global;
 
 /// A session that waits for its registration (RFC 2812, section 3.1).
@@ -30,7 +30,7 @@ pub(crate) enum Stage {
 
 /// How a registered session goes on after a line.
 #[derive(Clone, Copy)]
-pub(crate) enum Standing {
+pub(crate) enum Continuation {
     Stays,
     Closes,
 }

@@ -9,8 +9,8 @@ ghost use Rattle.gossip_delta.specs.Reading.{change_of};
 use crate::fault::ChangeLineFault;
 use crate::fields::BufferFields;
 use crate::reading::{Reading, read_line};
+use byte_text::NoMemory;
 use chat_change::{Buffer, Change, Message, Moment, MsgId, Record};
-use memory::NoMemory;
 use std::alloc::Global;
 
 // Whether these are the names of a buffer that is known.

@@ -2,15 +2,15 @@
 ghost use Rattle.std.specs.Prelude.{◌≡◌, ◌≤◌, ◌++◌, [], ◌∷◌, map, decimal, Ok};
 ghost use Rattle.irc_time.specs.Time.{greatest};
 ghost use Rattle.chat_change.specs.Buffer.{IsLawfulBuffer};
-ghost use Rattle.output.specs.Writes.{Writes};
+ghost use Rattle.byte_text.specs.Writes.{Writes};
 ghost use Rattle.chat_change.specs.declared.change.Change.TheVariants as change;
 ghost use Rattle.gossip_delta.specs.Words.{words_text};
 ghost use Rattle.gossip_delta.specs.ChangeLine.{read_change};
 ghost use Rattle.gossip_delta.specs.ChangeText.{line_of, line_end, buffer_words};
 ghost use Rattle.chat_change.specs.Lawful.{IsLawfulRecord, IsLawfulChange};
 
+use byte_text::put;
 use chat_change::{Buffer, Change, Moment, MsgId, Record};
-use output::put;
 use std::io;
 use std::io::Write;
 

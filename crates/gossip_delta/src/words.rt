@@ -3,7 +3,7 @@ ghost use Rattle.std.specs.Prelude.{◌≡◌};
 ghost use Rattle.chat_change.specs.Words as parts;
 ghost use Rattle.gossip_delta.specs.Words as spec;
 
-use byte_search::find_byte;
+use byte_text::find_byte;
 
 /// Whether the text is that word, byte for byte.
 pub fn is_text(text: &[u8], word: &[u8]) -> bool

@@ -19,7 +19,7 @@ use Rattle.chat_history.specs.History.{floor, mark, is_gone, kept_record, positi
 use Rattle.chat_change.proofs.CallerLemmas.{same_key_is}
 use Rattle.chat_history.proofs.CallerLemmas.{get-norm}
 use Rattle.gossip_link.specs.Cluster.{Made}
-use Rattle.gossip_link.specs.Promises.{IsMade, WasRedacted, IsMomentOf, ComesFrom}
+use Rattle.gossip_link.specs.Promises.{IsMade, WasRedacted, IsMadeMoment, ComesFrom}
 
 -- ---- more is made
 
@@ -30,7 +30,7 @@ module _ (made : List Made) (m : Made) where
   pub IsMade-more : (c : Change) → IsMade made c → IsMade more c
   IsMade-more c h = (h.0, Contains-append_right (m ∷ []) made h.0 h.1, h.2)
 
-  IsMoment-more : (b : Buffer) (id : List ℕ) (at : ℕ) → IsMomentOf made b id at → IsMomentOf more b id at
+  IsMoment-more : (b : Buffer) (id : List ℕ) (at : ℕ) → IsMadeMoment made b id at → IsMadeMoment more b id at
   IsMoment-more b id at h = ⊎_elim (λ r. inl (r.0, r.1, r.2, r.3, IsMade-more (Post r.0) r.4)) (λ r. inr (IsMade-more (Redact b id (Some at)) r)) h
 
   pub ComesFrom-more : (c : Change) → ComesFrom made c → ComesFrom more c
@@ -107,7 +107,7 @@ module _ (made : List Made) where
     posts_come (Mark d t ∷ cs) h = posts_come cs h.1
     posts_come (Floor d t ∷ cs) h = posts_come cs h.1
 
-    moments_come : (cs : List Change) → AllByRecursion here cs → AllByRecursion (IsMomentOf made b id) (filter_map message_moment cs)
+    moments_come : (cs : List Change) → AllByRecursion here cs → AllByRecursion (IsMadeMoment made b id) (filter_map message_moment cs)
     moments_come [] h = tt
     moments_come (Post r ∷ cs) h =
         let p : r.buffer ≡ b = cc (h.0.0) in
@@ -117,8 +117,8 @@ module _ (made : List Made) where
     moments_come (Redact d n (Some t) ∷ cs) h =
         let p : d ≡ b = cc (h.0.0) in
         let q : n ≡ id = cc (h.0.0) in
-        let there : IsMomentOf made d n t = h.0.1.1 in
-        (subst (λ x. IsMomentOf made b x t) q (subst (λ x. IsMomentOf made x n t) p there), moments_come cs h.1)
+        let there : IsMadeMoment made d n t = h.0.1.1 in
+        (subst (λ x. IsMadeMoment made b x t) q (subst (λ x. IsMadeMoment made x n t) p there), moments_come cs h.1)
     moments_come (Mark d t ∷ cs) h = moments_come cs h.1
     moments_come (Floor d t ∷ cs) h = moments_come cs h.1
 
@@ -164,8 +164,8 @@ module _ (made : List Made) where
       let come = bearers_come k cs h in
       let post = first_one record_cmp (λ r. IsMade made (Post r)) (filter (λ r. nat_le (floor cs b) r.at) (filter_map posted_record borne))
       (kept_all (λ r. IsMade made (Post r)) (λ r. nat_le (floor cs b) r.at) (filter_map posted_record borne) (posts_come b id borne come)) in
-      let at = first_one (flip_args nat_cmp) (IsMomentOf made b id) (filter (λ t. nat_le (floor cs b) t) (filter_map message_moment borne))
-      (kept_all (IsMomentOf made b id) (λ t. nat_le (floor cs b) t) (filter_map message_moment borne) (moments_come b id borne come)) in
+      let at = first_one (flip_args nat_cmp) (IsMadeMoment made b id) (filter (λ t. nat_le (floor cs b) t) (filter_map message_moment borne))
+      (kept_all (IsMadeMoment made b id) (λ t. nat_le (floor cs b) t) (filter_map message_moment borne) (moments_come b id borne come)) in
       elim (is_gone cs b id) as (λ g. is_gone cs b id ≡ g → cond g (Some (Redact b id (position_of cs b id))) (option_map Post (kept_record cs b id)) ≡ Some new → ComesFrom made new) [
         | true ↦ λ g e. let same : Redact b id (position_of cs b id) ≡ new = cc e in subst (ComesFrom made) same (redaction_comes b id borne come g, at)
         | false ↦ λ _ e. post_comes (kept_record cs b id) new post e

@@ -16,7 +16,7 @@ use Rattle.gossip_link.specs.declared.handshake.Side.TheVariants.{Opener, Accept
 use Rattle.gossip_link.specs.declared.handshake.Stage.{Stage}
 use Rattle.gossip_link.specs.declared.handshake.Stage.TheVariants.{Silent, Trusted, Known, Refused}
 use Rattle.gossip_link.specs.declared.handshake.Action.TheVariants.{Greet, HandUp, Close}
-use Rattle.gossip_link.specs.Handshake.{Terms, IsPeer, KeepsTo, ArePeers, place_of, known_at, still_known, after, after_all, action, last_action}
+use Rattle.gossip_link.specs.Handshake.{Terms, IsPeer, KeepsTo, ArePeers, index_of, known_at, still_known, after, after_all, action, last_action}
 use Rattle.peer_lines.proofs.CallerLemmas.{same_name_is, same_name_itself}
 use Rattle.gossip_link.proofs.NameLemmas.{equal_is}
 
@@ -58,25 +58,25 @@ there names name h =
     (first, ap (λ b. cond b (Some first) None) within)
 
 module _ (t : Terms) where
-  peer_from : (name : List ℕ) (i : ℕ) → place_of t name ≡ Some i → IsPeer t name
+  peer_from : (name : List ℕ) (i : ℕ) → index_of t name ≡ Some i → IsPeer t name
   peer_from name i =
       elim (same_name name t.me.node) as (λ b. same_name name t.me.node ≡ b → cond b None (position (λ other. same_name name other) t.peers) ≡ Some i → IsPeer t name) [
         | true ↦ λ _ e. cc e
         | false ↦ λ f e. let h = same_if t.peers name i e in ((i, h.0, h.1), λ same. false≢true (sym f ∙ ap (same_name name) (sym same) ∙ same_name_itself name))
       ] refl
 
-  place_from : (name : List ℕ) → IsPeer t name → (i : ℕ) × (place_of t name ≡ Some i)
+  place_from : (name : List ℕ) → IsPeer t name → (i : ℕ) × (index_of t name ≡ Some i)
   place_from name h =
       elim (same_name name t.me.node) as (λ b. same_name name t.me.node ≡ b → (i : ℕ) × (cond b None (position (λ other. same_name name other) t.peers) ≡ Some i)) [
         | true ↦ λ e. absurd (h.1 (same_name_is name t.me.node e))
         | false ↦ λ _. there t.peers name h.0
       ] refl
 
-  place_holds : (name : List ℕ) (i : ℕ) → place_of t name ≡ Some i → (i < length t.peers) × (get_or t.peers i name ≡ name)
+  place_holds : (name : List ℕ) (i : ℕ) → index_of t name ≡ Some i → (i < length t.peers) × (get_or t.peers i name ≡ name)
   place_holds name i =
       elim (same_name name t.me.node) as (λ s. cond s None (position (λ other. same_name name other) t.peers) ≡ Some i → (i < length t.peers) × (get_or t.peers i name ≡ name)) [ true ↦ λ e. cc e | false ↦ λ e. same_if t.peers name i e ]
 
-  one_place : (a b : List ℕ) (i : ℕ) → place_of t a ≡ Some i → place_of t b ≡ Some i → a ≡ b
+  one_place : (a b : List ℕ) (i : ℕ) → index_of t a ≡ Some i → index_of t b ≡ Some i → a ≡ b
   one_place a b i p q =
       let x = place_holds a i p in
       let y = place_holds b i q in
@@ -105,24 +105,24 @@ module _ (t : Terms) where
         | false ↦ λ _. inr refl
       ] refl
 
-  keeps : (peer : Life) (place : ℕ) → place_of t peer.node ≡ Some place → (lines : Lines) → IsKnown (after_all t (Known place) lines) → AllByRecursion (KeepsTo peer) lines
+  keeps : (peer : Life) (place : ℕ) → index_of t peer.node ≡ Some place → (lines : Lines) → IsKnown (after_all t (Known place) lines) → AllByRecursion (KeepsTo peer) lines
   keeps peer place at [] h = tt
   keeps peer place at (None ∷ lines) h = absurd (never lines h)
   keeps peer place at (Some (Word word) ∷ lines) h = absurd (never lines h)
   keeps peer place at (Some (Hello life) ∷ lines) h = ⊎_elim
       (λ s. (one_place life.node peer.node place s.1 at, keeps peer place at lines (subst (λ stage. IsKnown (after_all t stage lines)) s.0 h)))
       (λ r. absurd (never lines (subst (λ stage. IsKnown (after_all t stage lines)) r h)))
-      (still place (place_of t life.node))
+      (still place (index_of t life.node))
   keeps peer place at (Some (Head head) ∷ lines) h = (tt, keeps peer place at lines h)
   keeps peer place at (Some (Change change) ∷ lines) h = (tt, keeps peer place at lines h)
   keeps peer place at (Some (Ack ack) ∷ lines) h = (tt, keeps peer place at lines h)
 
-  kept : (peer : Life) (place : ℕ) → place_of t peer.node ≡ Some place → (lines : Lines) → AllByRecursion (KeepsTo peer) lines → after_all t (Known place) lines ≡ Known place
+  kept : (peer : Life) (place : ℕ) → index_of t peer.node ≡ Some place → (lines : Lines) → AllByRecursion (KeepsTo peer) lines → after_all t (Known place) lines ≡ Known place
   kept peer place at [] k = refl
   kept peer place at (None ∷ lines) k = absurd k.0
   kept peer place at (Some (Word word) ∷ lines) k = absurd k.0
   kept peer place at (Some (Hello life) ∷ lines) k =
-      let same : place_of t life.node ≡ Some place = ap (place_of t) k.0 ∙ at in
+      let same : index_of t life.node ≡ Some place = ap (index_of t) k.0 ∙ at in
       ap (λ stage. after_all t stage lines) (ap (still_known place) same ∙ itself place) ∙ kept peer place at lines k.1
     where
       itself : (n : ℕ) → still_known n (Some n) ≡ Known n
@@ -140,9 +140,9 @@ module _ (t : Terms) where
   greeted [] h = cc h.1
   greeted (None ∷ lines) h = absurd (never lines h)
   greeted (Some (Word word) ∷ lines) h = absurd (never lines h)
-  greeted (Some (Hello life) ∷ lines) h = said (place_of t life.node) refl h
+  greeted (Some (Hello life) ∷ lines) h = said (index_of t life.node) refl h
     where
-      said : (o : Option ℕ) → place_of t life.node ≡ o → IsKnown (after_all t (known_at o) lines) → Greeted (Some (Hello life) ∷ lines)
+      said : (o : Option ℕ) → index_of t life.node ≡ o → IsKnown (after_all t (known_at o) lines) → Greeted (Some (Hello life) ∷ lines)
       said None e h = absurd (never lines h)
       said (Some place) e h = (life, lines, refl, peer_from life.node place e, keeps life place e lines h)
   greeted (Some (Head head) ∷ lines) h = absurd (never lines h)
@@ -248,7 +248,7 @@ module _ (t : Terms) where
   known_no place (Some (Hello life) ∷ lines) e = ⊎_elim
       (λ s. known_no place lines (ap (λ stage. after_all t stage lines) (sym s.0) ∙ e))
       (λ r. refused_no lines (ap (λ stage. after_all t stage lines) (sym r) ∙ e))
-      (still t place (place_of t life.node))
+      (still t place (index_of t life.node))
   known_no place (Some (Head head) ∷ lines) e = known_no place lines e
   known_no place (Some (Change change) ∷ lines) e = known_no place lines e
   known_no place (Some (Ack ack) ∷ lines) e = known_no place lines e
@@ -261,7 +261,7 @@ module _ (t : Terms) where
   alone [] e = refl
   alone (None ∷ lines) e = absurd (refused_no lines e)
   alone (Some (Word word) ∷ lines) e = absurd (refused_no lines e)
-  alone (Some (Hello life) ∷ lines) e = absurd (said_no (place_of t life.node) lines e)
+  alone (Some (Hello life) ∷ lines) e = absurd (said_no (index_of t life.node) lines e)
   alone (Some (Head head) ∷ lines) e = absurd (refused_no lines e)
   alone (Some (Change change) ∷ lines) e = absurd (refused_no lines e)
   alone (Some (Ack ack) ∷ lines) e = absurd (refused_no lines e)

@@ -17,7 +17,7 @@ use Rattle.peer_lines.specs.Life.{Life, Packet}
 use Rattle.peer_lines.specs.Names.{is_node_name}
 use Rattle.peer_lines.specs.Spelling.{IsLife, IsPacket}
 use Rattle.gossip_link.specs.Cluster.{Made}
-use Rattle.gossip_link.specs.Promises.{IsMade, IsMomentOf, ComesFrom}
+use Rattle.gossip_link.specs.Promises.{IsMade, IsMadeMoment, ComesFrom}
 use Rattle.gossip_link.proofs.ComesLemmas.{ComesFrom-made, pieces_come}
 
 -- ---- the pieces of lawful changes are lawful
@@ -36,7 +36,7 @@ module _ (list : List Change) (all : AllByRecursion IsLawfulChange list) where
       let those = All-contains (λ (m : Made). All IsLawfulChange m.changes) made h.0 (All-from_recursion (λ (m : Made). All IsLawfulChange m.changes) made each) h.1 in
       All-contains IsLawfulChange h.0.changes c those h.2
 
-  moment_within : (b : Buffer) (id : List ℕ) (at : ℕ) → IsMomentOf made b id at → at ≤ greatest
+  moment_within : (b : Buffer) (id : List ℕ) (at : ℕ) → IsMadeMoment made b id at → at ≤ greatest
   moment_within b id at h = ⊎_elim
       (λ r. let l = (made_lawful (Post r.0) r.4).at in subst (λ t. t ≤ greatest) r.3 l)
       (λ r. (made_lawful (Redact b id (Some at)) r).2) h

@@ -46,8 +46,8 @@ pub record ArePeers (t : Terms) (lines : List (Option PeerLine)) : Type 0 where
 -- ---- line by line
 
 -- the place of a configured peer other than this node
-abbrev pub place_of : Terms → List ℕ → Option ℕ
-place_of t name =
+abbrev pub index_of : Terms → List ℕ → Option ℕ
+index_of t name =
     if same_name name t.me.node then None else position (λ peer. same_name name peer) t.peers
 
 abbrev pub known_at : Option ℕ → Stage
@@ -67,14 +67,14 @@ after_first t (Ack ack) = Refused
 
 abbrev pub after_second : Terms → PeerLine → Stage
 after_second t (Word word) = Refused
-after_second t (Hello life) = known_at (place_of t life.node)
+after_second t (Hello life) = known_at (index_of t life.node)
 after_second t (Head head) = Refused
 after_second t (Change change) = Refused
 after_second t (Ack ack) = Refused
 
 abbrev pub after_more : Terms → ℕ → PeerLine → Stage
 after_more t place (Word word) = Refused
-after_more t place (Hello life) = still_known place (place_of t life.node)
+after_more t place (Hello life) = still_known place (index_of t life.node)
 after_more t place (Head head) = Known place
 after_more t place (Change change) = Known place
 after_more t place (Ack ack) = Known place

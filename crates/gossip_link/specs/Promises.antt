@@ -19,8 +19,8 @@ abbrev pub WasRedacted : List Made → Buffer → List ℕ → Type 0
 WasRedacted made b m = (t : Option ℕ) × IsMade made (Redact b m t)
 
 -- the moment of a post of that id, or of a redaction of it
-abbrev pub IsMomentOf : List Made → Buffer → List ℕ → ℕ → Type 0
-IsMomentOf made b m at =
+abbrev pub IsMadeMoment : List Made → Buffer → List ℕ → ℕ → Type 0
+IsMadeMoment made b m at =
     ((r : Record) × (r.buffer ≡ b) × (r.id ≡ m) × (r.at ≡ at) × IsMade made (Post r))
     ⊎ IsMade made (Redact b m (Some at))
 
@@ -28,7 +28,7 @@ IsMomentOf made b m at =
 -- place, where it has one, is the moment of a post or a redaction of that id that some node made
 abbrev pub ComesFrom : List Made → Change → Type 0
 ComesFrom made (Post r) = IsMade made (Post r)
-ComesFrom made (Redact b m t) = WasRedacted made b m × IfSome t (IsMomentOf made b m)
+ComesFrom made (Redact b m t) = WasRedacted made b m × IfSome t (IsMadeMoment made b m)
 ComesFrom made (Mark b t) = IsMade made (Mark b t)
 ComesFrom made (Floor b t) = IsMade made (Floor b t)
 

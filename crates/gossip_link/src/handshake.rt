@@ -155,7 +155,7 @@ fn after_second(terms: &Terms, line: &PeerLine) -> Stage
 {
     match line {
         PeerLine::Word(_) => Stage::Refused,
-        PeerLine::Hello(life) => after_hello(terms.place_of(life.node())),
+        PeerLine::Hello(life) => after_hello(terms.index_of(life.node())),
         PeerLine::Head(_) => Stage::Refused,
         PeerLine::Change(_) => Stage::Refused,
         PeerLine::Ack(_) => Stage::Refused,
@@ -167,7 +167,7 @@ fn after_more(terms: &Terms, place: usize, line: &PeerLine) -> Stage
 {
     match line {
         PeerLine::Word(_) => Stage::Refused,
-        PeerLine::Hello(life) => after_hello_again(place, terms.place_of(life.node())),
+        PeerLine::Hello(life) => after_hello_again(place, terms.index_of(life.node())),
         PeerLine::Head(_) => Stage::Known(place),
         PeerLine::Change(_) => Stage::Known(place),
         PeerLine::Ack(_) => Stage::Known(place),

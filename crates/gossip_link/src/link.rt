@@ -5,6 +5,7 @@ ghost use Rattle.chat_change.specs.declared.change.Change.{Change as Piece};
 ghost use Rattle.chat_history.specs.Numbering.{delta};
 ghost use Rattle.gossip_delta.specs.Growth.{AfterOthers};
 ghost use Rattle.peer_lines.specs.Names.{same_name};
+ghost use Rattle.gossip_link.specs.Link.{fault_of};
 ghost use Rattle.gossip_link.specs.Peer.{unheard, is_news, is_older, is_known};
 ghost use Rattle.gossip_link.specs.Peer.{hello_is_wrong, hello_is_news, after_hello};
 ghost use Rattle.gossip_link.specs.Peer.{packet_of, after_make, packet_is_mine, ack_of, MayBeWritten};
@@ -38,7 +39,7 @@ impl Model for Link {
 }
 
 fn fault_of(fault: DeltaFault) -> LinkFault
-    ensures { (result ≡ LinkFault.NoEntry) ⊎ (result ≡ LinkFault.NoMemory) }
+    ensures { result ≡ fault_of fault }
 {
     match fault {
         DeltaFault::NoEntry => LinkFault::NoEntry,

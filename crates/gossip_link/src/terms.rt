@@ -57,8 +57,8 @@ impl Terms {
     }
 
     // The place of a peer that isn't this node.
-    pub(crate) fn place_of(&self, name: &NodeName) -> Option<usize>
-        ensures { result ≡ spec.place_of self.now name.now }
+    pub(crate) fn index_of(&self, name: &NodeName) -> Option<usize>
+        ensures { result ≡ spec.index_of self.now name.now }
     {
         if name.is_same(self.me.node()) {
             return None;

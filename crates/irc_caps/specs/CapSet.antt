@@ -46,6 +46,10 @@ with_held caps EchoMessage is_held = record caps { echo_message = is_held }
 with_held caps MessageTags is_held = record caps { message_tags = is_held }
 with_held caps ServerTime is_held = record caps { server_time = is_held }
 
--- the names of the capabilities that are held, in byte order
+-- the names of those capabilities that are held, in the order of the list
+abbrev pub names_among : CapSet → List Capability → List (List ℕ)
+names_among caps list = map name_of (filter (λ c. holds caps c) list)
+
+-- the names of all that are held, in byte order
 abbrev pub names : CapSet → List (List ℕ)
-names caps = map name_of (filter (λ c. holds caps c) capabilities)
+names caps = names_among caps capabilities

@@ -9,9 +9,13 @@ use Rattle.irc_caps.specs.CapSet.{with_held}
 abbrev pub is_word : List ℕ → Bool
 is_word word = not (length word == 0)
 
+-- what spaces cut a text into; an empty part is no word
+abbrev pub parts_of : List ℕ → List (List ℕ)
+parts_of text = slice_split (λ b. b == 32) text
+
 -- the words of a text, which spaces cut
 abbrev pub words_of : List ℕ → List (List ℕ)
-words_of text = filter is_word (slice_split (λ b. b == 32) text)
+words_of text = filter is_word (parts_of text)
 
 -- words with a space between each two
 abbrev pub joined : List (List ℕ) → List ℕ

@@ -1,20 +1,22 @@
-//! The capabilities of IRCv3 capability negotiation that the cluster offers.
+//! The capabilities of IRCv3 capability negotiation that the node knows: those that it offers its clients, and those that
+//! it asks a server for.
 //!
-//! A session asks for capabilities by name (`CAP REQ`, IRCv3 capability negotiation, section "The CAP REQ subcommand").
-//! The seven names are `batch`, `draft/chathistory`, `draft/message-redaction`, `draft/read-marker`, `echo-message`,
-//! `message-tags` and `server-time`, and a [`CapSet`] says which of them a session holds. A [`Negotiation`] takes the lines of
-//! a session, answers each CAP, and knows what is held and whether registration waits for `CAP END`.
+//! A [`CapSet`] says which of seven names a session holds. A [`Negotiation`] takes the lines of a client, answers each CAP
+//! with lines of [`irc_reply`], and knows what is held and whether registration waits for `CAP END`; [`with_offers`],
+//! [`request`] and [`with_acknowledged`] are the other side of it, with a server. Read [`Negotiation::step`] first.
 #![tactic(auto)]
 
 mod capability;
 pub mod laws;
 mod negotiation;
+mod offers;
 mod registration;
 mod words;
 
+pub use byte_text::{NoMemory, Text};
 pub use capability::Capability;
-pub use memory::{NoMemory, Text};
 pub use negotiation::{CapReply, Negotiation};
+pub use offers::{request, with_acknowledged, with_offers};
 pub use registration::Registration;
 
 /// A set of capabilities: for each of the seven names whether it is held. The fields stand in the byte order of the

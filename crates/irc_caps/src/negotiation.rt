@@ -1,5 +1,5 @@
 //! Capability negotiation (IRCv3 capability negotiation).
-ghost use Rattle.std.specs.Prelude.{◌≡◌, ◌∷◌, [], map, take, IfOk, OnErr, Some};
+ghost use Rattle.std.specs.Prelude.{◌≡◌, ◌∷◌, [], map, take, IfOk, OnErr, Some, IsSome};
 ghost use Rattle.irc_caps.specs.Negotiation as spec;
 ghost use Rattle.irc_caps.specs.Words.{list_limit, is_acknowledged};
 
@@ -211,6 +211,8 @@ impl Negotiation {
     ) -> Result<Option<Text>, NoMemory>
         ensures answer { IfOk result (λ line. record { negotiation = self.new; line = line }
             ≡ spec.subcommand_answer cluster.now nick.now self.old subcommand.now (list.now ∷ [])) }
+        ensures memory { OnErr result (IsSome (spec.subcommand_answer cluster.now nick.now self.old
+            subcommand.now (list.now ∷ [])).line) }
         ensures err { OnErr result (self.new ≡ self.old) }
     {
         if subcommand.eq_ignore_ascii_case(b"LS") {
@@ -238,6 +240,9 @@ impl Negotiation {
     ) -> Result<Option<Text>, NoMemory>
         ensures answer { IfOk result (λ line. record { negotiation = self.new; line = line }
             ≡ spec.cap_answer cluster.now nick.now self.old (map (λ p. p.now) parameters.now)) }
+        // Only an answer asks for memory.
+        ensures memory { OnErr result (IsSome (spec.cap_answer cluster.now nick.now self.old
+            (map (λ p. p.now) parameters.now)).line) }
         ensures err { OnErr result (self.new ≡ self.old) }
     {
         if parameters.is_empty() {
@@ -258,6 +263,8 @@ impl Negotiation {
     ) -> Result<Option<Text>, NoMemory>
         ensures answer { IfOk result (λ answer. record { negotiation = self.new; line = answer }
             ≡ spec.answer cluster.now nick.now self.old line.now) }
+        ensures memory { OnErr result
+            (IsSome (spec.answer cluster.now nick.now self.old line.now).line) }
         ensures err { OnErr result (self.new ≡ self.old) }
     {
         if line.command().eq_ignore_ascii_case(b"CAP") {
@@ -281,6 +288,9 @@ impl Negotiation {
             ≡ spec.answer cluster.now nick.now self.old line.now) }
         ensures holding { IfOk result (λ reply. reply.is_holding
             ≡ spec.is_held self.new.registration) }
+        // Only an answer asks for memory.
+        ensures memory { OnErr result
+            (IsSome (spec.answer cluster.now nick.now self.old line.now).line) }
         ensures err { OnErr result (self.new ≡ self.old) }
     {
         let line = self.answer(alloc, line, cluster, nick)?;

@@ -1,12 +1,12 @@
 //! Lists of capabilities (IRCv3 capability negotiation).
 ghost use Rattle.std.specs.Prelude.{◌≡◌, ◌++◌, is_some, map, filter, IfOk};
-ghost use Rattle.std.specs.List.{slice_split, list_all};
+ghost use Rattle.std.specs.List.{list_all};
 ghost use Rattle.irc_caps.specs.CapSet as sets;
 ghost use Rattle.irc_caps.specs.Words as spec;
 ghost use Rattle.irc_caps.specs.Gaps.{gap_before, only_if};
 
 use crate::{CapSet, Capability};
-use memory::Text;
+use byte_text::Text;
 use std::alloc::{AllocError, Global};
 
 /// What a word of a list asks for: that a capability be held, or be given up.
@@ -30,7 +30,7 @@ fn wish_for(is_held: bool, name: &[u8]) -> Option<Wish>
 }
 
 ghost use Rattle.std.specs.Prelude.{option_map};
-ghost use Rattle.irc_caps.specs.Capability.{capability_of, name_of, capabilities};
+ghost use Rattle.irc_caps.specs.Capability.{capability_of, name_of};
 
 fn wish_of(word: &[u8]) -> Option<Wish>
     ensures { result ≡ spec.wish_of word.now }
@@ -78,14 +78,11 @@ pub(crate) fn with_words(caps: CapSet, words: &[&[u8]]) -> CapSet
 }
 
 /// The parts of a text, which spaces cut.
-fn parts_of<'a>(alloc: Global, text: &'a [u8]) -> Result<Vec<&'a [u8]>, AllocError>
-    ensures { IfOk result (λ parts. map (λ w. w.now) parts.items ≡ slice_split
-        (λ b. b == 32) text.now) }
+pub(crate) fn parts_of<'a>(alloc: Global, text: &'a [u8]) -> Result<Vec<&'a [u8]>, AllocError>
+    ensures { IfOk result (λ parts. map (λ w. w.now) parts.items ≡ spec.parts_of text.now) }
 {
     text.split(|b| *b == b' ').collect(alloc)
 }
-
-ghost use Rattle.std.specs.Prelude.{◌==◌};
 
 fn push_word<'a>(words: &mut Vec<&'a [u8]>, word: &'a [u8]) -> Result<(), AllocError>
     ensures { IfOk result (λ _. map (λ w. w.now) words.new.items ≡ map
@@ -152,21 +149,25 @@ fn push_name(
     Ok(())
 }
 
-/// The names of the capabilities of a set, in byte order.
-fn names(alloc: Global, caps: CapSet) -> Result<Vec<&'static [u8]>, AllocError>
-    ensures { IfOk result (λ list. map (λ w. w.now) list.items ≡ sets.names caps) }
+/// The names of those of the capabilities that are held, in the order of the list.
+pub(crate) fn names_among(
+    alloc: Global,
+    caps: CapSet,
+    list: &[Capability],
+) -> Result<Vec<&'static [u8]>, AllocError>
+    ensures { IfOk result (λ names. map (λ w. w.now) names.items ≡ sets.names_among caps list.now) }
 {
-    let mut list: Vec<&'static [u8]> = Vec::new(alloc);
-    for i in 0..Capability::ALL.len() {
-        push_name(&mut list, caps, Capability::ALL[i])?;
+    let mut names: Vec<&'static [u8]> = Vec::new(alloc);
+    for i in 0..list.len() {
+        push_name(&mut names, caps, list[i])?;
     }
-    Ok(list)
+    Ok(names)
 }
 
 /// The names of the capabilities of a set in byte order, with a space between each two.
 pub(crate) fn list_of(alloc: Global, caps: CapSet) -> Result<Text, AllocError>
     ensures { IfOk result (λ text. text ≡ spec.joined (sets.names caps)) }
 {
-    let list = names(alloc, caps)?;
-    joined(alloc, &list)
+    let names = names_among(alloc, caps, &Capability::ALL)?;
+    joined(alloc, &names)
 }

@@ -6,7 +6,7 @@ ghost use Rattle.irc_line.specs.Faults.{shows, first_fault, is_empty_source};
 ghost use Rattle.irc_line.specs.Read.{read, text_in};
 ghost use Rattle.irc_line.specs.Line.{Reading, most_parameters, tag_limit, space, colon, begins_with, is_bad, is_letter, is_digit, is_command, SkipsSpaces, SplitsWord, SplitsTags, SplitsSource, HasParameters, IsRefused, Reads};
 
-use byte_search::find_byte;
+use byte_text::find_byte;
 use std::marker::Model;
 use thiserror::Error;
 

@@ -1,10 +1,9 @@
 //! Lines out of a stream that comes in any pieces.
 ghost use Rattle.std.specs.Prelude.{◌≡◌, ◌↔◌, ◌+◌, ◌-◌, ◌<◌, ◌≤◌, true, IsTrue, None, IfOk, [], length, take, drop, vec_len, vec_capacity, position, if◌then◌else◌};
 ghost use Rattle.std.specs.Io.BufRead.{strip_last};
-ghost use Rattle.irc_line.specs.Stream.{Held, HasRoom, max_line, cr, holding, skipping, bytes_of, is_lf, held_with, next_item};
+ghost use Rattle.irc_line.specs.Stream.{Held, HasRoom, max_line, cr, holding, skipping, bytes_of, is_lf, held_with, held_without, next_item};
 
-use byte_search::find_byte;
-use memory::NoMemory;
+use byte_text::{NoMemory, find_byte};
 use std::alloc::Global;
 use std::marker::Model;
 
@@ -150,6 +149,9 @@ impl Feeder {
     /// section 2.3).
     pub fn next_line(&mut self) -> Next<'_>
         ensures item { value_of result ≡ next_item self.old }
+        // What is left once it was taken out,
+        ensures rest { rest_of result self.old ≡ held_without (next_item self.old) self.old }
+        // and that is held once the line is no longer lent.
         ensures* left { sem 𝓛 (Rests the_row self.entry (λ new. new ≡ rest_of result self.old)) }
     {
         if self.in_long_line {

@@ -1,11 +1,12 @@
 //! Writing a line (RFC 1459 and RFC 2812, section 2.3; IRCv3 message-tags).
-ghost use Rattle.std.specs.Prelude.{◌++◌};
+ghost use Rattle.std.specs.Prelude.{◌≡◌, ◌++◌, IfOk};
 ghost use Rattle.std.specs.Option.{option_copied as copied};
-ghost use Rattle.output.specs.Writes.{Writes};
+ghost use Rattle.byte_text.specs.Writes.{Writes};
 ghost use Rattle.irc_line.specs.Text.{tags_text, source_text, middles_text, end_text, line_text};
 ghost use Rattle.irc_line.specs.OutLine.{bytes_of, value_of};
 
-use output::put;
+use byte_text::{NoMemory, Text, put};
+use std::alloc::Global;
 use std::io;
 use std::io::Write;
 
@@ -83,4 +84,16 @@ pub fn write_line<W: Write>(line: &OutLine<'_>, writer: &mut W) -> io::Result<()
     put(writer, line.command)?;
     put_middles(writer, line.middles)?;
     put_end(writer, line.trailing)
+}
+
+/// The line with CR LF behind it, in memory of its own.
+pub fn line_text(alloc: Global, line: &OutLine<'_>) -> Result<Text, NoMemory>
+    ensures { IfOk result (λ text. text ≡ line_text (value_of line.now)) }
+{
+    let mut bytes = Vec::new(alloc);
+    match write_line(line, &mut bytes) {
+        Ok(()) => Ok(Text::of(bytes)),
+        // A `Vec` refuses bytes only where memory runs out.
+        Err(_) => Err(NoMemory),
+    }
 }

@@ -1,4 +1,7 @@
--- what a reader must believe: the lines of the cluster, which words may stand in them, and which are told again
+-- what a reader must believe: the lines of the cluster, which words may stand in them and which are told again, and the
+-- other lines to a client and to a server
 pub mod Reply
 pub mod Standing
 pub mod Echo
+pub mod ToClient
+pub mod ToServer

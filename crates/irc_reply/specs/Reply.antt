@@ -1,4 +1,4 @@
--- Lines that the cluster sends in its own name, each with its ending (RFC 2812, sections 2.3 and 2.4).
+-- Lines of the cluster, and lines that name no sender, each with its ending (RFC 2812, sections 2.3 and 2.4).
 use Rattle.std.specs.Prelude.{ℕ, List, [], ◌∷◌, ◌++◌, codes, Option, None, Some}
 use Rattle.irc_line.specs.Text.{line_text}
 use Rattle.irc_time.specs.Text.{time_text}
@@ -18,6 +18,16 @@ reply cluster command middles trailing =
       middles = middles;
       trailing = trailing;
     })
+
+-- a line without tags and source
+abbrev pub plain_line : List ℕ → List (List ℕ) → Option (List ℕ) → List ℕ
+plain_line command middles trailing = line_text (record {
+  tags = None;
+  source = None;
+  command = command;
+  middles = middles;
+  trailing = trailing;
+})
 
 -- a command that is unknown, or that the session has no capability for (ERR_UNKNOWNCOMMAND, RFC 2812, section 5.2)
 abbrev pub unknown_text : List ℕ → List ℕ → List ℕ → List ℕ

@@ -1,7 +1,7 @@
 //! Lines that the cluster sends in its own name.
 ghost use Rattle.std.specs.Prelude.{◌≡◌, ◌++◌, map, codes};
 ghost use Rattle.std.specs.Option.{option_copied};
-ghost use Rattle.output.specs.Writes.{Writes};
+ghost use Rattle.byte_text.specs.Writes.{Writes};
 ghost use Rattle.irc_time.specs.Text.{time_text};
 
 use irc_line::{OutLine, write_line};

@@ -1,29 +1,33 @@
-//! Lines of the cluster as texts.
-ghost use Rattle.std.specs.Prelude.{◌≡◌, map, IfOk};
+//! Lines in memory of their own.
+ghost use Rattle.std.specs.Prelude.{◌≡◌, ◌++◌, map, IfOk};
 ghost use Rattle.std.specs.Option.{option_copied};
+ghost use Rattle.irc_line.specs.Text.{line_ending};
 ghost use Rattle.irc_reply.specs.Reply as spec;
 
-use crate::reply::write_reply;
-use memory::{NoMemory, Text};
-use std::alloc::Global;
+use byte_text::{NoMemory, Text};
+use irc_line::{OutLine, line_text};
+use std::alloc::{AllocError, Global};
 
-/// A line of the cluster, with its ending.
+/// A line of that source, which is mostly the cluster, with its ending.
 pub fn reply_text<'a>(
     alloc: Global,
-    cluster: &'a [u8],
+    source: &'a [u8],
     command: &'a [u8],
     middles: &'a [&'a [u8]],
     trailing: Option<&'a [u8]>,
 ) -> Result<Text, NoMemory>
     ensures { IfOk result (λ text. text ≡
-        spec.reply cluster.now command.now (map (λ p. p.now) middles.now)
+        spec.reply source.now command.now (map (λ p. p.now) middles.now)
         (option_copied trailing.entry)) }
 {
-    let mut bytes = Vec::new(alloc);
-    match write_reply(cluster, command, middles, trailing, &mut bytes) {
-        Ok(()) => Ok(Text::of(bytes)),
-        Err(_) => Err(NoMemory),
-    }
+    let line = OutLine {
+        tags: None,
+        source: Some(source),
+        command,
+        middles,
+        trailing,
+    };
+    line_text(alloc, &line)
 }
 
 /// `:cluster 461 nick command :Not enough parameters` (ERR_NEEDMOREPARAMS, RFC 2812, section 5.2).
@@ -42,4 +46,43 @@ pub fn need_more_params(
         &[nick, command],
         Some(b"Not enough parameters"),
     )
+}
+
+/// A line without tags and source, with its ending.
+pub fn plain_line<'a>(
+    alloc: Global,
+    command: &'a [u8],
+    middles: &'a [&'a [u8]],
+    trailing: Option<&'a [u8]>,
+) -> Result<Text, NoMemory>
+    ensures { IfOk result (λ text. text ≡ spec.plain_line command.now
+        (map (λ p. p.now) middles.now) (option_copied trailing.entry)) }
+{
+    let line = OutLine {
+        tags: None,
+        source: None,
+        command,
+        middles,
+        trailing,
+    };
+    line_text(alloc, &line)
+}
+
+/// The second text behind the first.
+pub(crate) fn followed_by(alloc: Global, first: &[u8], second: &[u8]) -> Result<Text, NoMemory>
+    ensures { IfOk result (λ text. text ≡ first.now ++ second.now) }
+{
+    let mut bytes = Vec::new(alloc);
+    bytes.extend_from_slice(first)?;
+    bytes.extend_from_slice(second)?;
+    Ok(Text::of(bytes))
+}
+
+/// Puts the text of a line and its ending.
+pub(crate) fn put_with_ending(line: &mut Vec<u8>, text: &[u8]) -> Result<(), AllocError>
+    ensures { IfOk result (λ _. line.new.items ≡ line.old.items ++ (text.now ++ line_ending)) }
+{
+    line.extend_from_slice(text)?;
+    line.extend_from_slice(b"\r\n")?;
+    Ok(())
 }

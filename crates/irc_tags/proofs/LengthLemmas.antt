@@ -6,7 +6,7 @@ use Rattle.std.proofs.lemmas.List.{drop_all}
 use Rattle.std.proofs.lemmas.List.Elements.{All-nil, All-cons, All-head, All-tail, All-drop, All-from_recursion, recursion_from_All}
 use Rattle.indexmap.specs.IndexMap.{insert_entry}
 use Rattle.std.proofs.lemmas.Slice.Eq.{bytes_eq-Decides}
-use Rattle.irc_tags.specs.Value.{escaped_byte, byte_text, value_text, value_in}
+use Rattle.irc_tags.specs.Value.{escaped_byte, byte_spelling, value_text, value_in}
 use Rattle.irc_tags.specs.TagList.{Tag, is_semicolon, is_equals, has_key, same_bytes, tag_of, tag_list}
 use Rattle.irc_tags.specs.Text.{value_part, tag_text, tags_text}
 use Rattle.irc_tags.specs.Standing.{ends_tag_data, is_nul}
@@ -19,7 +19,7 @@ use Rattle.irc_tags.proofs.StandingLemmas.{parts_all, parts_fail}
 abbrev is_plain : ℕ → Type 0
 is_plain b = ((b == 59) ≡ false) × ((b == 32) ≡ false) × ((b == 13) ≡ false) × ((b == 10) ≡ false)
 
-escape_short : (b : ℕ) → length (byte_text b) ≤ 2
+escape_short : (b : ℕ) → length (byte_spelling b) ≤ 2
 escape_short b = at_semicolon (b == 59) where
   at_lf : (t : Bool) → length (cond t (92 ∷ 110 ∷ []) (b ∷ [])) ≤ 2
   at_lf true = omega arith
@@ -47,9 +47,9 @@ length-value_text [] = omega arith
 length-value_text (b ∷ value) =
     let here = escape_short b in
     let rest = length-value_text value in
-    omega (arith, length-append (byte_text b) (value_text value))
+    omega (arith, length-append (byte_spelling b) (value_text value))
 
-escape_plain : (b : ℕ) → is_plain b → (b == 92) ≡ false → byte_text b ≡ b ∷ []
+escape_plain : (b : ℕ) → is_plain b → (b == 92) ≡ false → byte_spelling b ≡ b ∷ []
 escape_plain b plain other =
     (λ i. cond (plain.0 i) (92 ∷ 58 ∷ []) (cond (plain.1 i) (92 ∷ 115 ∷ []) (cond (other i) (92 ∷ 92 ∷ []) (cond (plain.2 i) (92 ∷ 114 ∷ []) (cond (plain.3 i) (92 ∷ 110 ∷ []) (b ∷ []))))))
 
@@ -73,7 +73,7 @@ value_length (b ∷ next ∷ bytes) all =
           → length (value_text (value_in (b ∷ next ∷ bytes))) ≤ length (b ∷ next ∷ bytes)
       go true e behind_pair behind =
           let short = escape_short (escaped_byte next) in
-          let sum = length-append (byte_text (escaped_byte next)) (value_text (value_in bytes)) in
+          let sum = length-append (byte_spelling (escaped_byte next)) (value_text (value_in bytes)) in
           omega (arith, ap (λ l. length (value_text l)) (value_in-pair b next bytes e))
       go false e behind_pair behind = plain_length b (next ∷ bytes) (All-head is_plain b (next ∷ bytes) all) e behind
 

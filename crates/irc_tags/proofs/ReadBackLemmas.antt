@@ -5,7 +5,7 @@ use Rattle.std.proofs.lemmas.Bool.{or_parts, or_from, cond-true}
 use Rattle.std.proofs.lemmas.List.{take_at, drop_at, drop-drop}
 use Rattle.std.proofs.lemmas.List.Splits.{slice_split_none, slice_split_at}
 use Rattle.std.proofs.lemmas.List.Elements.{All-nil, All-cons, All-head, All-tail, All-append, All-weaker}
-use Rattle.irc_tags.specs.Value.{semicolon, byte_text, value_text, value_in}
+use Rattle.irc_tags.specs.Value.{semicolon, byte_spelling, value_text, value_in}
 use Rattle.irc_tags.specs.TagList.{Tag, equals_sign, is_semicolon, is_equals, has_key, same_bytes, last_value, tags_by_key, tag_of, tag_list, tags_of}
 use Rattle.irc_tags.specs.Text.{value_part, tag_text, tags_text}
 use Rattle.irc_tags.specs.Standing.{ends_key, IsKey, CanStand, is_nul, ends_tag_data, CanStandInLine}
@@ -52,7 +52,7 @@ tag_of-tag_text key (b ∷ value) all =
 -- the bytes that a value's text has
 module _ (P Q : ℕ → Type 0) (backslash : P 92) (colon : P 58) (small_s : P 115) (small_r : P 114) (small_n : P 110)
     (other : (b : ℕ) → Q b → (b == 59) ≡ false → (b == 32) ≡ false → (b == 13) ≡ false → (b == 10) ≡ false → P b) where
-  pub All-byte_text : (b : ℕ) → Q b → All P (byte_text b)
+  pub All-byte_text : (b : ℕ) → Q b → All P (byte_spelling b)
   All-byte_text b q = at_semicolon (b == 59) refl where
     two : (c d : ℕ) → P c → P d → All P (c ∷ d ∷ [])
     two c d h k = All-cons P c (d ∷ []) h (All-cons P d [] k (All-nil P))
@@ -81,7 +81,7 @@ module _ (P Q : ℕ → Type 0) (backslash : P 92) (colon : P 58) (small_s : P 1
 
   pub All-value_text : (value : List ℕ) → All Q value → All P (value_text value)
   All-value_text [] all = All-nil P
-  All-value_text (b ∷ value) all = All-append P (byte_text b) (value_text value) (All-byte_text b (All-head Q b value all)) (All-value_text value (All-tail Q b value all))
+  All-value_text (b ∷ value) all = All-append P (byte_spelling b) (value_text value) (All-byte_text b (All-head Q b value all)) (All-value_text value (All-tail Q b value all))
 
   pub All-value_part : P 61 → (value : List ℕ) → All Q value → All P (value_part value)
   All-value_part sign [] all = All-nil P

@@ -93,7 +93,7 @@ parts_all P p (x ∷ xs) all = go (p x) (parts_all P p xs all.1) where
   go true rest = (tt, rest)
   go false rest = onto_first_all P x (slice_split p xs) all.0 rest
 
--- no byte_text spells a NUL
+-- no byte_spelling spells a NUL
 unescaped : (b : ℕ) → is_nul b ≡ false → is_nul (escaped_byte b) ≡ false
 unescaped b e = at_colon (b == 58) where
   at_n : (t : Bool) → is_nul (cond t 10 b) ≡ false

@@ -1,9 +1,9 @@
 -- Texts of tags, one after another.
 use Rattle.std.proofs.Common.{◌≡◌, ℕ, ◌+◌, ◌<◌, List, [], ◌∷◌, ◌++◌, Option, Some, length, take, drop, get_or, slice_get, refl, sym, ap, subst, ◌∙◌, append_assoc, append-nil, arith}
-use Rattle.output.specs.Writes.{AppendsPrefix}
+use Rattle.byte_text.specs.Writes.{AppendsPrefix}
 use Rattle.std.specs.Io.KnownBytes.{Appends}
 use Rattle.std.proofs.KnownBytes.{Appends-trans}
-use Rattle.output.proofs.CallerLemmas.{prefix_same, prefix_of_first, prefix_of_second}
+use Rattle.byte_text.proofs.CallerLemmas.{prefix_same, prefix_of_first, prefix_of_second}
 use Rattle.std.proofs.lemmas.List.{take-append-drop, take_more, length-take-le}
 use Rattle.std.proofs.lemmas.Option.{slice_get_within, slice_get-get_or, get_or_from_slice_get}
 use Rattle.irc_tags.specs.Value.{semicolon}

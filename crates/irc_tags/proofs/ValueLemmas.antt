@@ -5,7 +5,7 @@ use Rattle.std.specs.List.{position_or_len}
 use Rattle.std.proofs.lemmas.Bool.{cond-true, cond-false, eqb-true}
 use Rattle.std.proofs.lemmas.List.{take_all, drop_all, drop_more}
 use Rattle.std.proofs.lemmas.List.Sums.{passes_at_first}
-use Rattle.irc_tags.specs.Value.{backslash, escaped_byte, value_in, byte_text, value_text}
+use Rattle.irc_tags.specs.Value.{backslash, escaped_byte, value_in, byte_spelling, value_text}
 use Rattle.irc_tags.proofs.CuttingLemmas.{first_place, no_place}
 
 -- ---- what bytes spell
@@ -29,7 +29,7 @@ value_in-last b e = cond-true (b == backslash) _ _ e
 
 -- ---- a value that is written
 
-value_in-byte_text : (b : ℕ) (rest : List ℕ) → value_in (byte_text b ++ rest) ≡ b ∷ value_in rest
+value_in-byte_text : (b : ℕ) (rest : List ℕ) → value_in (byte_spelling b ++ rest) ≡ b ∷ value_in rest
 value_in-byte_text b rest = at_semicolon (b == 59) refl where
   spelled : (letter : ℕ) → b ≡ escaped_byte letter → value_in (backslash ∷ letter ∷ rest) ≡ b ∷ value_in rest
   spelled letter e = value_in-pair backslash letter rest refl ∙ ap (λ n. n ∷ value_in rest) (sym e)

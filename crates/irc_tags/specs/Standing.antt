@@ -36,6 +36,6 @@ ends_tag_data b = is_nul b || (b == carriage_return || (b == line_feed || b == s
 abbrev pub HasNoEnd : List ℕ → Type 0
 HasNoEnd bytes = All (λ b. ends_tag_data b ≡ false) bytes
 
--- tags that may stand in a line: no key has such a byte, and no value has a NUL, which no byte_text spells
+-- tags that may stand in a line: no key has such a byte, and no value has a NUL, which no escape spells
 abbrev pub CanStandInLine : List Tag → Type 0
 CanStandInLine tags = All (λ tag. HasNoEnd tag.0 × All (λ b. is_nul b ≡ false) tag.1) tags

@@ -51,8 +51,8 @@ value_in (b ∷ next ∷ bytes) =
     if b == backslash then escaped_byte next ∷ value_in bytes else b ∷ value_in (next ∷ bytes)
 
 -- how a byte of a value is written
-abbrev pub byte_text : ℕ → List ℕ
-byte_text b =
+abbrev pub byte_spelling : ℕ → List ℕ
+byte_spelling b =
     if b == semicolon then backslash ∷ colon ∷ []
     else if b == space then backslash ∷ letter_s ∷ []
     else if b == backslash then backslash ∷ backslash ∷ []
@@ -62,4 +62,4 @@ byte_text b =
 
 -- how a value is written
 abbrev pub value_text : List ℕ → List ℕ
-value_text value = flat_map byte_text value
+value_text value = flat_map byte_spelling value

@@ -1,4 +1,9 @@
 //! The tags of IRC lines (IRCv3 message-tags).
+//!
+//! [`read_tags`] reads tag data into a list of [`Tags`], of which each key stands once, and [`find_tag`] looks up one key
+//! without a list; [`write_tags`] writes such a list, and [`read_value`] and [`write_value`] know the escapes of values.
+//! [`laws`] says that what is written reads back. It stands on `byte_text`, and on `indexmap` for the order of the keys.
+//! Read [`read_tags`] first.
 #![tactic(auto)]
 
 pub mod laws;

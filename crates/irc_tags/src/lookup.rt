@@ -8,7 +8,7 @@ ghost use Rattle.irc_tags.specs.Value.{value_in};
 
 use crate::tag_list::cut_tag;
 use crate::value::read_value;
-use byte_search::find_byte;
+use byte_text::find_byte;
 use std::alloc::{AllocError, Global};
 use std::borrow::CowSlice;
 

@@ -7,7 +7,7 @@ ghost use Rattle.irc_tags.specs.Entries.{value_of, PutsTag};
 ghost use Rattle.irc_tags.specs.Standing.{CanStand, is_client_only};
 
 use crate::value::read_value;
-use byte_search::find_byte;
+use byte_text::find_byte;
 use indexmap::IndexMap;
 use std::alloc::{AllocError, Global};
 use std::marker::Model;

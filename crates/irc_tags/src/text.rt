@@ -1,13 +1,13 @@
 //! Writing tags (IRCv3 message-tags, "Format"). What is written at an error is a prefix of the text. A call fails where
 //! the writer does, and takes no memory.
 ghost use Rattle.std.specs.Prelude.{◌≡◌};
-ghost use Rattle.output.specs.Writes.{Writes};
+ghost use Rattle.byte_text.specs.Writes.{Writes};
 ghost use Rattle.irc_tags.specs.TagList.{tag_list};
 ghost use Rattle.irc_tags.specs.Text.{value_part, tag_text, separator, tags_text};
 
 use crate::tag_list::Tags;
 use crate::value::write_value;
-use output::put;
+use byte_text::put;
 use std::io;
 use std::io::Write;
 

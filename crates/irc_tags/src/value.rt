@@ -1,10 +1,9 @@
 //! Values of tags, and their escapes (IRCv3 message-tags, "Escaping values").
 ghost use Rattle.std.specs.Prelude.{◌≡◌, IfOk};
-ghost use Rattle.output.specs.Writes.{Writes};
-ghost use Rattle.irc_tags.specs.Value.{escaped_byte, value_in, byte_text, value_text};
+ghost use Rattle.byte_text.specs.Writes.{Writes};
+ghost use Rattle.irc_tags.specs.Value.{escaped_byte, value_in, byte_spelling, value_text};
 
-use byte_search::find_byte;
-use output::put;
+use byte_text::{find_byte, put};
 use std::alloc::{AllocError, Global};
 use std::io;
 use std::io::Write;
@@ -42,7 +41,7 @@ pub fn read_value(alloc: Global, bytes: &[u8]) -> Result<Vec<u8>, AllocError>
 }
 
 fn write_byte<W: Write>(b: u8, writer: &mut W) -> io::Result<()>
-    ensures { Writes W.contents writer.old writer.new result (byte_text b) }
+    ensures { Writes W.contents writer.old writer.new result (byte_spelling b) }
 {
     match b {
         b';' => put(writer, b"\\:"),

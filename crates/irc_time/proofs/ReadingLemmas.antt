@@ -7,7 +7,8 @@ use Rattle.std.proofs.lemmas.Option.{cond_some}
 use Rattle.jiff_core.specs.declared.civil.date.Date.{Date}
 use Rattle.jiff_core.specs.Calendar.{days_from_civil, days_in_month}
 use Rattle.jiff_core.proofs.SignedLemmas.{signed_arith}
-use Rattle.irc_time.specs.Time.{Fields, IsDateTime, HasMoment, IsTime, since_midnight, text}
+use Rattle.jiff_core.proofs.DateLemmas.{epoch_day_range}
+use Rattle.irc_time.specs.Time.{Fields, IsDateTime, greatest_day, HasMoment, IsTime, since_midnight, text}
 use Rattle.irc_time.specs.Reading.{fields_at, is_from, is_date, is_time_of_day, is_text, moment_of, time_of}
 use Rattle.irc_time.proofs.PartsLemmas.{spelled_once}
 use Rattle.irc_time.proofs.DayLemmas.{days_from_1970}
@@ -23,7 +24,7 @@ is_from-true low high n e = (let p = and_parts (nat_le low n) (nat_le n high) e 
 true-is_from : (low high n : ℕ) → (low ≤ n) × (n ≤ high) → is_from low high n ≡ true
 true-is_from low high n p = both _ _ (le-leb low n p.0) (le-leb n high p.1)
 
-exists : (f : Fields) → (is_date f && is_time_of_day f) ≡ true → IsDateTime f
+pub exists : (f : Fields) → (is_date f && is_time_of_day f) ≡ true → IsDateTime f
 exists f e =
     let p = and_parts (is_date f) (is_time_of_day f) e in
     let d = and_parts (is_from 1970 9999 f.year) _ p.0 in
@@ -58,9 +59,13 @@ date_of f ok = record {
   day_in = ok.day;
 }
 
-days_since : (f : Fields) → IsDateTime f → pos 0 ≤ℤ days_from_civil (pos f.year) f.month f.day
+pub days_since : (f : Fields) → IsDateTime f → pos 0 ≤ℤ days_from_civil (pos f.year) f.month f.day
 unfolding date_of
 days_since f ok = days_from_1970 (date_of f ok) (let h = ok.year.0 in omega (arith, signed_arith))
+
+pub days_until_9999 : (f : Fields) → IsDateTime f → days_from_civil (pos f.year) f.month f.day ≤ℤ pos greatest_day
+unfolding date_of
+days_until_9999 f ok = (epoch_day_range (date_of f ok)).1
 
 number : (z : ℤ) (s t : ℕ) → pos 0 ≤ℤ z → pos t ≡ z *ℤ pos 86400000 +ℤ pos s → t ≡ unsigned_abs z * 86400000 + s
 number (pos n) s t h e = omega (arith, signed_arith)

@@ -5,7 +5,7 @@
 //! years are 1970 to 9999. [`read_time`] reads every such text and nothing else, [`write_time`] writes the one text of a
 //! moment, and [`laws`] says how the two belong together.
 //!
-//! No function of this crate takes memory or fails for want of it.
+//! It stands on `jiff_core`'s calendar, and takes no memory. Read [`read_time`] first.
 #![tactic(auto)]
 
 ghost use Rattle.std.specs.Prelude.{◌≡◌, ◌↔◌, ℕ, ◌≤◌, IsSome, IfSome};
@@ -19,6 +19,12 @@ mod text;
 pub use reading::read_time;
 use std::marker::Model;
 pub use text::write_time;
+
+/// The milliseconds of a day.
+const MILLISECONDS_PER_DAY: u64 = 86_400_000;
+
+/// The days from -9999-01-01, from which `jiff_core` counts, to 1970-01-01.
+const DAYS_TO_1970: u32 = 4_371_587;
 
 /// The greatest moment, in milliseconds since 1970 began: the last one of the year 9999.
 pub const GREATEST: u64 = 253_402_300_799_999;

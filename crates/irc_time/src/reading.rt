@@ -4,8 +4,8 @@ ghost use Rattle.irc_time.specs.Time.{IsTime, IsDateTime, HasMoment};
 ghost use Rattle.irc_time.specs.Reading.{two_at, fields_at, time_of};
 ghost use Rattle.irc_time.specs.Parts.{value_of};
 
-use super::Moment;
 use super::parts::{Parts, text_of};
+use super::{DAYS_TO_1970, MILLISECONDS_PER_DAY, Moment};
 use jiff_core::civil::Date;
 
 /// The number of one digit; nothing is asked of the byte.
@@ -63,14 +63,14 @@ fn moment_of(parts: Parts) -> Option<Moment>
     let Ok(date) = Date::new(parts.year as i16, parts.month as i8, parts.day as i8) else {
         return None;
     };
-    let days = date.days_since_min() - 4_371_587;
+    let days = date.days_since_min() - DAYS_TO_1970;
     let in_minute = if parts.second == 60 {
         59_999
     } else {
         parts.second * 1000 + parts.millisecond
     };
     Moment::from_ms(
-        days as u64 * 86_400_000 + (parts.hour * 60 + parts.minute) * 60_000 + in_minute,
+        days as u64 * MILLISECONDS_PER_DAY + (parts.hour * 60 + parts.minute) * 60_000 + in_minute,
     )
 }
 

@@ -1,20 +1,20 @@
 //! Writing the text of a moment.
 ghost use Rattle.std.specs.Prelude.{◌≡◌, pos, ◌≤◌, ◌≤ℤ◌};
 ghost use Rattle.jiff_core.specs.Date.{epoch_day};
-ghost use Rattle.irc_time.specs.Time.{IsTextOf};
+ghost use Rattle.irc_time.specs.Time.{IsTextOf, greatest_day};
 ghost use Rattle.irc_time.specs.Text.{time_text};
 
-use super::Moment;
 use super::parts::{Parts, text_of};
+use super::{DAYS_TO_1970, MILLISECONDS_PER_DAY, Moment};
 use jiff_core::civil::Date;
 
 /// The date with that day number, counted from 0 at 1970-01-01.
 fn date_of(day: u32) -> Date
-    requires { day ≤ 2932896 }
+    requires { day ≤ greatest_day }
     ensures day { epoch_day result ≡ pos day }
     ensures year { (pos 1970 ≤ℤ result.year) × (result.year ≤ℤ pos 9999) }
 {
-    Date::from_days_since_min(day + 4_371_587)
+    Date::from_days_since_min(day + DAYS_TO_1970)
 }
 
 /// The year of a date, which isn't before 1970.
@@ -32,8 +32,8 @@ pub fn write_time(moment: Moment) -> [u8; 24]
     ensures text { result ≡ time_text moment }
 {
     let ms = moment.ms();
-    let date = date_of((ms / 86_400_000) as u32);
-    let in_day = ms % 86_400_000;
+    let date = date_of((ms / MILLISECONDS_PER_DAY) as u32);
+    let in_day = ms % MILLISECONDS_PER_DAY;
     let minutes = in_day / 60_000;
     let in_minute = in_day % 60_000;
     text_of(Parts {

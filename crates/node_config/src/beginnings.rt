@@ -4,9 +4,9 @@ ghost use Rattle.node_config.specs.Beginnings as spec;
 
 use crate::config::Config;
 use crate::entries::{Account, Network, Peer};
+use byte_text::{NoMemory, Text};
 use client_directory as directory;
 use client_directory::{Directory, Entry};
-use memory::{NoMemory, Text};
 use peer_lines::NodeName;
 use std::alloc::{AllocError, Global};
 

@@ -5,7 +5,7 @@ ghost use Rattle.node_config.specs.Differing as differing;
 
 use crate::entries::{Account, Network, Peer};
 use crate::limits::Limits;
-use memory::Text;
+use byte_text::Text;
 use peer_lines::{NodeName, SharedWord};
 use std::net::SocketAddr;
 

@@ -3,7 +3,7 @@ ghost use Rattle.std.specs.Prelude.{◌≡◌, true};
 ghost use Rattle.std.specs.List.{list_all};
 ghost use Rattle.chat_change.specs.Words.{is_name, is_target};
 
-use memory::Text;
+use byte_text::Text;
 use peer_lines::NodeName;
 use std::net::SocketAddr;
 

@@ -30,7 +30,7 @@ impl ListName {
 
 /// A table of the configuration.
 #[derive(Clone, Copy, Debug, PartialEq, Eq)]
-pub enum Place {
+pub enum ConfigPlace {
     /// The whole.
     Top,
     /// An entry of a list. Entries are counted from 1.
@@ -41,7 +41,7 @@ pub enum Place {
 #[derive(Clone, Copy, Debug, PartialEq, Eq)]
 pub struct Wrong {
     /// The table.
-    pub place: Place,
+    pub place: ConfigPlace,
     /// The key in it.
     pub key: Option<&'static str>,
     /// What is allowed there.
@@ -78,11 +78,11 @@ impl From<AllocError> for ValueFault {
     }
 }
 
-impl fmt::Display for Place {
+impl fmt::Display for ConfigPlace {
     fn fmt<W: fmt::Write>(&self, f: &mut fmt::Formatter<W>) -> Result<(), fmt::Error> {
         match *self {
-            Place::Top => f.write_str("top level"),
-            Place::Entry(list, entry) => write!(f, "{} {entry}", list.as_str()),
+            ConfigPlace::Top => f.write_str("top level"),
+            ConfigPlace::Entry(list, entry) => write!(f, "{} {entry}", list.as_str()),
         }
     }
 }
@@ -90,7 +90,7 @@ impl fmt::Display for Place {
 impl fmt::Display for Wrong {
     fn fmt<W: fmt::Write>(&self, f: &mut fmt::Formatter<W>) -> Result<(), fmt::Error> {
         match (self.place, self.key) {
-            (Place::Top, Some(key)) => write!(f, "{key}: ")?,
+            (ConfigPlace::Top, Some(key)) => write!(f, "{key}: ")?,
             (place, Some(key)) => write!(f, "{place}, {key}: ")?,
             (place, None) => write!(f, "{place}: ")?,
         }
@@ -102,7 +102,10 @@ impl fmt::Display for Wrong {
 }
 
 // Which keys a table may have.
-fn write_known<W: fmt::Write>(f: &mut fmt::Formatter<W>, place: Place) -> Result<(), fmt::Error> {
+fn write_known<W: fmt::Write>(
+    f: &mut fmt::Formatter<W>,
+    place: ConfigPlace,
+) -> Result<(), fmt::Error> {
     let keys = keys_of(place);
     f.write_str("no keys but ")?;
     for (i, key) in keys.wanted.iter().enumerate() {

@@ -1,7 +1,7 @@
 //! The keys of a configuration.
 
 use crate::allowed::Allowed;
-use crate::fault::{ListName, Place, Wrong};
+use crate::fault::{ConfigPlace, ListName, Wrong};
 use toml::{Table, Value};
 
 /// The keys of a table: those that it must have, and those that it may have besides.
@@ -42,12 +42,12 @@ const NETWORK: Keys = Keys {
 };
 
 /// The keys of a table.
-pub(crate) fn keys_of(place: Place) -> Keys {
+pub(crate) fn keys_of(place: ConfigPlace) -> Keys {
     match place {
-        Place::Top => TOP,
-        Place::Entry(ListName::Peers, _) => PEER,
-        Place::Entry(ListName::Accounts, _) => ACCOUNT,
-        Place::Entry(ListName::Networks, _) => NETWORK,
+        ConfigPlace::Top => TOP,
+        ConfigPlace::Entry(ListName::Peers, _) => PEER,
+        ConfigPlace::Entry(ListName::Accounts, _) => ACCOUNT,
+        ConfigPlace::Entry(ListName::Networks, _) => NETWORK,
     }
 }
 
@@ -56,7 +56,7 @@ fn is_among(words: &[&str], text: &str) -> bool {
 }
 
 /// Refuses a table that lacks a key, or has one that isn't known.
-fn check_table(table: &Table, place: Place) -> Result<(), Wrong> {
+fn check_table(table: &Table, place: ConfigPlace) -> Result<(), Wrong> {
     let keys = keys_of(place);
     for key in keys.wanted {
         if table.get(*key).is_none() {
@@ -87,7 +87,7 @@ fn check_list(table: &Table, list: ListName) -> Result<(), Wrong> {
     };
     for (i, item) in items.iter().enumerate() {
         if let Value::Table(entry) = item {
-            check_table(entry, Place::Entry(list, i.saturating_add(1)))?;
+            check_table(entry, ConfigPlace::Entry(list, i.saturating_add(1)))?;
         }
     }
     Ok(())
@@ -95,7 +95,7 @@ fn check_list(table: &Table, list: ListName) -> Result<(), Wrong> {
 
 /// Refuses a configuration one of whose tables lacks a key, or has one that isn't known.
 pub(crate) fn check_keys(table: &Table) -> Result<(), Wrong> {
-    check_table(table, Place::Top)?;
+    check_table(table, ConfigPlace::Top)?;
     check_list(table, ListName::Peers)?;
     check_list(table, ListName::Accounts)?;
     check_list(table, ListName::Networks)

@@ -51,7 +51,7 @@ mod section;
 pub use allowed::Allowed;
 pub use config::Config;
 pub use entries::{Account, Network, Peer};
-pub use fault::{ConfigFault, ListName, Place, Wrong};
+pub use fault::{ConfigFault, ConfigPlace, ListName, Wrong};
 pub use limits::Limits;
 pub use names::is_cluster_name;
 pub use reading::read_config;

@@ -3,9 +3,9 @@ ghost use Rattle.std.specs.Prelude.{IfOk, IfErr};
 ghost use Rattle.node_config.specs.Document.{IsDocument, IsRefused};
 
 use crate::config::Config;
-use crate::fault::{ConfigFault, Place, ValueFault};
+use crate::fault::{ConfigFault, ConfigPlace, ValueFault};
 use crate::keys::check_keys;
-use crate::limits::Limits;
+use crate::limits::{LEAST_BOUND, Limits, MOST_BOUND, MOST_PLACES, MOST_RETAIN_DAYS, MOST_WORKERS};
 use crate::networks::{read_accounts, read_networks};
 use crate::peers::read_peers;
 use crate::section::Section;
@@ -49,7 +49,7 @@ fn line_at(bytes: &[u8], at: usize) -> usize {
 fn read_values(alloc: Global, table: &Table) -> Result<Config, ValueFault> {
     let top = Section {
         table,
-        place: Place::Top,
+        place: ConfigPlace::Top,
     };
     let name = top.cluster_name(alloc, "name")?;
     let node = top.node_name(alloc, "node")?;
@@ -74,10 +74,10 @@ fn read_values(alloc: Global, table: &Table) -> Result<Config, ValueFault> {
 }
 
 fn read_limits(top: Section<'_>) -> Result<Limits, ValueFault> {
-    let workers = top.number("workers", 1, 16)?;
-    let places = top.number("places", 1, 4096)?;
-    let bound = top.number("bound", 1024, 1_048_576)?;
-    let retain_days = top.number("retain_days", 0, 36_500)?;
+    let workers = top.number("workers", 1, MOST_WORKERS)?;
+    let places = top.number("places", 1, MOST_PLACES)?;
+    let bound = top.number("bound", LEAST_BOUND, MOST_BOUND)?;
+    let retain_days = top.number("retain_days", 0, MOST_RETAIN_DAYS)?;
     Ok(Limits {
         workers: workers as usize,
         places: places as usize,

@@ -5,9 +5,9 @@ ghost use Rattle.chat_change.specs.Words.{is_name, is_target};
 ghost use Rattle.node_config.specs.Names as spec;
 
 use crate::allowed::Allowed;
-use crate::fault::{ListName, Place, ValueFault, Wrong};
+use crate::fault::{ConfigPlace, ListName, ValueFault, Wrong};
 use crate::names::is_cluster_name;
-use memory::Text;
+use byte_text::Text;
 use peer_lines::{LinkFault, NodeName, SharedWord};
 use std::alloc::{AllocError, Global};
 use std::net::SocketAddr;
@@ -17,7 +17,7 @@ use toml::{Table, Value};
 #[derive(Clone, Copy)]
 pub(crate) struct Section<'a> {
     pub table: &'a Table,
-    pub place: Place,
+    pub place: ConfigPlace,
 }
 
 impl<'a> Section<'a> {
@@ -158,7 +158,7 @@ pub(crate) fn entry_of<'a>(
     list: ListName,
     index: usize,
 ) -> Result<Section<'a>, ValueFault> {
-    let place = Place::Entry(list, index.saturating_add(1));
+    let place = ConfigPlace::Entry(list, index.saturating_add(1));
     match item {
         Value::Table(table) => Ok(Section { table, place }),
         _ => Err(ValueFault::Wrong(Wrong {

@@ -28,7 +28,7 @@ pub fn exchange<K: Ord + Drop, V: Drop>(
     match map.insert(key, value) {
         Ok(before) => Ok(before),
         Err(failed) => {
-            discard(failed);
+            drop(failed);
             Err(AllocError)
         }
     }
@@ -50,6 +50,3 @@ pub fn overwrite<K: Ord + Drop, V: Drop>(map: &mut BTreeMap<K, V>, key: &K, valu
         *slot = value;
     }
 }
-
-/// Lets a value go.
-pub fn discard<T: Drop>(_value: T) {}

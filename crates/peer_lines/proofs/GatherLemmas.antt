@@ -9,13 +9,13 @@ use Rattle.chat_change.specs.declared.change.Change as change
 use Rattle.peer_lines.specs.Life as parts
 use Rattle.peer_lines.specs.Life.{Packet, head_of, packet_of}
 use Rattle.peer_lines.specs.Spelling.{IsPeerLine, IsPacket, lines_of}
-use Rattle.peer_lines.specs.Gather.{Gather, Answer, Pushed, with_change, arrives, waits, pushed, after, answers}
+use Rattle.peer_lines.specs.Gather.{Gather, ArrivedOrFault, Pushed, with_change, arrives, waits, pushed, after, answers}
 use Rattle.peer_lines.specs.declared.fault.LinkFault.{LinkFault}
 use Rattle.peer_lines.specs.declared.peer_line.PeerLine.{PeerLine}
 use Rattle.peer_lines.specs.declared.peer_line.PeerLine.TheVariants.{Word, Hello, Head, Change, Ack}
 use Rattle.peer_lines.specs.declared.gather.Arrived.TheVariants as arrived
 
-abbrev waiting : ℕ → List Answer
+abbrev waiting : ℕ → List ArrivedOrFault
 waiting n = repeat n (Ok None ∷ [])
 
 -- a head, and changes of which some came
@@ -23,7 +23,7 @@ module _ (h : parts.Head) where
   abbrev under_way : List change.Change → Gather
   under_way came = Some (record { head = h; changes = came })
 
-  abbrev arrival : List change.Change → List Answer
+  abbrev arrival : List change.Change → List ArrivedOrFault
   arrival all = Ok (Some (arrived.Packet (packet_of h all))) ∷ []
 
   last_arrives : (came : List change.Change) (c : change.Change) → length (came ++ c ∷ []) ≡ h.count → with_change h (came ++ c ∷ []) ≡ arrives (arrived.Packet (packet_of h (came ++ c ∷ [])))

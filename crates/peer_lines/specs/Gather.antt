@@ -18,13 +18,13 @@ pub record Gathering : Type 0 where
 abbrev pub Gather : Type 0
 Gather = Option Gathering
 
-abbrev pub Answer : Type 0
-Answer = Result (Option Arrived) LinkFault
+abbrev pub ArrivedOrFault : Type 0
+ArrivedOrFault = Result (Option Arrived) LinkFault
 
 -- what a line makes of a gather, and what arrives with it
 pub record Pushed : Type 0 where
   pub gather : Gather
-  pub answer : Answer
+  pub answer : ArrivedOrFault
 
 -- the line is refused, and the gather is empty
 abbrev pub refused : Pushed
@@ -61,13 +61,13 @@ abbrev pub after : Gather → List PeerLine → Gather
 after g [] = g
 after g (l ∷ ls) = after (pushed g l).gather ls
 
-abbrev pub answers : Gather → List PeerLine → List Answer
+abbrev pub answers : Gather → List PeerLine → List ArrivedOrFault
 answers g [] = []
 answers g (l ∷ ls) = (pushed g l).answer ∷ answers (pushed g l).gather ls
 
 -- ---- what a call answers
 
 -- there was no memory for a line that isn't refused, or the answer is the one that is due
-abbrev pub IsAnswerFor : Answer → Answer → Type 0
+abbrev pub IsAnswerFor : ArrivedOrFault → ArrivedOrFault → Type 0
 IsAnswerFor (Ok arrived) result = (result ≡ Ok arrived) ⊎ (result ≡ Err NoMemory)
 IsAnswerFor (Err fault) result = result ≡ Err fault

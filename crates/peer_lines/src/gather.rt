@@ -54,9 +54,6 @@ impl Model for Gather {
     ghost view = { λ g. g.gathering };
 }
 
-// A line that is refused goes.
-fn discard(_line: PeerLine) {}
-
 // What a line begins where no packet is under way.
 fn begun(alloc: Global, line: PeerLine) -> (Option<Gathering>, Result<Option<Arrived>, LinkFault>)
     ensures gather { result.0 ≡ (pushed None line).gather }
@@ -71,7 +68,7 @@ fn begun(alloc: Global, line: PeerLine) -> (Option<Gathering>, Result<Option<Arr
             (Some(Gathering { head, changes }), Ok(None))
         }
         PeerLine::Change(change) => {
-            discard(PeerLine::Change(change));
+            drop(PeerLine::Change(change));
             (None, Err(LinkFault::BadForm))
         }
     }
@@ -110,7 +107,7 @@ fn continued(
             }
         }
         other => {
-            discard(other);
+            drop(other);
             (None, Err(LinkFault::BadForm))
         }
     }

@@ -3,7 +3,7 @@ ghost use Rattle.std.specs.Prelude.{◌≡◌, ◌<◌, ◌^◌, IfOk};
 ghost use Rattle.peer_lines.specs.Names.{same_name};
 
 use crate::names::NodeName;
-use memory::NoMemory;
+use byte_text::NoMemory;
 use std::alloc::Global;
 use std::marker::Model;
 

@@ -4,8 +4,8 @@ ghost use Rattle.std.specs.List.{list_all};
 ghost use Rattle.peer_lines.specs.Names as spec;
 
 use crate::fault::LinkFault;
+use byte_text::{NoMemory, Text};
 use gossip_delta::is_text;
-use memory::{NoMemory, Text};
 use std::alloc::Global;
 use std::marker::Model;
 

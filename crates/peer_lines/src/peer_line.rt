@@ -12,9 +12,9 @@ use crate::life::Life;
 use crate::names::NodeName;
 use crate::packet::{Ack, Head};
 use crate::shared_word::{SharedWord, is_shared_word};
+use byte_text::NoMemory;
 use chat_change::Change;
 use gossip_delta::{ChangeLineFault, is_text, read_change, split_word};
-use memory::NoMemory;
 use std::alloc::Global;
 
 /// A line of a peer.

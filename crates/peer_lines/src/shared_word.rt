@@ -5,8 +5,8 @@ ghost use Rattle.chat_change.specs.Words.{ends_word as ends_shared_word};
 ghost use Rattle.peer_lines.specs.Names as spec;
 
 use crate::fault::LinkFault;
+use byte_text::{NoMemory, Text};
 use gossip_delta::is_text;
-use memory::{NoMemory, Text};
 use std::alloc::Global;
 use std::marker::Model;
 

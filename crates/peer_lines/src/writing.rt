@@ -2,7 +2,7 @@
 ghost use Rattle.std.specs.Prelude.{◌++◌, ◌∷◌, [], length, map, codes};
 ghost use Rattle.std.specs.Fmt.{decimal};
 ghost use Rattle.std.specs.List.{flat_map};
-ghost use Rattle.output.specs.Writes.{Writes};
+ghost use Rattle.byte_text.specs.Writes.{Writes};
 ghost use Rattle.peer_lines.specs.Life as parts;
 ghost use Rattle.peer_lines.specs.Spelling.{written, packet_text};
 ghost use Rattle.peer_lines.specs.WrittenParts.{life_text, lives_text, numbers_text};
@@ -10,9 +10,9 @@ ghost use Rattle.peer_lines.specs.WrittenParts.{life_text, lives_text, numbers_t
 use crate::life::Life;
 use crate::packet::{Ack, Packet};
 use crate::peer_line::PeerLine;
+use byte_text::put;
 use chat_change::Change;
 use gossip_delta::write_change;
-use output::put;
 use std::io;
 use std::io::Write;
 

@@ -25,7 +25,7 @@ record Goes (s : Session) (x : Step) : Type 0 where
   ends : x.heard ≡ Close → x.session.handshake.stage ≡ Refused
   rests : x.heard ≡ Close → pace.is_due x.session.pace ≡ false
 
-gathered_goes : (s : Session) (place : ℕ) (g : Gather) (answer : gather.Answer) → Goes s (gathered s place g answer)
+gathered_goes : (s : Session) (place : ℕ) (g : Gather) (answer : gather.ArrivedOrFault) → Goes s (gathered s place g answer)
 gathered_goes s place g (Ok None) = record { side = refl; stage = inl refl; ends = λ e. cc e; rests = λ e. cc e }
 gathered_goes s place g (Ok (Some arrived)) = record { side = refl; stage = inl refl; ends = λ e. cc e; rests = λ e. cc e }
 gathered_goes s place g (Err fault) = record { side = refl; stage = inr refl; ends = λ _. refl; rests = λ _. refl }
@@ -37,7 +37,7 @@ acted_goes t s None (act.HandUp place) = record { side = refl; stage = inr refl;
 acted_goes t s (Some l) (act.HandUp place) = gathered_goes s place (pushed s.gather l).gather (pushed s.gather l).answer
 acted_goes t s l act.Close = record { side = refl; stage = inr refl; ends = λ _. refl; rests = λ _. refl }
 
-gathered_place : (s : Session) (place place' : ℕ) (g : Gather) (answer : gather.Answer) (arrived : Arrived) → (gathered s place g answer).heard ≡ Message place' arrived → place ≡ place'
+gathered_place : (s : Session) (place place' : ℕ) (g : Gather) (answer : gather.ArrivedOrFault) (arrived : Arrived) → (gathered s place g answer).heard ≡ Message place' arrived → place ≡ place'
 gathered_place s place place' g (Ok None) arrived e = absurd (cc)
 gathered_place s place place' g (Ok (Some a)) arrived e = cc e
 gathered_place s place place' g (Err fault) arrived e = absurd (cc)
@@ -50,7 +50,7 @@ acted_place t s (Some l) (act.HandUp p) place arrived e =
     ap act.HandUp (gathered_place s p place (pushed s.gather l).gather (pushed s.gather l).answer arrived e)
 acted_place t s l act.Close place arrived e = absurd (cc)
 
-gathered_silent : (s : Session) (place : ℕ) (g : Gather) (answer : gather.Answer) → (gathered s place g answer).sent ≡ []
+gathered_silent : (s : Session) (place : ℕ) (g : Gather) (answer : gather.ArrivedOrFault) → (gathered s place g answer).sent ≡ []
 gathered_silent s place g (Ok None) = refl
 gathered_silent s place g (Ok (Some arrived)) = refl
 gathered_silent s place g (Err fault) = refl

@@ -1,5 +1,5 @@
 -- What comes of a message of a peer: a hello, a packet or an acknowledgement.
-use Rattle.std.specs.Prelude.{ℕ, ◌≡◌, ◌⊎◌, Bool, not, ◌&&◌, ◌++◌, MatchBool, List, [], take, if◌then◌else◌}
+use Rattle.std.specs.Prelude.{ℕ, ◌≡◌, ◌⊎◌, Bool, true, not, ◌&&◌, ◌++◌, MatchBool, List, [], take, if◌then◌else◌}
 use Rattle.chat_change.specs.declared.change.Change.{Change}
 use Rattle.gossip_delta.specs.Growth.{AfterOthers}
 use Rattle.peer_lines.specs.Life as parts
@@ -32,6 +32,11 @@ abbrev pub pace_after : Link → Arrived → Pace → Pace
 pace_after l (Hello life) p = if hello_is_wrong l.name l.peer life then p else pace.greeted p
 pace_after l (Ack a) p = if ack_counts l a then pace.acknowledged a.upto p else p
 pace_after l _ p = p
+
+-- a packet from a life of the peer to this one
+abbrev pub IsPacketForMe : Link → Arrived → Type 0
+IsPacketForMe l (Packet p) = packet_is_mine l.me l.name p ≡ true
+IsPacketForMe l _ = ⊥
 
 -- a packet that was taken is acknowledged, and to nothing else there is a reply
 abbrev pub reply : Link → Arrived → Outcome → List ℕ

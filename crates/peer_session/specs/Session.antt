@@ -53,7 +53,7 @@ refused s = record {
 abbrev pub closed : Session → Step
 closed s = record { session = refused s; heard = Close; sent = [] }
 
-abbrev pub gathered : Session → ℕ → Gather → gather.Answer → Step
+abbrev pub gathered : Session → ℕ → Gather → gather.ArrivedOrFault → Step
 gathered s place g (Ok None) =
     record { session = record s { gather = g }; heard = Nothing; sent = [] }
 gathered s place g (Ok (Some arrived)) =
@@ -85,6 +85,11 @@ abbrev pub IsRead : Option (List ℕ) → Option PeerLine → Type 0
 IsRead None l = l ≡ None
 IsRead (Some bytes) None = (l : PeerLine) → Spells bytes l → ⊥
 IsRead (Some bytes) (Some l) = Spells bytes l
+
+-- the bytes spell a line
+abbrev pub SpellsSome : Option (List ℕ) → Type 0
+SpellsSome None = ⊥
+SpellsSome (Some bytes) = (l : PeerLine) × Spells bytes l
 
 -- this holds of what comes of the line that the bytes spell
 abbrev pub AfterBytes : Terms → Session → Option (List ℕ) → (Step → Type 0) → Type 0

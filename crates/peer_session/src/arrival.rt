@@ -1,16 +1,17 @@
 //! What a message of a peer comes to, on the link with that peer.
-ghost use Rattle.std.specs.Prelude.{◌≡◌, ◌++◌, ◌⊎◌, IfOk, OnErr};
+ghost use Rattle.std.specs.Prelude.{◌≡◌, ◌++◌, ◌⊎◌, true, IfOk, OnErr};
 ghost use Rattle.gossip_delta.specs.Growth.{AfterOthers};
 ghost use Rattle.peer_lines.specs.Spelling.{written};
 ghost use Rattle.peer_lines.specs.declared.peer_line.PeerLine.TheVariants as line;
+ghost use Rattle.gossip_link.specs.Peer.{packet_is_mine};
 ghost use Rattle.peer_session.specs.Arrival as spec;
 
 use crate::outcome::Outcome;
 use crate::session::PeerSession;
+use byte_text::NoMemory;
 use chat_change::Change;
 use gossip_delta::Taker;
 use gossip_link::{Ack, Arrived, Life, Link, LinkFault, Packet, write_ack};
-use memory::NoMemory;
 use std::alloc::Global;
 
 /// The changes that a message brings: those of a packet.
@@ -48,6 +49,7 @@ fn take_packet<T: Taker>(
         ≡ out.old.items ++ spec.reply link.now (Arrived.Packet packet.now) outcome) }
     ensures taker { IfOk result (spec.IsTaken T.holds T.may_add taker.old taker.new
         packet.now.changes) }
+    ensures memory { OnErr result (packet_is_mine link.now.me link.now.name packet.now ≡ true) }
     ensures err { OnErr result ((taker.new ≡ taker.old)
         ⊎ AfterOthers T.holds T.may_add taker.old
         (λ start all. T.holds taker.new start (all ++ packet.now.changes))) }
@@ -120,6 +122,8 @@ impl PeerSession {
             ≡ out.old.items ++ spec.reply link.old arrived.now outcome) }
         ensures taker { IfOk result (spec.IsTaken T.holds T.may_add taker.old taker.new
             (spec.changes_of arrived.now)) }
+        // Want of memory is told only of a packet for this life.
+        ensures memory { OnErr result (spec.IsPacketForMe link.old arrived.now) }
         ensures err { OnErr result ((taker.new ≡ taker.old)
             ⊎ AfterOthers T.holds T.may_add taker.old
             (λ start all. T.holds taker.new start (all ++ spec.changes_of arrived.now))) }

@@ -1,10 +1,10 @@
 //! How a node greets.
 ghost use Rattle.std.specs.Prelude.{◌≡◌, ◌++◌, IfOk};
-ghost use Rattle.output.specs.Writes.{Writes};
+ghost use Rattle.byte_text.specs.Writes.{Writes};
 ghost use Rattle.peer_session.specs.Session as spec;
 
+use byte_text::NoMemory;
 use gossip_link::{Terms, write_hello, write_word};
-use memory::NoMemory;
 use std::io;
 use std::io::Write;
 

@@ -21,9 +21,9 @@ mod packets;
 mod session;
 
 pub use arrival::changes_of;
+pub use byte_text::NoMemory;
 pub use gossip_link::{Arrived, Life, Link, LinkFault, NodeName, SharedWord, Side, Terms};
 pub use heard::Heard;
-pub use memory::NoMemory;
 pub use outcome::Outcome;
 pub use pace::{ACK_WAIT_MS, MOST_UNANSWERED};
 pub use session::PeerSession;

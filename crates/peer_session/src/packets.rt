@@ -90,6 +90,15 @@ impl PeerSession {
             (fault ≡ LinkFault.NoEntry) ⊎ (fault ≡ LinkFault.NoMemory)) }
         ensures err { result ≡ Err LinkFault.NoEntry →
             (self.new ≡ self.old) × (link.new ≡ link.old) × (out.new.items ≡ out.old.items) }
+        // Refused, link and pace are as they were, or as after making the packet.
+        ensures stands { OnErr result (
+            ((self.new ≡ self.old) × (link.new ≡ link.old))
+            ⊎ ((packet : Option Parcel)
+            × spec.IsNext S.holds S.may_add source.old source.new link.old packet
+            × (link.new ≡ spec.link_after link.old packet)
+            × (self.new ≡ record self.old {
+              pace = paces.made (spec.to_of packet) now self.old.pace;
+            }))) }
     {
         if !self.pace.is_due() {
             return Ok(false);

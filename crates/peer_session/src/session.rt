@@ -1,5 +1,5 @@
 //! Connections with peers.
-ghost use Rattle.std.specs.Prelude.{◌≡◌, ◌++◌, Option, IfOk, OnErr};
+ghost use Rattle.std.specs.Prelude.{◌≡◌, ◌++◌, Option, IfOk, OnErr, IsSome};
 ghost use Rattle.std.specs.Option.{option_map};
 ghost use Rattle.std.specs.Map.Iter.{deref};
 ghost use Rattle.peer_session.specs.Session as spec;
@@ -8,8 +8,8 @@ ghost use Rattle.peer_session.specs.Pace as pace;
 use crate::greeting::greet;
 use crate::heard::Heard;
 use crate::pace::Pace;
+use byte_text::NoMemory;
 use gossip_link::{Action, Gather, Handshake, LinkFault, PeerLine, Side, Terms, read_peer};
-use memory::NoMemory;
 use std::alloc::Global;
 use std::marker::Model;
 
@@ -29,12 +29,10 @@ impl Model for PeerSession {
     ghost view = { λ s. record { handshake = s.handshake; gather = s.gather; pace = s.pace } };
 }
 
-// A line that goes no further.
-fn discard(_line: Option<PeerLine>) {}
-
 // The line that the bytes spell, if they spell one.
 fn read_line(alloc: Global, bytes: Option<&[u8]>) -> Result<Option<PeerLine>, NoMemory>
-    ensures { IfOk result (λ line. spec.IsRead (option_map deref bytes.entry) line) }
+    ensures read { IfOk result (λ line. spec.IsRead (option_map deref bytes.entry) line) }
+    ensures memory { OnErr result (spec.SpellsSome (option_map deref bytes.entry)) }
 {
     let Some(bytes) = bytes else {
         return Ok(None);
@@ -91,6 +89,8 @@ impl PeerSession {
         ensures step { IfOk result (λ heard. spec.AfterBytes terms.now self.old
             (option_map deref bytes.entry) (λ step. (self.new ≡ step.session)
             × (heard ≡ step.heard) × (out.new.items ≡ out.old.items ++ step.sent))) }
+        // Want of memory is told only of bytes that spell a line.
+        ensures memory { OnErr result (spec.SpellsSome (option_map deref bytes.entry)) }
         ensures err { OnErr result (self.new ≡ spec.refused self.old) }
     {
         let heard = match read_line(alloc, bytes) {
@@ -116,21 +116,22 @@ impl PeerSession {
         ensures heard { IfOk result (λ heard. heard ≡ (spec.step terms.now self.old line).heard) }
         ensures sent { IfOk result (λ heard. out.new.items
             ≡ out.old.items ++ (spec.step terms.now self.old line).sent) }
+        ensures memory { OnErr result (IsSome line) }
         ensures err { OnErr result (spec.refused self.new ≡ spec.refused self.old) }
     {
         match self.handshake.hear(terms, line.as_ref()) {
             Action::Wait => {
-                discard(line);
+                drop(line);
                 Ok(Heard::Nothing)
             }
             Action::Greet => {
-                discard(line);
+                drop(line);
                 greet(terms, out)?;
                 Ok(Heard::Nothing)
             }
             Action::HandUp(place) => self.gather_line(alloc, terms, place, line),
             Action::Close => {
-                discard(line);
+                drop(line);
                 self.refuse(terms);
                 Ok(Heard::Close)
             }
@@ -148,6 +149,7 @@ impl PeerSession {
         ensures session { IfOk result (λ heard. self.new
             ≡ (spec.handed_up self.old place line).session) }
         ensures heard { IfOk result (λ heard. heard ≡ (spec.handed_up self.old place line).heard) }
+        ensures memory { OnErr result (IsSome line) }
         ensures err { OnErr result (spec.refused self.new ≡ spec.refused self.old) }
     {
         let Some(line) = line else {

@@ -2,7 +2,7 @@
 ghost use Rattle.std.specs.Prelude.{◌≡◌, IfOk};
 
 use crate::shared_line::SharedLine;
-use memory::NoMemory;
+use byte_text::NoMemory;
 use std::alloc::Global;
 use std::collections::VecDeque;
 

@@ -1,7 +1,7 @@
 //! A line that several threads have.
 ghost use Rattle.std.specs.Prelude.{◌≡◌, List, ℕ, IfOk};
 
-use memory::NoMemory;
+use byte_text::NoMemory;
 use std::alloc::{AllocError, Global};
 use std::marker::Model;
 use std::sync::Arc;

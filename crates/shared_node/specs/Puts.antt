@@ -23,13 +23,13 @@ abbrev pub total : HalfValue → ℕ
 total h = length h.published + length h.waiting
 
 -- a refused put of these changes leaves the published list, and a prefix of the changes waits
-abbrev pub Leaves : HalfValue → ℕ → List Change → HalfValue → PutFault → Type 0
-Leaves old by changes new (NoMemory appended) =
+abbrev pub LeavesWaiting : HalfValue → ℕ → List Change → HalfValue → PutFault → Type 0
+LeavesWaiting old by changes new (NoMemory appended) =
     (appended ≤ length changes) × (new.published ≡ old.published)
     × (new.waiting ≡ old.waiting ++ under by (take appended changes))
-Leaves old by changes new Waiting =
+LeavesWaiting old by changes new Waiting =
     (new.published ≡ old.published) × (new.waiting ≡ old.waiting ++ under by changes)
-Leaves old by changes new Exhausted =
+LeavesWaiting old by changes new Exhausted =
     (new ≡ old) × (2 ^ 64 ≤ total old + length changes)
 
 -- how many of n changes a refused put appended

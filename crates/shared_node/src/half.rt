@@ -2,7 +2,7 @@
 ghost use Rattle.std.specs.Prelude.{◌≡◌, ◌+◌, ◌<◌, ◌≤◌, ◌^◌, ◌++◌, ◌∷◌, [], length, take, drop, fold, MatchResult, MatchBool, IfOk, IfErr, OnOk, IsErr, None};
 ghost use Rattle.shared_node.specs.Lists.{entry, under};
 ghost use Rattle.shared_node.specs.Passes.{FollowsAll};
-ghost use Rattle.shared_node.specs.Puts.{all_put, half_value, total, Leaves};
+ghost use Rattle.shared_node.specs.Puts.{all_put, half_value, total, LeavesWaiting};
 ghost use Rattle.change_log.specs.Versions.{held, stepped, IsMade};
 
 use crate::faults::PutFault;
@@ -228,7 +228,8 @@ impl<J: Naming, R: Wait + Drop> WritingHalf<J, R> {
         ensures receipt { IfOk result (λ r. r ≡ self.new.published) }
         ensures list { OnOk result (pass.new.list ≡ self.new.published) }
         ensures follows { OnOk result (FollowsAll pass.old (all_put self.old)) }
-        ensures refused { IfErr result (λ e. Leaves self.old pass.old.number changes.now self.new e
+        ensures refused { IfErr result (λ e.
+            LeavesWaiting self.old pass.old.number changes.now self.new e
             × (pass.new.list ≡ pass.old.list)) }
         ensures exhausted { 2 ^ 64 ≤ total self.old + length changes.now
             → IfErr result (λ e. e ≡ PutFault.Exhausted) × IsErr result }

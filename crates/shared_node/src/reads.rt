@@ -1,7 +1,7 @@
 //! What a pass reads, without a lock.
 ghost use Rattle.std.specs.Prelude.{◌≡◌, ◌≢◌, ◌↔◌, Err, IsTrue, IfOk, IfSome, IfNone, OnErr};
 ghost use mathlib.Core.List.{IsPrefix};
-ghost use Rattle.output.specs.Writes.{Writes};
+ghost use Rattle.byte_text.specs.Writes.{Writes};
 ghost use Rattle.chat_history.specs.History.{norm};
 ghost use Rattle.chat_history.specs.Lookups.{IsShown};
 ghost use Rattle.chat_history.specs.Numbering as numbering;

@@ -14,18 +14,18 @@ use Rattle.chat_change.specs.declared.message.Kind.{Kind}
 use Rattle.chat_change.specs.declared.message.Kind.TheVariants as kind
 use Rattle.chat_change.specs.declared.change.Change.{Change}
 use Rattle.chat_change.specs.declared.change.Change.TheVariants as change
-use Rattle.client_replies.specs.Replies.{passed_line}
-use Rattle.upstream_lines.specs.Lines.{relayed_line}
+use Rattle.irc_reply.specs.ToServer.{passed_line}
+use Rattle.irc_reply.specs.ToClient.{relayed_line}
 use Rattle.upstream_session.specs.Command.{command_of}
-use Rattle.upstream_session.specs.declared.command.Command.{Command}
-use Rattle.upstream_session.specs.declared.command.Command.TheVariants.{Cap, Welcome, Greeting, NickInUse, Ping, Nick, Join, Part, Kick, Error, Privmsg, Notice, Redact, Tagmsg, Other}
+use Rattle.upstream_session.specs.declared.command.ServerCommand.{ServerCommand}
+use Rattle.upstream_session.specs.declared.command.ServerCommand.TheVariants.{Cap, Welcome, Greeting, NickInUse, Ping, Nick, Join, Part, Kick, Error, Privmsg, Notice, Redact, Tagmsg, Other}
 use Rattle.upstream_session.specs.declared.connection.TheConstants.{LAST_SERIAL}
 use Rattle.upstream_session.specs.declared.connection.Home.{Home}
 use Rattle.upstream_session.specs.declared.connection.Connection.{Connection}
 use Rattle.upstream_session.specs.declared.effect.UpEffect.{UpEffect}
 use Rattle.upstream_session.specs.declared.effect.UpEffect.TheVariants.{Send, Put, Relay, Close}
 use Rattle.upstream_session.specs.declared.effect.Recipients.TheVariants.{Holding}
-use Rattle.upstream_session.specs.Step.{Step, stays, closes}
+use Rattle.upstream_session.specs.Step.{ServerStep, stays, closes}
 use Rattle.upstream_session.specs.Messages.{is_same_nick, has_buffer, conversation, source_of, can_be_kept, stamp_of, made_text, made_id, post}
 use Rattle.upstream_session.specs.Rows.{relay_to_all, pass_on, ls, ack, cap, first_target, with_nick, joins, welcome, try_again, nick_in_use, ping, join_if, leave, put_out, is_up_and_own, keep_by_id, keep_made, keep_stamped, keep, message_from, message, redaction, redact, serve}
 use Rattle.upstream_session.specs.Sayings.{send_line, is_kept_here, say_by_id, say_kept, say_message, say_words, say_command, say_reading}
@@ -80,7 +80,7 @@ pub record Same (W : Type 0) (u v : Connection) : Type 0 where
   pub up : v.entry.is_up ≡ true → (u.entry.is_up ≡ true) ⊎ W
 
 -- lines to the server; lines that are passed on; a message with an id of its own, or with one that is made; the end
-pub data Course (W : Type 0) (id_of : Option (List ℕ)) (u : Connection) (s : Step) : Type 0 where
+pub data Course (W : Type 0) (id_of : Option (List ℕ)) (u : Connection) (s : ServerStep) : Type 0 where
   quiet : Same W u s.session → AllByRecursion IsSend s.effects → Course W id_of u s
   passing : u.entry.is_up ≡ true → Same W u s.session → AllByRecursion (IsPassed u.home) s.effects → Course W id_of u s
   kept : (id : List ℕ) (at : ℕ) (m : Message) → u.entry.is_up ≡ true → id_of ≡ Some id → s.session ≡ u
@@ -108,7 +108,7 @@ module _ (W : Type 0) (id_of : Option (List ℕ)) (u : Connection) where
   ls_row [] = quiet (record { home = refl; serial = refl; up = λ h. inl h }) (tt, tt)
   ls_row (a ∷ []) = quiet (record { home = refl; serial = refl; up = λ h. inl h }) (tt, tt)
   ls_row (a ∷ b ∷ more) =
-      either (λ (s : Step). Course W id_of u s) (bytes_eq a (codes "*"))
+      either (λ (s : ServerStep). Course W id_of u s) (bytes_eq a (codes "*"))
       (quiet (record { home = refl; serial = refl; up = λ h. inl h }) tt)
       (quiet (record { home = refl; serial = refl; up = λ h. inl h }) (tt, tt))
 
@@ -119,9 +119,9 @@ module _ (W : Type 0) (id_of : Option (List ℕ)) (u : Connection) where
   cap_row [] = says [] tt
   cap_row (a ∷ []) = says [] tt
   cap_row (a ∷ b ∷ more) =
-      either (λ (s : Step). Course W id_of u s) (str_eq_ignore_ascii_case b (codes "LS")) (ls_row more)
-      (either (λ (s : Step). Course W id_of u s) (str_eq_ignore_ascii_case b (codes "ACK")) (ack_row (list_in more))
-      (either (λ (s : Step). Course W id_of u s) (str_eq_ignore_ascii_case b (codes "NAK")) (says _ (tt, tt)) (says [] tt)))
+      either (λ (s : ServerStep). Course W id_of u s) (str_eq_ignore_ascii_case b (codes "LS")) (ls_row more)
+      (either (λ (s : ServerStep). Course W id_of u s) (str_eq_ignore_ascii_case b (codes "ACK")) (ack_row (list_in more))
+      (either (λ (s : ServerStep). Course W id_of u s) (str_eq_ignore_ascii_case b (codes "NAK")) (says _ (tt, tt)) (says [] tt)))
 
   all_joins : (channels : List (List ℕ)) → AllByRecursion IsSend (joins channels)
   all_joins [] = tt
@@ -136,9 +136,9 @@ module _ (W : Type 0) (id_of : Option (List ℕ)) (u : Connection) where
 
   pub in_use_row : (line : Reading) (bytes : List ℕ) → Course W id_of u (nick_in_use u line bytes)
   in_use_row line bytes =
-      either_by (λ (s : Step). Course W id_of u s) u.entry.is_up (stays u (relay_to_all line bytes)) (try_again u)
+      either_by (λ (s : ServerStep). Course W id_of u s) u.entry.is_up (stays u (relay_to_all line bytes)) (try_again u)
       (λ h. passing h itself (tt, tt))
-      (λ h. either (λ (s : Step). Course W id_of u s) _ (quiet (record { home = refl; serial = refl; up = λ k. inl k }) (tt, tt)) (closed refl refl))
+      (λ h. either (λ (s : ServerStep). Course W id_of u s) _ (quiet (record { home = refl; serial = refl; up = λ k. inl k }) (tt, tt)) (closed refl refl))
 
   pub ping_row : (line : Reading) (bytes : List ℕ) (ps : List (List ℕ)) → Course W id_of u (ping u line bytes ps)
   ping_row line bytes [] = passes u itself line bytes
@@ -192,7 +192,7 @@ module _ (W : Type 0) (id_of : Option (List ℕ)) (u : Connection) where
 
   keeps_made : (line : Reading) (bytes : List ℕ) (m : Message) (at : ℕ) → u.entry.is_up ≡ true → Course W id_of u (keep_made u line bytes m at)
   keeps_made line bytes m at up =
-      either_by (λ (s : Step). Course W id_of u s) (u.serial == LAST_SERIAL) (closes u) (keep_by_id u line bytes m at (made_id u.home u.serial))
+      either_by (λ (s : ServerStep). Course W id_of u s) (u.serial == LAST_SERIAL) (closes u) (keep_by_id u line bytes m at (made_id u.home u.serial))
       (λ h. closed refl refl)
       (λ h. keeps_by_id line bytes m at up (eqb-false u.serial LAST_SERIAL h) (made_id u.home u.serial) refl)
 
@@ -204,7 +204,7 @@ module _ (W : Type 0) (id_of : Option (List ℕ)) (u : Connection) where
   keeps : (now : ℕ) (line : Reading) (bytes : List ℕ) (m : Message) → u.entry.is_up ≡ true → id_of ≡ (stamp_of line.tags now).id
       → Course W id_of u (keep u now line bytes m)
   keeps now line bytes m up is =
-      either (λ (s : Step). Course W id_of u s) (can_be_kept u m)
+      either (λ (s : ServerStep). Course W id_of u s) (can_be_kept u m)
       (keeps_stamped line bytes m (stamp_of line.tags now).id (stamp_of line.tags now).at up is) (passing up itself (tt, tt))
 
   pub message_row : (now : ℕ) (k : Kind) (line : Reading) (bytes : List ℕ) → id_of ≡ (stamp_of line.tags now).id
@@ -212,7 +212,7 @@ module _ (W : Type 0) (id_of : Option (List ℕ)) (u : Connection) where
   message_row now k line bytes is [] = passes u itself line bytes
   message_row now k line bytes is (target ∷ []) = passes u itself line bytes
   message_row now k line bytes is (target ∷ body ∷ more) =
-      either_by (λ (s : Step). Course W id_of u s) u.entry.is_up (keep u now line bytes (message_from u k line target body)) (stays u [])
+      either_by (λ (s : ServerStep). Course W id_of u s) u.entry.is_up (keep u now line bytes (message_from u k line target body)) (stays u [])
       (λ h. keeps now line bytes (message_from u k line target body) h is) (λ h. says [] tt)
 
   redacts : (source target id bytes : List ℕ) → AllByRecursion (IsPassed u.home) (redaction u source target id ++ Relay bytes (Holding MessageRedaction) ∷ [])
@@ -224,7 +224,7 @@ module _ (W : Type 0) (id_of : Option (List ℕ)) (u : Connection) where
   redact_row line bytes [] = passes u itself line bytes
   redact_row line bytes (target ∷ []) = passes u itself line bytes
   redact_row line bytes (target ∷ id ∷ more) =
-      either_by (λ (s : Step). Course W id_of u s) (u.entry.is_up && u.entry.takes_redact)
+      either_by (λ (s : ServerStep). Course W id_of u s) (u.entry.is_up && u.entry.takes_redact)
       (stays u (redaction u (source_of u line.source) target id ++ Relay (relayed_line line.source bytes) (Holding MessageRedaction) ∷ []))
       (stays u (pass_on u line bytes))
       (λ h. passing (and_first u.entry.is_up u.entry.takes_redact h) itself (redacts (source_of u line.source) target id (relayed_line line.source bytes)))
@@ -242,13 +242,13 @@ module _ (W : Type 0) (id_of : Option (List ℕ)) (u : Connection) where
 
   says_kept : (now : ℕ) (text : List ℕ) (m : Message) → u.entry.is_up ≡ true → Course W id_of u (say_kept u now text m)
   says_kept now text m up =
-      either_by (λ (s : Step). Course W id_of u s) (u.serial == LAST_SERIAL) (closes u) (say_by_id u now text m (made_id u.home u.serial))
+      either_by (λ (s : ServerStep). Course W id_of u s) (u.serial == LAST_SERIAL) (closes u) (say_by_id u now text m (made_id u.home u.serial))
       (λ h. closed refl refl)
       (λ h. says_by_id now text m up (eqb-false u.serial LAST_SERIAL h) (made_id u.home u.serial) refl)
 
   says_message : (now : ℕ) (text : List ℕ) (m : Message) → Course W id_of u (say_message u now text m)
   says_message now text m =
-      either_by (λ (s : Step). Course W id_of u s) (is_kept_here u m) (say_kept u now text m) (stays u (send_line text))
+      either_by (λ (s : ServerStep). Course W id_of u s) (is_kept_here u m) (say_kept u now text m) (stays u (send_line text))
       (λ h. says_kept now text m (and_first u.entry.is_up (not u.held.echo_message && can_be_kept u m) h)) (λ h. says (send_line text) (tt, tt))
 
   says_words : (now : ℕ) (text : List ℕ) (k : Kind) (ps : List (List ℕ)) → Course W id_of u (say_words u now text k ps)
@@ -256,7 +256,7 @@ module _ (W : Type 0) (id_of : Option (List ℕ)) (u : Connection) where
   says_words now text k (target ∷ []) = says (send_line text) (tt, tt)
   says_words now text k (target ∷ body ∷ more) = says_message now text (record { kind = k; source = u.entry.nick; target = target; body = body })
 
-  says_command : (now : ℕ) (text : List ℕ) (command : Command) (ps : List (List ℕ)) → Course W id_of u (say_command u now text command ps)
+  says_command : (now : ℕ) (text : List ℕ) (command : ServerCommand) (ps : List (List ℕ)) → Course W id_of u (say_command u now text command ps)
   says_command now text Privmsg ps = says_words now text kind.Privmsg ps
   says_command now text Notice ps = says_words now text kind.Notice ps
   says_command now text Cap ps = says (send_line text) (tt, tt)
@@ -283,7 +283,7 @@ same_id : (tags : Option (List ℕ)) (now : ℕ) → (stamp_of tags 0).id ≡ (s
 same_id None now = refl
 same_id (Some text) now = refl
 
-row : (u : Connection) (now : ℕ) (bytes : List ℕ) (line : Reading) (command : Command)
+row : (u : Connection) (now : ℕ) (bytes : List ℕ) (line : Reading) (command : ServerCommand)
     → Course (command ≡ Welcome) (stamp_of line.tags 0).id u (serve u now bytes line command)
 row u now bytes line Cap = cap_row _ _ u line.parameters
 row u now bytes line Welcome = welcome_row _ _ u refl line.parameters

@@ -19,31 +19,31 @@ use Rattle.upstream_session.specs.declared.connection.Home.{Home}
 use Rattle.upstream_session.specs.declared.connection.Connection.{Connection}
 use Rattle.upstream_session.specs.declared.effect.UpEffect.{UpEffect}
 use Rattle.upstream_session.specs.declared.effect.UpEffect.TheVariants.{Send, Put, Relay, Close}
-use Rattle.upstream_session.specs.Step.{Step, stays, new}
+use Rattle.upstream_session.specs.Step.{ServerStep, stays, new}
 use Rattle.upstream_session.specs.Messages.{made_text, post}
 use Rattle.upstream_session.specs.Sayings.{without_ending, say_line}
 use Rattle.upstream_session.specs.Session.{start, opening, reading_step, step, say}
-use Rattle.upstream_session.specs.Events.{Event, step_by, after, effects_of, run, all_effects, IsOwnChange, IsOwnEffect, IsUnheard, IsWelcome, id_given, IsIdOf, HasPost, ids_made_by, ids_made, HasClose}
+use Rattle.upstream_session.specs.Events.{ServerEvent, step_by, after, effects_of, run, all_effects, IsOwnChange, IsOwnEffect, IsUnheard, IsWelcome, id_given, IsIdOf, HasPost, ids_made_by, ids_made, HasClose}
 use Rattle.upstream_session.specs.Events as event
 use Rattle.upstream_session.proofs.CourseLemmas.{either, either_by, Course, IsSend, IsPassed, IsOwnRedaction, says, line_course, say_course}
 use Rattle.upstream_session.proofs.CourseLemmas as course
 
 -- ---- one event
 
-pub course_of : (u : Connection) (e : Event) → Course (IsWelcome e) (id_given e) u (step_by u e)
+pub course_of : (u : Connection) (e : ServerEvent) → Course (IsWelcome e) (id_given e) u (step_by u e)
 unfolding step say
 course_of u (event.Line now bytes) =
-    either (λ (s : Step). Course (IsWelcome (event.Line now bytes)) (id_given (event.Line now bytes)) u s) u.is_closed
+    either (λ (s : ServerStep). Course (IsWelcome (event.Line now bytes)) (id_given (event.Line now bytes)) u s) u.is_closed
     (says _ _ u [] tt) (line_course u now bytes (read Server bytes))
 course_of u (event.Saying now bytes) =
-    either (λ (s : Step). Course ⊥ None u s) u.is_closed
+    either (λ (s : ServerStep). Course ⊥ None u s) u.is_closed
     (says _ _ u [] tt) (say_course ⊥ None u now (without_ending bytes) (read Client (without_ending bytes)))
 
 closed_choice : {X : Type 0} (b : Bool) (x y : X) → b ≡ true → (if b then x else y) ≡ x
 closed_choice true x y h = refl
 closed_choice false x y h = absurd (cc)
 
-pub closed_step : (u : Connection) (e : Event) → u.is_closed ≡ true → step_by u e ≡ stays u []
+pub closed_step : (u : Connection) (e : ServerEvent) → u.is_closed ≡ true → step_by u e ≡ stays u []
 unfolding step say
 closed_step u (event.Line now bytes) h = closed_choice u.is_closed (stays u []) (reading_step u now bytes (read Server bytes)) h
 closed_step u (event.Saying now bytes) h = closed_choice u.is_closed (stays u []) (say_line u now (without_ending bytes)) h
@@ -88,7 +88,7 @@ passed_is_own home Close h = tt
 abbrev pub AreOwn : Home → List UpEffect → Type 0
 AreOwn home effects = AllByRecursion (IsOwnEffect home) effects
 
-own : (W : Type 0) (id_of : Option (List ℕ)) (u : Connection) (s : Step) → Course W id_of u s → AreOwn u.home s.effects
+own : (W : Type 0) (id_of : Option (List ℕ)) (u : Connection) (s : ServerStep) → Course W id_of u s → AreOwn u.home s.effects
 own W id_of u s (course.quiet same all) = all_map (send_is_own u.home) s.effects all
 own W id_of u s (course.passing up same all) = all_map (passed_is_own u.home) s.effects all
 own W id_of u s (course.kept id at m up is session effects) = all_by (IsOwnEffect u.home) _ _ effects ((refl, refl), tt)
@@ -97,21 +97,21 @@ own W id_of u s (course.made before at m up session more all effects) =
     (all_append (IsOwnEffect u.home) before (post u (made_text u.home u.serial) at m ∷ []) (all_map (send_is_own u.home) before all) ((refl, refl), tt))
 own W id_of u s (course.closed session effects) = all_by (IsOwnEffect u.home) _ _ effects (tt, tt)
 
-same_home : (W : Type 0) (id_of : Option (List ℕ)) (u : Connection) (s : Step) → Course W id_of u s → s.session.home ≡ u.home
+same_home : (W : Type 0) (id_of : Option (List ℕ)) (u : Connection) (s : ServerStep) → Course W id_of u s → s.session.home ≡ u.home
 same_home W id_of u s (course.quiet same all) = same.home
 same_home W id_of u s (course.passing up same all) = same.home
 same_home W id_of u s (course.kept id at m up is session effects) = ap (λ (v : Connection). v.home) session
 same_home W id_of u s (course.made before at m up session more all effects) = ap (λ (v : Connection). v.home) session
 same_home W id_of u s (course.closed session effects) = ap (λ (v : Connection). v.home) session
 
-pub home_after : (u : Connection) (e : Event) → (after u e).home ≡ u.home
+pub home_after : (u : Connection) (e : ServerEvent) → (after u e).home ≡ u.home
 home_after u e = same_home (IsWelcome e) (id_given e) u (step_by u e) (course_of u e)
 
-pub home_run : (u : Connection) (events : List Event) → (run u events).home ≡ u.home
+pub home_run : (u : Connection) (events : List ServerEvent) → (run u events).home ≡ u.home
 home_run u [] = refl
 home_run u (e ∷ events) = home_run (after u e) events ∙ home_after u e
 
-pub own_effects : (u : Connection) (events : List Event) → AreOwn u.home (all_effects u events)
+pub own_effects : (u : Connection) (events : List ServerEvent) → AreOwn u.home (all_effects u events)
 own_effects u [] = tt
 own_effects u (e ∷ events) =
     all_append (IsOwnEffect u.home) (effects_of u e) (all_effects (after u e) events)
@@ -130,21 +130,21 @@ not_up : (b : Bool) → b ≡ false → ¬ (b ≡ true)
 not_up true down up = absurd (cc)
 not_up false down up = absurd (cc)
 
-unheard : (W : Type 0) (id_of : Option (List ℕ)) (u : Connection) (s : Step) → ¬ (u.entry.is_up ≡ true) → Course W id_of u s → AllByRecursion IsUnheard s.effects
+unheard : (W : Type 0) (id_of : Option (List ℕ)) (u : Connection) (s : ServerStep) → ¬ (u.entry.is_up ≡ true) → Course W id_of u s → AllByRecursion IsUnheard s.effects
 unheard W id_of u s down (course.quiet same all) = all_map send_is_unheard s.effects all
 unheard W id_of u s down (course.passing up same all) = absurd (down up)
 unheard W id_of u s down (course.kept id at m up is session effects) = absurd (down up)
 unheard W id_of u s down (course.made before at m up session more all effects) = absurd (down up)
 unheard W id_of u s down (course.closed session effects) = all_by IsUnheard _ _ effects (tt, tt)
 
-stays_down : (W : Type 0) (id_of : Option (List ℕ)) (u : Connection) (s : Step) → ¬ (u.entry.is_up ≡ true) → ¬ W → Course W id_of u s → ¬ (s.session.entry.is_up ≡ true)
+stays_down : (W : Type 0) (id_of : Option (List ℕ)) (u : Connection) (s : ServerStep) → ¬ (u.entry.is_up ≡ true) → ¬ W → Course W id_of u s → ¬ (s.session.entry.is_up ≡ true)
 stays_down W id_of u s down never (course.quiet same all) h = ⊎_elim down never (same.up h)
 stays_down W id_of u s down never (course.passing up same all) h = down up
 stays_down W id_of u s down never (course.kept id at m up is session effects) h = down up
 stays_down W id_of u s down never (course.made before at m up session more all effects) h = down up
 stays_down W id_of u s down never (course.closed session effects) h = down (sym (ap (λ (v : Connection). v.entry.is_up) session) ∙ h)
 
-pub unheard_effects : (u : Connection) (events : List Event) → ¬ (u.entry.is_up ≡ true) → AllByRecursion (λ e. ¬ IsWelcome e) events
+pub unheard_effects : (u : Connection) (events : List ServerEvent) → ¬ (u.entry.is_up ≡ true) → AllByRecursion (λ e. ¬ IsWelcome e) events
     → AllByRecursion IsUnheard (all_effects u events)
 unheard_effects u [] down never = tt
 unheard_effects u (e ∷ events) down never =
@@ -152,7 +152,7 @@ unheard_effects u (e ∷ events) down never =
     (unheard (IsWelcome e) (id_given e) u (step_by u e) down (course_of u e))
     (unheard_effects (after u e) events (stays_down (IsWelcome e) (id_given e) u (step_by u e) down never.0 (course_of u e)) never.1)
 
-pub unheard_from_new : (config : Config) (node : List ℕ) (incarnation first_serial : ℕ) (events : List Event)
+pub unheard_from_new : (config : Config) (node : List ℕ) (incarnation first_serial : ℕ) (events : List ServerEvent)
     → AllByRecursion (λ e. ¬ IsWelcome e) events → AllByRecursion IsUnheard (all_effects (new config node incarnation first_serial) events)
 unheard_from_new config node incarnation first_serial events never =
     unheard_effects (new config node incarnation first_serial) events (not_up false refl) never
@@ -177,7 +177,7 @@ passed_has_id old new id_of (Put c) h = redaction_has_id old new id_of c h
 passed_has_id old new id_of (Relay bytes to) h = tt
 passed_has_id old new id_of Close h = tt
 
-ids : (W : Type 0) (id_of : Option (List ℕ)) (u : Connection) (s : Step) → Course W id_of u s → AllByRecursion (IsIdOf u s.session id_of) s.effects
+ids : (W : Type 0) (id_of : Option (List ℕ)) (u : Connection) (s : ServerStep) → Course W id_of u s → AllByRecursion (IsIdOf u s.session id_of) s.effects
 ids W id_of u s (course.quiet same all) = all_map (send_has_id u s.session id_of) s.effects all
 ids W id_of u s (course.passing up same all) = all_map (passed_has_id u s.session id_of) s.effects all
 ids W id_of u s (course.kept id at m up is session effects) =
@@ -188,7 +188,7 @@ ids W id_of u s (course.made before at m up session more all effects) =
     (inr (refl, ap (λ (v : Connection). v.serial) session), tt))
 ids W id_of u s (course.closed session effects) = all_by (IsIdOf u s.session id_of) _ _ effects (tt, tt)
 
-pub own_ids : (u : Connection) (e : Event) → AllByRecursion (IsIdOf u (after u e) (id_given e)) (effects_of u e)
+pub own_ids : (u : Connection) (e : ServerEvent) → AllByRecursion (IsIdOf u (after u e) (id_given e)) (effects_of u e)
 own_ids u e = ids (IsWelcome e) (id_given e) u (step_by u e) (course_of u e)
 
 has_post : (id : List ℕ) (before : List UpEffect) (u : Connection) (at : ℕ) (m : Message) → AllByRecursion IsSend before → HasPost id (before ++ post u id at m ∷ [])
@@ -199,10 +199,10 @@ has_post id (Relay bytes to ∷ before) u at m all = absurd all.0
 has_post id (Close ∷ before) u at m all = absurd all.0
 
 -- the serial number stays, or is used for a post that was put
-abbrev pub Counts : Connection → Step → Type 0
+abbrev pub Counts : Connection → ServerStep → Type 0
 Counts u s = (s.session.serial ≡ u.serial) ⊎ ((s.session.serial ≡ u.serial + 1) × HasPost (made_text u.home u.serial) s.effects)
 
-counts : (W : Type 0) (id_of : Option (List ℕ)) (u : Connection) (s : Step) → Course W id_of u s → Counts u s
+counts : (W : Type 0) (id_of : Option (List ℕ)) (u : Connection) (s : ServerStep) → Course W id_of u s → Counts u s
 counts W id_of u s (course.quiet same all) = inl same.serial
 counts W id_of u s (course.passing up same all) = inl same.serial
 counts W id_of u s (course.kept id at m up is session effects) = inl (ap (λ (v : Connection). v.serial) session)
@@ -210,14 +210,14 @@ counts W id_of u s (course.made before at m up session more all effects) =
     inr (ap (λ (v : Connection). v.serial) session, subst (λ (l : List UpEffect). HasPost (made_text u.home u.serial) l) (sym effects) (has_post _ before u at m all))
 counts W id_of u s (course.closed session effects) = inl (ap (λ (v : Connection). v.serial) session)
 
-pub counted : (u : Connection) (e : Event) → Counts u (step_by u e)
+pub counted : (u : Connection) (e : ServerEvent) → Counts u (step_by u e)
 counted u e = counts (IsWelcome e) (id_given e) u (step_by u e) (course_of u e)
 
 -- so it never falls
-serial_grows : (u : Connection) (e : Event) → u.serial ≤ (after u e).serial
+serial_grows : (u : Connection) (e : ServerEvent) → u.serial ≤ (after u e).serial
 serial_grows u e = ⊎_elim (λ h. omega (arith, h)) (λ h. omega (arith, h.0)) (counted u e)
 
-no_more : (W : Type 0) (id_of : Option (List ℕ)) (u : Connection) (s : Step) → u.serial ≤ LAST_SERIAL → Course W id_of u s → s.session.serial ≤ LAST_SERIAL
+no_more : (W : Type 0) (id_of : Option (List ℕ)) (u : Connection) (s : ServerStep) → u.serial ≤ LAST_SERIAL → Course W id_of u s → s.session.serial ≤ LAST_SERIAL
 no_more W id_of u s h (course.quiet same all) = subst (λ (n : ℕ). n ≤ LAST_SERIAL) (sym same.serial) h
 no_more W id_of u s h (course.passing up same all) = subst (λ (n : ℕ). n ≤ LAST_SERIAL) (sym same.serial) h
 no_more W id_of u s h (course.kept id at m up is session effects) = subst (λ (v : Connection). v.serial ≤ LAST_SERIAL) (sym session) h
@@ -227,7 +227,7 @@ no_more W id_of u s h (course.made before at m up session more all effects) =
       below_last n last h other = omega (arith, other)
 no_more W id_of u s h (course.closed session effects) = subst (λ (v : Connection). v.serial ≤ LAST_SERIAL) (sym session) h
 
-pub last_serial : (u : Connection) (e : Event) → u.serial ≤ LAST_SERIAL → (after u e).serial ≤ LAST_SERIAL
+pub last_serial : (u : Connection) (e : ServerEvent) → u.serial ≤ LAST_SERIAL → (after u e).serial ≤ LAST_SERIAL
 last_serial u e h = no_more (IsWelcome e) (id_given e) u (step_by u e) h (course_of u e)
 
 -- an id that is made of a serial number from that one on
@@ -263,7 +263,7 @@ apart home n h (id ∷ ids) all = (
 abbrev pub MadeOnce : Connection → List (List ℕ) → Type 0
 MadeOnce u ids = AllByRecursion (IsMadeFrom u.home u.serial) ids × IsDistinct bytes_eq ids
 
-joined_ids : (u : Connection) (e : Event) (more : List (List ℕ)) → u.serial ≤ LAST_SERIAL → MadeOnce (after u e) more → MadeOnce u (ids_made_by u e ++ more)
+joined_ids : (u : Connection) (e : ServerEvent) (more : List (List ℕ)) → u.serial ≤ LAST_SERIAL → MadeOnce (after u e) more → MadeOnce u (ids_made_by u e ++ more)
 unfolding IsDistinct
 joined_ids u e more h rest =
     let home : AllByRecursion (IsMadeFrom u.home (after u e).serial) more =
@@ -277,12 +277,12 @@ joined_ids u e more h rest =
       grown (inl same) other = absurd (other same)
       grown (inr next) other = omega (arith, next.0)
 
-made_once : (u : Connection) (events : List Event) → u.serial ≤ LAST_SERIAL → MadeOnce u (ids_made u events)
+made_once : (u : Connection) (events : List ServerEvent) → u.serial ≤ LAST_SERIAL → MadeOnce u (ids_made u events)
 unfolding IsDistinct
 made_once u [] h = (tt, tt)
 made_once u (e ∷ events) h = joined_ids u e (ids_made (after u e) events) h (made_once (after u e) events (last_serial u e h))
 
-pub once : (u : Connection) (events : List Event) → u.serial ≤ LAST_SERIAL → IsDistinct bytes_eq (ids_made u events)
+pub once : (u : Connection) (events : List ServerEvent) → u.serial ≤ LAST_SERIAL → IsDistinct bytes_eq (ids_made u events)
 once u events h = (made_once u events h).1
 
 -- ---- Close
@@ -308,7 +308,7 @@ post_no_close (Put change ∷ before) u id at m all h = all.0
 post_no_close (Relay bytes to ∷ before) u id at m all h = all.0
 post_no_close (Close ∷ before) u id at m all h = all.0
 
-ends : (W : Type 0) (id_of : Option (List ℕ)) (u : Connection) (s : Step) → Course W id_of u s → HasClose s.effects → s.session.is_closed ≡ true
+ends : (W : Type 0) (id_of : Option (List ℕ)) (u : Connection) (s : ServerStep) → Course W id_of u s → HasClose s.effects → s.session.is_closed ≡ true
 ends W id_of u s (course.quiet same all) h = absurd (send_no_close s.effects all h)
 ends W id_of u s (course.passing up same all) h = absurd (passed_no_close u.home s.effects all h)
 ends W id_of u s (course.kept id at m up is session effects) h = absurd (post_no_close [] u id at m tt (subst HasClose effects h))
@@ -316,19 +316,19 @@ ends W id_of u s (course.made before at m up session more all effects) h =
     absurd (post_no_close before u (made_text u.home u.serial) at m all (subst HasClose effects h))
 ends W id_of u s (course.closed session effects) h = ap (λ (v : Connection). v.is_closed) session
 
-pub closes : (u : Connection) (e : Event) → HasClose (effects_of u e) → (after u e).is_closed ≡ true
+pub closes : (u : Connection) (e : ServerEvent) → HasClose (effects_of u e) → (after u e).is_closed ≡ true
 closes u e h = ends (IsWelcome e) (id_given e) u (step_by u e) (course_of u e) h
 
-pub closed_run : (u : Connection) (events : List Event) → u.is_closed ≡ true → run u events ≡ u
+pub closed_run : (u : Connection) (events : List ServerEvent) → u.is_closed ≡ true → run u events ≡ u
 closed_run u [] h = refl
 closed_run u (e ∷ events) h =
-    let same : after u e ≡ u = ap (λ (s : Step). s.session) (closed_step u e h) in
+    let same : after u e ≡ u = ap (λ (s : ServerStep). s.session) (closed_step u e h) in
     ap (λ (v : Connection). run v events) same ∙ closed_run u events h
 
-pub closed_effects : (u : Connection) (events : List Event) → u.is_closed ≡ true → all_effects u events ≡ []
+pub closed_effects : (u : Connection) (events : List ServerEvent) → u.is_closed ≡ true → all_effects u events ≡ []
 closed_effects u [] h = refl
 closed_effects u (e ∷ events) h =
-    let same : after u e ≡ u = ap (λ (s : Step). s.session) (closed_step u e h) in
-    let none : effects_of u e ≡ [] = ap (λ (s : Step). s.effects) (closed_step u e h) in
+    let same : after u e ≡ u = ap (λ (s : ServerStep). s.session) (closed_step u e h) in
+    let none : effects_of u e ≡ [] = ap (λ (s : ServerStep). s.effects) (closed_step u e h) in
     ap (λ (l : List UpEffect). l ++ all_effects (after u e) events) none
     ∙ ap (λ (v : Connection). all_effects v events) same ∙ closed_effects u events h

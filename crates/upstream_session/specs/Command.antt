@@ -1,8 +1,8 @@
 -- The commands of a server that a session tells apart; they are compared without regard to case.
 use Rattle.std.specs.Prelude.{ℕ, Bool, ◌||◌, List, codes, if◌then◌else◌}
 use Rattle.std.specs.Str.{str_eq_ignore_ascii_case}
-use Rattle.upstream_session.specs.declared.command.Command.{Command}
-use Rattle.upstream_session.specs.declared.command.Command.TheVariants.{Cap, Welcome, Greeting, NickInUse, Ping, Nick, Join, Part, Kick, Error, Privmsg, Notice, Redact, Tagmsg, Other}
+use Rattle.upstream_session.specs.declared.command.ServerCommand.{ServerCommand}
+use Rattle.upstream_session.specs.declared.command.ServerCommand.TheVariants.{Cap, Welcome, Greeting, NickInUse, Ping, Nick, Join, Part, Kick, Error, Privmsg, Notice, Redact, Tagmsg, Other}
 
 -- RPL_YOURHOST, RPL_CREATED, RPL_MYINFO and RPL_ISUPPORT
 abbrev pub is_greeting : List ℕ → Bool
@@ -12,7 +12,7 @@ is_greeting word =
     || (str_eq_ignore_ascii_case word (codes "004")
     || str_eq_ignore_ascii_case word (codes "005")))
 
-abbrev pub command_of : List ℕ → Command
+abbrev pub command_of : List ℕ → ServerCommand
 command_of word =
     if str_eq_ignore_ascii_case word (codes "PRIVMSG") then Privmsg
     else if str_eq_ignore_ascii_case word (codes "NOTICE") then Notice

@@ -8,37 +8,37 @@ use Rattle.chat_change.specs.Buffer.{Buffer}
 use Rattle.chat_change.specs.declared.change.Change.{Change}
 use Rattle.chat_change.specs.declared.change.Change.TheVariants.{Post, Redact, Mark, Floor}
 use Rattle.upstream_session.specs.Command.{command_of}
-use Rattle.upstream_session.specs.declared.command.Command.TheVariants.{Welcome}
+use Rattle.upstream_session.specs.declared.command.ServerCommand.TheVariants.{Welcome}
 use Rattle.upstream_session.specs.declared.connection.Home.{Home}
 use Rattle.upstream_session.specs.declared.connection.Connection.{Connection}
 use Rattle.upstream_session.specs.declared.effect.UpEffect.{UpEffect}
 use Rattle.upstream_session.specs.declared.effect.UpEffect.TheVariants.{Send, Put, Relay, Close}
 use Rattle.upstream_session.specs.Messages.{made_text, stamp_of}
-use Rattle.upstream_session.specs.Step.{Step}
+use Rattle.upstream_session.specs.Step.{ServerStep}
 use Rattle.upstream_session.specs.Session.{step, say}
 
 -- each with its moment
-pub data Event : Type 0 where
-  Line : (now : ℕ) (bytes : List ℕ) → Event
-  Saying : (now : ℕ) (bytes : List ℕ) → Event
+pub data ServerEvent : Type 0 where
+  Line : (now : ℕ) (bytes : List ℕ) → ServerEvent
+  Saying : (now : ℕ) (bytes : List ℕ) → ServerEvent
 
-abbrev pub step_by : Connection → Event → Step
+abbrev pub step_by : Connection → ServerEvent → ServerStep
 step_by u (Line now bytes) = step u now bytes
 step_by u (Saying now bytes) = say u now bytes
 
-abbrev pub after : Connection → Event → Connection
+abbrev pub after : Connection → ServerEvent → Connection
 after u event = (step_by u event).session
 
-abbrev pub effects_of : Connection → Event → List UpEffect
+abbrev pub effects_of : Connection → ServerEvent → List UpEffect
 effects_of u event = (step_by u event).effects
 
 -- the session after a list of events
-abbrev pub run : Connection → List Event → Connection
+abbrev pub run : Connection → List ServerEvent → Connection
 run u [] = u
 run u (event ∷ events) = run (after u event) events
 
 -- all that its caller does for it
-abbrev pub all_effects : Connection → List Event → List UpEffect
+abbrev pub all_effects : Connection → List ServerEvent → List UpEffect
 all_effects u [] = []
 all_effects u (event ∷ events) = effects_of u event ++ all_effects (after u event) events
 
@@ -72,7 +72,7 @@ IsWelcomeRead (Err fault) = ⊥
 IsWelcomeRead (Ok line) = command_of line.command ≡ Welcome
 
 -- the server welcomes the session
-abbrev pub IsWelcome : Event → Type 0
+abbrev pub IsWelcome : ServerEvent → Type 0
 IsWelcome (Line now bytes) = IsWelcomeRead (read Server bytes)
 IsWelcome (Saying now bytes) = ⊥
 
@@ -83,7 +83,7 @@ abbrev pub id_read : Result Reading LineFault → Option (List ℕ)
 id_read (Err fault) = None
 id_read (Ok line) = (stamp_of line.tags 0).id
 
-abbrev pub id_given : Event → Option (List ℕ)
+abbrev pub id_given : ServerEvent → Option (List ℕ)
 id_given (Line now bytes) = id_read (read Server bytes)
 id_given (Saying now bytes) = None
 
@@ -105,12 +105,12 @@ HasPost id (Put (Post r) ∷ effects) = (r.id ≡ id) ⊎ HasPost id effects
 HasPost id (_ ∷ effects) = HasPost id effects
 
 -- the id that an event makes, if its serial number was used
-abbrev pub ids_made_by : Connection → Event → List (List ℕ)
+abbrev pub ids_made_by : Connection → ServerEvent → List (List ℕ)
 ids_made_by u event =
     if (after u event).serial == u.serial then [] else made_text u.home u.serial ∷ []
 
 -- the ids that a session makes in a list of events
-abbrev pub ids_made : Connection → List Event → List (List ℕ)
+abbrev pub ids_made : Connection → List ServerEvent → List (List ℕ)
 ids_made u [] = []
 ids_made u (event ∷ events) = ids_made_by u event ++ ids_made (after u event) events
 

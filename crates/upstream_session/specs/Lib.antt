@@ -9,4 +9,4 @@ pub mod Session
 pub mod Hearers
 pub mod Events
 -- what only the proofs use of the code: how a session goes on
-pub mod Standing
+pub mod MessageOutcome

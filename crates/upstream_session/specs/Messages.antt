@@ -5,11 +5,12 @@ use Rattle.std.specs.Str.{str_eq_ignore_ascii_case}
 use Rattle.std.specs.Fmt.{decimal}
 use Rattle.irc_tags.specs.TagList.{Tag, tag_list, value_at}
 use Rattle.irc_time.specs.Reading.{time_of}
-use Rattle.chat_change.specs.Words.{is_name, is_target, is_id}
+use Rattle.chat_change.specs.Words.{is_id}
 use Rattle.chat_change.specs.Buffer.{buffer_of}
 use Rattle.chat_change.specs.Message.{Message}
 use Rattle.chat_change.specs.Faults.{is_message}
 use Rattle.chat_change.specs.declared.change.Change.TheVariants.{Post}
+use Rattle.chat_page.specs.Scope as scope
 use Rattle.upstream_session.specs.declared.connection.Home.{Home}
 use Rattle.upstream_session.specs.declared.connection.Connection.{Connection}
 use Rattle.upstream_session.specs.declared.messages.Stamp.{Stamp}
@@ -40,7 +41,7 @@ conversation u source target = if is_same_nick target u.entry.nick then nick_of 
 
 -- the conversation has a buffer
 abbrev pub has_buffer : Home → List ℕ → Bool
-has_buffer home target = is_name home.account && (is_name home.network && is_target target)
+has_buffer home target = scope.has_buffer home.account home.network target
 
 -- the message is one that can be kept
 abbrev pub can_be_kept : Connection → Message → Bool

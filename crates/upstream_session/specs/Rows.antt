@@ -13,16 +13,18 @@ use Rattle.chat_change.specs.declared.message.Kind.{Kind}
 use Rattle.chat_change.specs.declared.message.Kind.TheVariants as kind
 use Rattle.chat_change.specs.declared.change.Change.TheVariants as change
 use Rattle.client_directory.specs.Entry.{after_join, after_part}
-use Rattle.upstream_session.specs.declared.command.Command.{Command}
-use Rattle.upstream_session.specs.declared.command.Command.TheVariants.{Cap, Welcome, Greeting, NickInUse, Ping, Nick, Join, Part, Kick, Error, Privmsg, Notice, Redact, Tagmsg, Other}
+use Rattle.upstream_session.specs.declared.command.ServerCommand.{ServerCommand}
+use Rattle.upstream_session.specs.declared.command.ServerCommand.TheVariants.{Cap, Welcome, Greeting, NickInUse, Ping, Nick, Join, Part, Kick, Error, Privmsg, Notice, Redact, Tagmsg, Other}
 use Rattle.upstream_session.specs.declared.connection.TheConstants.{LAST_SERIAL, MOST_TRIES}
 use Rattle.upstream_session.specs.declared.connection.Connection.{Connection}
 use Rattle.upstream_session.specs.declared.effect.UpEffect.{UpEffect}
 use Rattle.upstream_session.specs.declared.effect.UpEffect.TheVariants.{Send, Put, Relay}
 use Rattle.upstream_session.specs.declared.effect.Recipients.TheVariants.{All, Holding}
-use Rattle.upstream_session.specs.Step.{Step, stays, closes}
-use Rattle.upstream_lines.specs.Lines.{nick_line, pong_line, cap_end, join_line, with_underscores, relayed_line}
-use Rattle.upstream_lines.specs.Offers.{parts_of, with_offers, request}
+use Rattle.upstream_session.specs.Step.{ServerStep, stays, closes}
+use Rattle.irc_reply.specs.ToServer.{nick_line, pong_line, cap_end, join_line, with_underscores}
+use Rattle.irc_reply.specs.ToClient.{relayed_line}
+use Rattle.irc_caps.specs.Words.{parts_of}
+use Rattle.irc_caps.specs.Offers.{with_offers, request}
 use Rattle.upstream_session.specs.Messages.{is_same_nick, is_own, source_of, conversation, has_buffer, can_be_kept, stamp_of, made_id, post}
 
 -- ---- lines that are passed on
@@ -37,29 +39,29 @@ pass_on u line bytes = if u.entry.is_up then relay_to_all line bytes else []
 -- ---- CAP
 
 -- `CAP * LS * :names`: more offers are to come
-abbrev pub gather : Connection → List ℕ → Step
+abbrev pub gather : Connection → List ℕ → ServerStep
 gather u list = stays (record u { offered = with_offers u.offered (parts_of list) }) []
 
 -- `CAP * LS :names`: these are the last
-abbrev pub ask : Connection → List ℕ → Step
+abbrev pub ask : Connection → List ℕ → ServerStep
 ask u list =
     let offered = with_offers u.offered (parts_of list) in
     stays (record u { offered = offered }) (Send (request offered) ∷ [])
 
 -- without a list nothing is offered
-abbrev pub ls : Connection → List (List ℕ) → Step
+abbrev pub ls : Connection → List (List ℕ) → ServerStep
 ls u (first ∷ list ∷ more) = if bytes_eq first (codes "*") then gather u list else ask u first
 ls u parameters = ask u (list_in parameters)
 
 -- `CAP * ACK :names`: each name is held now, and each that `-` stands before isn't
-abbrev pub ack : Connection → List ℕ → Step
+abbrev pub ack : Connection → List ℕ → ServerStep
 ack u list =
     let held = with_words u.held (parts_of list) in
     stays
     (record u { held = held; entry = record u.entry { takes_redact = held.message_redaction } })
     (Send cap_end ∷ [])
 
-abbrev pub cap : Connection → List (List ℕ) → Step
+abbrev pub cap : Connection → List (List ℕ) → ServerStep
 cap u (nick ∷ subcommand ∷ more) =
     if str_eq_ignore_ascii_case subcommand (codes "LS") then ls u more
     else if str_eq_ignore_ascii_case subcommand (codes "ACK") then ack u (list_in more)
@@ -87,24 +89,24 @@ joins [] = []
 joins (channel ∷ channels) = Send (join_line channel) ∷ joins channels
 
 -- 001 (RPL_WELCOME)
-abbrev pub welcome : Connection → List (List ℕ) → Step
+abbrev pub welcome : Connection → List (List ℕ) → ServerStep
 welcome u parameters =
     stays (with_network_up (with_nick u (first_target parameters))) (joins u.home.channels)
 
 -- 433 (ERR_NICKNAMEINUSE) before 001: another nick is tried, three times
-abbrev pub try_again : Connection → Step
+abbrev pub try_again : Connection → ServerStep
 try_again u =
     if nat_lt u.tries MOST_TRIES
     then stays (record u { tries = u.tries + 1 })
     (Send (nick_line (with_underscores u.entry.nick (u.tries + 1))) ∷ [])
     else closes u
 
-abbrev pub nick_in_use : Connection → Reading → List ℕ → Step
+abbrev pub nick_in_use : Connection → Reading → List ℕ → ServerStep
 nick_in_use u line bytes = if u.entry.is_up then stays u (relay_to_all line bytes) else try_again u
 
 -- ---- PING
 
-abbrev pub ping : Connection → Reading → List ℕ → List (List ℕ) → Step
+abbrev pub ping : Connection → Reading → List ℕ → List (List ℕ) → ServerStep
 ping u line bytes [] = stays u (pass_on u line bytes)
 ping u line bytes (word ∷ more) = stays u (Send (pong_line word) ∷ [])
 
@@ -129,30 +131,30 @@ abbrev pub is_up_and_own : Connection → Reading → Bool
 is_up_and_own u line = u.entry.is_up && is_own u (source_of u line.source)
 
 -- NICK
-abbrev pub nick : Connection → Reading → List ℕ → Step
+abbrev pub nick : Connection → Reading → List ℕ → ServerStep
 nick u line bytes =
     stays (if is_up_and_own u line then with_nick u (first_target line.parameters) else u)
     (pass_on u line bytes)
 
 -- JOIN
-abbrev pub join : Connection → Reading → List ℕ → Step
+abbrev pub join : Connection → Reading → List ℕ → ServerStep
 join u line bytes =
     stays (if is_up_and_own u line then join_if u (first_target line.parameters) else u)
     (pass_on u line bytes)
 
 -- PART
-abbrev pub part : Connection → Reading → List ℕ → Step
+abbrev pub part : Connection → Reading → List ℕ → ServerStep
 part u line bytes =
     stays (if is_up_and_own u line then leave u line.parameters else u) (pass_on u line bytes)
 
 -- KICK, whose second parameter says who is put out
-abbrev pub kick : Connection → Reading → List ℕ → Step
+abbrev pub kick : Connection → Reading → List ℕ → ServerStep
 kick u line bytes =
     stays (if u.entry.is_up then put_out u line.parameters else u) (pass_on u line bytes)
 
 -- ---- PRIVMSG and NOTICE
 
-abbrev pub keep_by_id : Connection → Reading → List ℕ → Message → ℕ → Option (List ℕ) → Step
+abbrev pub keep_by_id : Connection → Reading → List ℕ → Message → ℕ → Option (List ℕ) → ServerStep
 keep_by_id u line bytes m at None = stays u (relay_to_all line bytes)
 keep_by_id u line bytes m at (Some id) = record {
   session = record u { serial = u.serial + 1 };
@@ -160,16 +162,16 @@ keep_by_id u line bytes m at (Some id) = record {
 }
 
 -- A message without an id of its own gets one that this node makes, unless the serial numbers are used up.
-abbrev pub keep_made : Connection → Reading → List ℕ → Message → ℕ → Step
+abbrev pub keep_made : Connection → Reading → List ℕ → Message → ℕ → ServerStep
 keep_made u line bytes m at =
     if u.serial == LAST_SERIAL then closes u
     else keep_by_id u line bytes m at (made_id u.home u.serial)
 
-abbrev pub keep_stamped : Connection → Reading → List ℕ → Message → Option (List ℕ) → ℕ → Step
+abbrev pub keep_stamped : Connection → Reading → List ℕ → Message → Option (List ℕ) → ℕ → ServerStep
 keep_stamped u line bytes m None at = keep_made u line bytes m at
 keep_stamped u line bytes m (Some id) at = stays u (post u id at m ∷ [])
 
-abbrev pub keep : Connection → ℕ → Reading → List ℕ → Message → Step
+abbrev pub keep : Connection → ℕ → Reading → List ℕ → Message → ServerStep
 keep u now line bytes m =
     let stamp = stamp_of line.tags now in
     if can_be_kept u m
@@ -180,7 +182,7 @@ abbrev pub message_from : Connection → Kind → Reading → List ℕ → List 
 message_from u kind line target body =
     record { kind = kind; source = source_of u line.source; target = target; body = body }
 
-abbrev pub message : Connection → ℕ → Kind → Reading → List ℕ → List (List ℕ) → Step
+abbrev pub message : Connection → ℕ → Kind → Reading → List ℕ → List (List ℕ) → ServerStep
 message u now kind line bytes (target ∷ body ∷ more) =
     if u.entry.is_up
     then keep u now line bytes (message_from u kind line target body)
@@ -196,7 +198,7 @@ redaction u source target id =
     then Put (change.Redact (buffer_of u.home.account u.home.network talk) id None) ∷ []
     else []
 
-abbrev pub redact : Connection → Reading → List ℕ → List (List ℕ) → Step
+abbrev pub redact : Connection → Reading → List ℕ → List (List ℕ) → ServerStep
 redact u line bytes (target ∷ id ∷ more) =
     if u.entry.is_up && u.entry.takes_redact
     then stays u (redaction u (source_of u line.source) target id
@@ -206,7 +208,7 @@ redact u line bytes parameters = stays u (pass_on u line bytes)
 
 -- ---- the table
 
-abbrev pub serve : Connection → ℕ → List ℕ → Reading → Command → Step
+abbrev pub serve : Connection → ℕ → List ℕ → Reading → ServerCommand → ServerStep
 serve u now bytes line Cap = cap u line.parameters
 serve u now bytes line Welcome = welcome u line.parameters
 serve u now bytes line Greeting = stays u []

@@ -8,8 +8,8 @@ use Rattle.upstream_session.specs.Command.{command_of}
 use Rattle.upstream_session.specs.declared.connection.Connection.{Connection}
 use Rattle.upstream_session.specs.declared.effect.UpEffect.{UpEffect}
 use Rattle.upstream_session.specs.declared.effect.UpEffect.TheVariants.{Send}
-use Rattle.upstream_session.specs.Step.{Step, stays}
-use Rattle.upstream_lines.specs.Lines.{ls_line, nick_line, user_line}
+use Rattle.upstream_session.specs.Step.{ServerStep, stays}
+use Rattle.irc_reply.specs.ToServer.{ls_line, nick_line, user_line}
 use Rattle.upstream_session.specs.Rows.{serve}
 use Rattle.upstream_session.specs.Sayings.{without_ending, say_line}
 
@@ -22,15 +22,15 @@ abbrev pub start : Connection → List UpEffect
 start u = if u.is_closed then [] else opening u
 
 -- a line that can't be read is dropped
-abbrev pub reading_step : Connection → ℕ → List ℕ → Result Reading LineFault → Step
+abbrev pub reading_step : Connection → ℕ → List ℕ → Result Reading LineFault → ServerStep
 reading_step u now bytes (Err fault) = stays u []
 reading_step u now bytes (Ok line) = serve u now bytes line (command_of line.command)
 
 -- what a line of the server comes to, at that moment
-unfoldable pub step : Connection → ℕ → List ℕ → Step
+unfoldable pub step : Connection → ℕ → List ℕ → ServerStep
 step u now bytes =
     if u.is_closed then stays u [] else reading_step u now bytes (read Server bytes)
 
 -- what a line of a client comes to, at that moment
-unfoldable pub say : Connection → ℕ → List ℕ → Step
+unfoldable pub say : Connection → ℕ → List ℕ → ServerStep
 say u now bytes = if u.is_closed then stays u [] else say_line u now (without_ending bytes)

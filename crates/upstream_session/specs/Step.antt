@@ -7,15 +7,15 @@ use Rattle.upstream_session.specs.declared.effect.UpEffect.{UpEffect}
 use Rattle.upstream_session.specs.declared.effect.UpEffect.TheVariants.{Close}
 
 -- the session after a line, and what its caller does, in this order
-pub record Step : Type 0 where
+pub record ServerStep : Type 0 where
   pub session : Connection
   pub effects : List UpEffect
 
-abbrev pub stays : Connection → List UpEffect → Step
+abbrev pub stays : Connection → List UpEffect → ServerStep
 stays u effects = record { session = u; effects = effects }
 
 -- the session is over
-abbrev pub closes : Connection → Step
+abbrev pub closes : Connection → ServerStep
 closes u = record { session = record u { is_closed = true }; effects = Close ∷ [] }
 
 -- The network isn't up yet, its present nick is the configured one, and it is in no channel.

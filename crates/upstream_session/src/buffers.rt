@@ -1,10 +1,12 @@
 //! The buffers of a session's conversations.
-ghost use Rattle.std.specs.Prelude.{◌≡◌, ◌<◌, IfOk, IfSome, IsTrue};
+ghost use Rattle.std.specs.Prelude.{◌≡◌, ◌<◌, true, IfOk, IfSome, IsTrue};
 ghost use Rattle.chat_change.specs.Buffer.{buffer_of};
+ghost use Rattle.upstream_session.specs.Messages.{has_buffer};
 
 use crate::connection::Home;
+use byte_text::NoMemory;
 use chat_change::Buffer;
-use memory::NoMemory;
+use chat_page::lawful_buffer;
 use std::alloc::{AllocError, Global};
 use std::array;
 
@@ -15,7 +17,7 @@ const PLACES: usize = 64;
 ///
 /// The target of a conversation tells its place. Of two with one place the later has it.
 #[derive(Drop)]
-pub(crate) struct Buffers {
+pub(crate) struct KnownBuffers {
     places: [Option<Buffer>; PLACES],
 }
 
@@ -39,22 +41,10 @@ fn is_buffer_of(buffer: &Buffer, home: &Home, target: &[u8]) -> bool
         && buffer.network() == home.network.as_bytes()
 }
 
-fn new_buffer(alloc: Global, home: &Home, target: &[u8]) -> Result<Buffer, NoMemory>
-    ensures { IfOk result (λ buffer. buffer
-        ≡ buffer_of home.now.account home.now.network target.now) }
-{
-    let account = home.account.as_bytes();
-    match Buffer::new(alloc, account, home.network.as_bytes(), target) {
-        // The conversation has a buffer, so it is memory that is wanted.
-        Err(_) => Err(NoMemory),
-        Ok(buffer) => Ok(buffer),
-    }
-}
-
-impl Buffers {
+impl KnownBuffers {
     /// No buffers yet.
-    pub(crate) fn none() -> Buffers {
-        Buffers {
+    pub(crate) fn none() -> KnownBuffers {
+        KnownBuffers {
             places: array::from_fn(|_| None),
         }
     }
@@ -74,7 +64,7 @@ impl Buffers {
         }
     }
 
-    /// The buffer of a conversation, which is known to have one. It takes memory where the place of the conversation has
+    /// The buffer of a conversation that has one. It takes memory where the place of the conversation has
     /// another.
     pub(crate) fn buffer_for(
         &mut self,
@@ -82,6 +72,7 @@ impl Buffers {
         home: &Home,
         target: &[u8],
     ) -> Result<Buffer, NoMemory>
+        requires { has_buffer home.now target.now ≡ true }
         ensures { IfOk result (λ buffer. buffer
             ≡ buffer_of home.now.account home.now.network target.now) }
     {
@@ -89,7 +80,8 @@ impl Buffers {
         if let Some(buffer) = self.held(place, home, target)? {
             return Ok(buffer);
         }
-        let buffer = new_buffer(alloc, home, target)?;
+        let account = home.account.as_bytes();
+        let buffer = lawful_buffer(alloc, account, home.network.as_bytes(), target)?;
         let kept = buffer.try_clone()?;
         self.places[place] = Some(kept);
         Ok(buffer)

@@ -3,7 +3,7 @@ ghost use Rattle.std.specs.Prelude.{◌≡◌};
 ghost use Rattle.upstream_session.specs.Command as spec;
 
 #[derive(Clone, Copy)]
-pub(crate) enum Command {
+pub(crate) enum ServerCommand {
     Cap,
     Welcome,
     Greeting,
@@ -31,38 +31,38 @@ fn is_greeting(word: &[u8]) -> bool
 }
 
 /// The command of that word, which is compared without regard to case.
-pub(crate) fn command_of(word: &[u8]) -> Command
+pub(crate) fn command_of(word: &[u8]) -> ServerCommand
     ensures { result ≡ spec.command_of word.now }
 {
     if word.eq_ignore_ascii_case(b"PRIVMSG") {
-        Command::Privmsg
+        ServerCommand::Privmsg
     } else if word.eq_ignore_ascii_case(b"NOTICE") {
-        Command::Notice
+        ServerCommand::Notice
     } else if word.eq_ignore_ascii_case(b"CAP") {
-        Command::Cap
+        ServerCommand::Cap
     } else if word.eq_ignore_ascii_case(b"001") {
-        Command::Welcome
+        ServerCommand::Welcome
     } else if is_greeting(word) {
-        Command::Greeting
+        ServerCommand::Greeting
     } else if word.eq_ignore_ascii_case(b"433") {
-        Command::NickInUse
+        ServerCommand::NickInUse
     } else if word.eq_ignore_ascii_case(b"PING") {
-        Command::Ping
+        ServerCommand::Ping
     } else if word.eq_ignore_ascii_case(b"NICK") {
-        Command::Nick
+        ServerCommand::Nick
     } else if word.eq_ignore_ascii_case(b"JOIN") {
-        Command::Join
+        ServerCommand::Join
     } else if word.eq_ignore_ascii_case(b"PART") {
-        Command::Part
+        ServerCommand::Part
     } else if word.eq_ignore_ascii_case(b"KICK") {
-        Command::Kick
+        ServerCommand::Kick
     } else if word.eq_ignore_ascii_case(b"ERROR") {
-        Command::Error
+        ServerCommand::Error
     } else if word.eq_ignore_ascii_case(b"REDACT") {
-        Command::Redact
+        ServerCommand::Redact
     } else if word.eq_ignore_ascii_case(b"TAGMSG") {
-        Command::Tagmsg
+        ServerCommand::Tagmsg
     } else {
-        Command::Other
+        ServerCommand::Other
     }
 }

@@ -1,7 +1,7 @@
 //! How a session is configured.
 ghost use Rattle.std.specs.Prelude.{◌≡◌, List, ℕ};
 
-use memory::Text;
+use byte_text::Text;
 use std::marker::Model;
 
 /// Names of channels, in their order. Contracts see them as their list.

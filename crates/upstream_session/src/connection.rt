@@ -1,11 +1,11 @@
 //! What a session with a server keeps.
 ghost use Rattle.std.specs.Prelude.{◌≡◌};
-ghost use Rattle.upstream_session.specs.Standing.{after};
+ghost use Rattle.upstream_session.specs.MessageOutcome.{after};
 
 use crate::config::Channels;
+use byte_text::Text;
 use client_directory::Entry;
 use irc_caps::CapSet;
-use memory::Text;
 
 /// The serial number at which a session ends.
 pub(crate) const LAST_SERIAL: u64 = 18_446_744_073_709_551_615;
@@ -42,7 +42,7 @@ pub(crate) struct Connection {
 
 /// How a session goes on after a message.
 #[derive(Clone, Copy)]
-pub(crate) enum Standing {
+pub(crate) enum MessageOutcome {
     Stays,
     /// An id was made, and that is the next serial number.
     Counts(u64),
@@ -51,13 +51,13 @@ pub(crate) enum Standing {
 
 impl Connection {
     /// The session goes on so.
-    pub(crate) fn go_on(&mut self, standing: Standing)
-        ensures { self.new ≡ after standing self.old }
+    pub(crate) fn go_on(&mut self, outcome: MessageOutcome)
+        ensures { self.new ≡ after outcome self.old }
     {
-        match standing {
-            Standing::Stays => {}
-            Standing::Counts(next) => self.serial = next,
-            Standing::Closes => self.is_closed = true,
+        match outcome {
+            MessageOutcome::Stays => {}
+            MessageOutcome::Counts(next) => self.serial = next,
+            MessageOutcome::Closes => self.is_closed = true,
         }
     }
 }

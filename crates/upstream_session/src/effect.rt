@@ -1,7 +1,7 @@
 //! What a session with a server asks its caller to do.
+use byte_text::Text;
 use chat_change::Change;
 use irc_caps::Capability;
-use memory::Text;
 
 /// Which sessions of the account and the network a line is passed on to.
 #[derive(Clone, Copy)]

@@ -3,7 +3,7 @@ ghost use Rattle.std.specs.Prelude.{◌≡◌, ◌++◌, ◌∷◌, [], IfOk};
 ghost use Rattle.upstream_session.specs.declared.effect.UpEffect.TheVariants as effects;
 
 use crate::effect::UpEffect;
-use memory::{NoMemory, Text};
+use byte_text::{NoMemory, Text};
 use std::alloc::{AllocError, Global};
 
 fn list_of(alloc: Global, effect: UpEffect) -> Result<Vec<UpEffect>, AllocError>

@@ -1,6 +1,5 @@
 //! Which sessions of clients hear of what comes from a server.
 ghost use Rattle.std.specs.Prelude.{◌≡◌};
-ghost use Rattle.std.specs.Str.{bytes_eq};
 ghost use Rattle.upstream_session.specs.Hearers as spec;
 
 use crate::effect::Recipients;
@@ -8,16 +7,10 @@ use crate::messages::{is_same_nick, nick_of};
 use chat_batch::Facts;
 use chat_change::Record;
 
-fn is_same(a: &[u8], b: &[u8]) -> bool
-    ensures { result ≡ bytes_eq a.now b.now }
-{
-    a == b
-}
-
 fn is_of(account: &[u8], network: &[u8], facts: &Facts) -> bool
     ensures { result ≡ spec.is_of account.now network.now facts.now }
 {
-    is_same(facts.account.as_bytes(), account) && is_same(facts.network.as_bytes(), network)
+    facts.account.as_bytes() == account && facts.network.as_bytes() == network
 }
 
 /// Whether a message is from that nick, which is compared without regard to case.

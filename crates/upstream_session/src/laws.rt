@@ -8,7 +8,7 @@ ghost use Rattle.upstream_session.specs.Hearers.{is_from, hears_message};
 ghost use Rattle.upstream_session.specs.Messages.{made_text};
 ghost use Rattle.upstream_session.specs.Step.{new};
 ghost use Rattle.upstream_session.specs.Session.{start};
-ghost use Rattle.upstream_session.specs.Events.{Event, after, effects_of, run, all_effects, IsOwnEffect, IsUnheard, IsWelcome, id_given, IsIdOf, HasPost, ids_made, HasClose};
+ghost use Rattle.upstream_session.specs.Events.{ServerEvent, after, effects_of, run, all_effects, IsOwnEffect, IsUnheard, IsWelcome, id_given, IsIdOf, HasPost, ids_made, HasClose};
 ghost use Rattle.upstream_session.specs.declared.config.Config.{Config};
 ghost use Rattle.upstream_session.specs.declared.connection.Connection.{Connection};
 ghost use Rattle.upstream_session.specs.declared.connection.TheConstants.{LAST_SERIAL};
@@ -16,40 +16,40 @@ ghost use Rattle.upstream_session.specs.declared.connection.TheConstants.{LAST_S
 /// A session changes the past of its own account and network alone: each change that it puts is a post or a redaction in a
 /// buffer of these, and they never change.
 pub fn changes_are_its_own()
-    ensures puts { (u : Connection) (events : List Event)
+    ensures puts { (u : Connection) (events : List ServerEvent)
         → AllByRecursion (IsOwnEffect u.home) (all_effects u events) }
-    ensures same { (u : Connection) (events : List Event) → (run u events).home ≡ u.home }
+    ensures same { (u : Connection) (events : List ServerEvent) → (run u events).home ≡ u.home }
 {}
 
 /// No id is made twice. A post has the id that its line bears, or one that is made of the serial number. The serial number
 /// rises by one for each id that is made and put, never else, and its last value is never passed. So all ids that a
 /// session makes are different.
 pub fn ids_are_made_once()
-    ensures each { (u : Connection) (event : Event)
+    ensures each { (u : Connection) (event : ServerEvent)
         → AllByRecursion (IsIdOf u (after u event) (id_given event)) (effects_of u event) }
-    ensures counted { (u : Connection) (event : Event) → ((after u event).serial ≡ u.serial)
+    ensures counted { (u : Connection) (event : ServerEvent) → ((after u event).serial ≡ u.serial)
         ⊎ (((after u event).serial ≡ u.serial + 1)
         × HasPost (made_text u.home u.serial) (effects_of u event)) }
-    ensures last { (u : Connection) (event : Event)
+    ensures last { (u : Connection) (event : ServerEvent)
         → u.serial ≤ LAST_SERIAL → (after u event).serial ≤ LAST_SERIAL }
-    ensures once { (u : Connection) (events : List Event)
+    ensures once { (u : Connection) (events : List ServerEvent)
         → u.serial ≤ LAST_SERIAL → IsDistinct bytes_eq (ids_made u events) }
 {}
 
 /// Until the server has welcomed a new session (001), nothing is put and nothing is passed on.
 pub fn nothing_is_heard_before_the_welcome()
-    ensures { (config : Config) (node : List ℕ) (incarnation first_serial : ℕ) (events : List Event)
+    ensures { (config : Config) (node : List ℕ) (incarnation first_serial : ℕ) (events : List ServerEvent)
         → AllByRecursion (λ e. ¬ IsWelcome e) events
         → AllByRecursion IsUnheard (all_effects (new config node incarnation first_serial) events) }
 {}
 
 /// After Close there are no effects, and nothing changes.
 pub fn nothing_follows_close()
-    ensures closed { (u : Connection) (event : Event)
+    ensures closed { (u : Connection) (event : ServerEvent)
         → HasClose (effects_of u event) → (after u event).is_closed ≡ true }
-    ensures stays { (u : Connection) (events : List Event)
+    ensures stays { (u : Connection) (events : List ServerEvent)
         → u.is_closed ≡ true → run u events ≡ u }
-    ensures silent { (u : Connection) (events : List Event)
+    ensures silent { (u : Connection) (events : List ServerEvent)
         → u.is_closed ≡ true → all_effects u events ≡ [] }
     ensures start { (u : Connection) → u.is_closed ≡ true → start u ≡ [] }
 {}

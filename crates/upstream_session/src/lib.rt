@@ -1,11 +1,9 @@
 //! The session with the server of a network: registration, capabilities, and what each line of the server and each line
 //! for it comes to (RFC 2812, sections 3 and 5; IRCv3 capability negotiation, message-tags, server-time, echo-message and
-//! draft/message-redaction).
-//!
-//! An [`Upstream`] is a value and reads nothing. Each [`step`](Upstream::step) takes a line of the server, each
-//! [`say`](Upstream::say) a line of a client, with the moment, and gives the [`UpEffect`]s that its caller carries out in
-//! their order: lines to the server, changes to take, and lines to pass on to the clients. Who of these hears what is
-//! told by [`is_from`], [`hears_message`] and [`hears_line`].
+//! draft/message-redaction). It stands on the lines of `irc_reply`, the capabilities of `irc_caps` and the changes of
+//! `chat_change`. An [`Upstream`] is a value and reads nothing. Read [`step`](Upstream::step) first: it takes a line of the
+//! server and the moment, and gives the [`UpEffect`]s that its caller carries out in their order; [`say`](Upstream::say)
+//! takes a line of a client. Who of the clients hears what is told by [`hears_message`] and [`hears_line`].
 #![tactic(auto)]
 
 mod buffers;
@@ -22,11 +20,11 @@ mod sayings;
 mod scratch;
 mod upstream;
 
+pub use byte_text::{NoMemory, Text};
 pub use chat_batch::Facts;
 pub use client_directory::Entry;
 pub use config::{Channels, Config};
 pub use effect::{Recipients, UpEffect};
 pub use hearers::{hears_line, hears_message, is_from};
 pub use irc_caps::Capability;
-pub use memory::{NoMemory, Text};
 pub use upstream::Upstream;

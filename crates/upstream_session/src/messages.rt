@@ -1,5 +1,5 @@
 //! What a session makes of a message: its source, the conversation that it belongs to, its id and its moment.
-ghost use Rattle.std.specs.Prelude.{◌≡◌, ◌<◌, ◌++◌, codes, length, map, unwrap_or, IfOk, OnOk, OnErr};
+ghost use Rattle.std.specs.Prelude.{◌≡◌, ◌<◌, ◌++◌, codes, length, map, unwrap_or, true, IfOk, OnOk, OnErr};
 ghost use Rattle.std.specs.Option.{option_copied};
 ghost use Rattle.std.specs.Fmt.{decimal};
 ghost use Rattle.chat_change.specs.Message.{value_of};
@@ -10,13 +10,11 @@ use crate::connection::{Connection, Home};
 use crate::effect::UpEffect;
 use crate::scratch::Scratch;
 use arrayvec::{ArrayVec, CapacityError};
-use byte_search::find_byte;
-use chat_change::{
-    Change, ID_LIMIT, Message, Moment, MsgId, Record, is_id, is_message, is_name, is_target,
-};
+use byte_text::{NoMemory, find_byte};
+use chat_change::{Change, ID_LIMIT, Message, Moment, MsgId, Record, is_id, is_message};
+use chat_page::lawful_id;
 use irc_tags::find_tag;
 use irc_time::read_time;
-use memory::NoMemory;
 use std::alloc::Global;
 
 /// The id and the moment that a message bears.
@@ -50,11 +48,8 @@ fn id_of(alloc: Global, text: &[u8]) -> Result<Option<MsgId>, NoMemory>
     if !is_id(text) {
         return Ok(None);
     }
-    match MsgId::new(alloc, text) {
-        Ok(id) => Ok(Some(id)),
-        // The text is an id, so it is memory that is wanted.
-        Err(_) => Err(NoMemory),
-    }
+    let id = lawful_id(alloc, text)?;
+    Ok(Some(id))
 }
 
 ghost use Rattle.std.specs.Prelude.{Some};
@@ -142,7 +137,7 @@ pub(crate) fn made_id(alloc: Global, home: &Home, serial: u64) -> Result<Option<
 pub(crate) fn has_buffer(home: &Home, target: &[u8]) -> bool
     ensures { result ≡ spec.has_buffer home.now target.now }
 {
-    is_name(home.account.as_bytes()) && is_name(home.network.as_bytes()) && is_target(target)
+    chat_page::has_buffer(home.account.as_bytes(), home.network.as_bytes(), target)
 }
 
 impl Connection {
@@ -191,13 +186,13 @@ impl Connection {
         at: Moment,
         message: Message<'_>,
     ) -> Result<UpEffect, NoMemory>
+        requires { spec.can_be_kept self.now (value_of message) ≡ true }
         ensures { IfOk result (λ effect. effect
             ≡ spec.post self.now id at (value_of message.entry)) }
     {
         let talk = self.conversation(message.source, message.target);
         let buffer = scratch.buffers.buffer_for(alloc, &self.home, talk)?;
         match Record::new(alloc, buffer, id, at, message) {
-            // The message was tested before, so it is memory that is wanted.
             Err(_) => Err(NoMemory),
             Ok(record) => Ok(UpEffect::Put(Change::Post(record))),
         }

@@ -1,30 +1,30 @@
 //! What each line of a server comes to.
-ghost use Rattle.std.specs.Prelude.{◌≡◌, ◌++◌, ◌∷◌, [], take, drop, map, length, IfOk, OnErr, if◌then◌else◌};
+ghost use Rattle.std.specs.Prelude.{◌≡◌, ◌++◌, ◌∷◌, [], take, drop, map, length, true, IfOk, OnErr, if◌then◌else◌};
 ghost use Rattle.std.specs.Option.{option_copied};
 ghost use Rattle.std.specs.Str.{bytes_eq};
 ghost use Rattle.irc_caps.specs.Negotiation.{list_in};
 ghost use Rattle.chat_change.specs.Message.{value_of};
-ghost use Rattle.upstream_lines.specs.Lines as lines;
+ghost use Rattle.chat_change.specs.Words as words;
+ghost use Rattle.upstream_session.specs.Messages as messages;
+ghost use Rattle.irc_reply.specs.ToServer as lines;
 ghost use Rattle.upstream_session.specs.Rows as spec;
-ghost use Rattle.upstream_session.specs.Standing.{after};
+ghost use Rattle.upstream_session.specs.MessageOutcome.{after};
 ghost use Rattle.upstream_session.specs.declared.effect.UpEffect.TheVariants as effects;
 
-use crate::command::{Command, command_of};
-use crate::connection::{Connection, LAST_SERIAL, MOST_TRIES, Standing};
+use crate::command::{ServerCommand, command_of};
+use crate::connection::{Connection, LAST_SERIAL, MOST_TRIES, MessageOutcome};
 use crate::effect::{Recipients, UpEffect};
 use crate::effects::{one, push, send};
 use crate::messages::{Stamp, has_buffer, is_same_nick, made_id, stamp_of};
 use crate::scratch::Scratch;
-use chat_change::{Change, Kind, Message, Moment, MsgId, is_id, is_target};
-use client_replies::nick_line;
-use irc_caps::Capability;
+use byte_text::{NoMemory, Text};
+use chat_change::{Change, Kind, Message, Moment, is_id, is_target};
+use chat_page::lawful_id;
+use irc_caps::{Capability, request, with_acknowledged, with_offers};
 use irc_line::Line;
-use memory::{NoMemory, Text};
+use irc_reply::to_client::relayed_line;
+use irc_reply::to_server::{cap_end, join_line, nick_line, pong_line, with_underscores};
 use std::alloc::Global;
-use upstream_lines::{
-    cap_end, join_line, pong_line, relayed_line, request, with_acknowledged, with_offers,
-    with_underscores,
-};
 
 fn is_star(word: &[u8]) -> bool
     ensures { result ≡ bytes_eq word.now (codes "*") }
@@ -418,23 +418,24 @@ impl Connection {
         bytes: &[u8],
         message: Message<'_>,
         at: Moment,
-    ) -> Result<(Standing, Vec<UpEffect>), NoMemory>
+    ) -> Result<(MessageOutcome, Vec<UpEffect>), NoMemory>
+        requires { messages.can_be_kept self.now (value_of message) ≡ true }
         ensures { IfOk result (λ r. record { session = after r.0 self.now; effects = r.1.items }
             ≡ spec.keep_made self.now line.now bytes.now (value_of message.entry) at) }
     {
         if self.serial == LAST_SERIAL {
             let list = one(alloc, UpEffect::Close)?;
-            return Ok((Standing::Closes, list));
+            return Ok((MessageOutcome::Closes, list));
         }
         match made_id(alloc, &self.home, self.serial)? {
             None => {
                 let list = relay_to_all(alloc, scratch, line, bytes)?;
-                Ok((Standing::Stays, list))
+                Ok((MessageOutcome::Stays, list))
             }
             Some(id) => {
                 let post = self.post(alloc, scratch, id, at, message)?;
                 let list = scratch.one(alloc, post)?;
-                Ok((Standing::Counts(self.serial + 1), list))
+                Ok((MessageOutcome::Counts(self.serial + 1), list))
             }
         }
     }
@@ -447,7 +448,8 @@ impl Connection {
         bytes: &[u8],
         message: Message<'_>,
         stamp: Stamp,
-    ) -> Result<(Standing, Vec<UpEffect>), NoMemory>
+    ) -> Result<(MessageOutcome, Vec<UpEffect>), NoMemory>
+        requires { messages.can_be_kept self.now (value_of message) ≡ true }
         ensures { IfOk result (λ r. record { session = after r.0 self.now; effects = r.1.items }
             ≡ spec.keep_stamped self.now line.now bytes.now (value_of message.entry)
             stamp.id stamp.at) }
@@ -458,7 +460,7 @@ impl Connection {
             Some(id) => {
                 let post = self.post(alloc, scratch, id, at, message)?;
                 let list = scratch.one(alloc, post)?;
-                Ok((Standing::Stays, list))
+                Ok((MessageOutcome::Stays, list))
             }
         }
     }
@@ -471,7 +473,7 @@ impl Connection {
         line: &Line<'_>,
         bytes: &[u8],
         message: Message<'_>,
-    ) -> Result<(Standing, Vec<UpEffect>), NoMemory>
+    ) -> Result<(MessageOutcome, Vec<UpEffect>), NoMemory>
         ensures { IfOk result (λ r. record { session = after r.0 self.now; effects = r.1.items }
             ≡ spec.keep self.now now line.now bytes.now (value_of message.entry)) }
     {
@@ -480,7 +482,7 @@ impl Connection {
             self.keep_stamped(alloc, scratch, line, bytes, message, stamp)
         } else {
             let list = relay_to_all(alloc, scratch, line, bytes)?;
-            Ok((Standing::Stays, list))
+            Ok((MessageOutcome::Stays, list))
         }
     }
 
@@ -493,7 +495,7 @@ impl Connection {
         line: &Line<'_>,
         bytes: &[u8],
         parameters: &[&[u8]],
-    ) -> Result<(Standing, Vec<UpEffect>), NoMemory>
+    ) -> Result<(MessageOutcome, Vec<UpEffect>), NoMemory>
         ensures { IfOk result (λ r. record { session = after r.0 self.now; effects = r.1.items }
             ≡ spec.message self.now now kind line.now bytes.now (map (λ p. p.now) parameters.now)) }
     {
@@ -509,12 +511,12 @@ impl Connection {
                     };
                     self.keep(alloc, scratch, now, line, bytes, message)
                 } else {
-                    Ok((Standing::Stays, Vec::new(alloc)))
+                    Ok((MessageOutcome::Stays, Vec::new(alloc)))
                 }
             }
             _ => {
                 let list = self.pass_on(alloc, scratch, line, bytes)?;
-                Ok((Standing::Stays, list))
+                Ok((MessageOutcome::Stays, list))
             }
         }
     }
@@ -533,7 +535,7 @@ impl Connection {
             ≡ spec.message self.old now kind line.now bytes.now line.now.parameters) }
         ensures err { OnErr result (self.new ≡ self.old) }
     {
-        let (standing, list) = self.serve_message(
+        let (outcome, list) = self.serve_message(
             alloc,
             scratch,
             now,
@@ -542,7 +544,7 @@ impl Connection {
             bytes,
             line.parameters(),
         )?;
-        self.go_on(standing);
+        self.go_on(outcome);
         Ok(list)
     }
 
@@ -553,19 +555,18 @@ impl Connection {
         talk: &[u8],
         id: &[u8],
     ) -> Result<UpEffect, NoMemory>
+        requires buffer { messages.has_buffer self.now.home talk.now ≡ true }
+        requires id { words.is_id id.now ≡ true }
         ensures { IfOk result (λ effect. effect ≡ effects.Put (changes.Redact
             (buffer_of self.now.home.account self.now.home.network talk.now) id.now None)) }
     {
         let buffer = scratch.buffers.buffer_for(alloc, &self.home, talk)?;
-        match MsgId::new(alloc, id) {
-            // The id was tested before, so it is memory that is wanted.
-            Err(_) => Err(NoMemory),
-            Ok(id) => Ok(UpEffect::Put(Change::Redact {
-                buffer,
-                id,
-                at: None,
-            })),
-        }
+        let id = lawful_id(alloc, id)?;
+        Ok(UpEffect::Put(Change::Redact {
+            buffer,
+            id,
+            at: None,
+        }))
     }
 
     fn redaction(
@@ -631,20 +632,20 @@ impl Connection {
         ensures err { OnErr result (self.new ≡ self.old) }
     {
         match command_of(line.command()) {
-            Command::Cap => self.cap(alloc, line.parameters()),
-            Command::Welcome => self.welcome(alloc, line.parameters()),
-            Command::Greeting | Command::Tagmsg => Ok(Vec::new(alloc)),
-            Command::NickInUse => self.nick_in_use(alloc, scratch, line, bytes),
-            Command::Ping => self.ping(alloc, scratch, line, bytes, line.parameters()),
-            Command::Error => self.close(alloc),
-            Command::Nick => self.nick(alloc, scratch, line, bytes),
-            Command::Join => self.join(alloc, scratch, line, bytes),
-            Command::Part => self.part(alloc, scratch, line, bytes),
-            Command::Kick => self.kick(alloc, scratch, line, bytes),
-            Command::Privmsg => self.message(alloc, scratch, now, Kind::Privmsg, line, bytes),
-            Command::Notice => self.message(alloc, scratch, now, Kind::Notice, line, bytes),
-            Command::Redact => self.redact(alloc, scratch, line, bytes, line.parameters()),
-            Command::Other => self.pass_on(alloc, scratch, line, bytes),
+            ServerCommand::Cap => self.cap(alloc, line.parameters()),
+            ServerCommand::Welcome => self.welcome(alloc, line.parameters()),
+            ServerCommand::Greeting | ServerCommand::Tagmsg => Ok(Vec::new(alloc)),
+            ServerCommand::NickInUse => self.nick_in_use(alloc, scratch, line, bytes),
+            ServerCommand::Ping => self.ping(alloc, scratch, line, bytes, line.parameters()),
+            ServerCommand::Error => self.close(alloc),
+            ServerCommand::Nick => self.nick(alloc, scratch, line, bytes),
+            ServerCommand::Join => self.join(alloc, scratch, line, bytes),
+            ServerCommand::Part => self.part(alloc, scratch, line, bytes),
+            ServerCommand::Kick => self.kick(alloc, scratch, line, bytes),
+            ServerCommand::Privmsg => self.message(alloc, scratch, now, Kind::Privmsg, line, bytes),
+            ServerCommand::Notice => self.message(alloc, scratch, now, Kind::Notice, line, bytes),
+            ServerCommand::Redact => self.redact(alloc, scratch, line, bytes, line.parameters()),
+            ServerCommand::Other => self.pass_on(alloc, scratch, line, bytes),
         }
     }
 }

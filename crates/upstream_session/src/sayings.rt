@@ -1,21 +1,22 @@
 //! What a client's line comes to that goes to the server.
-ghost use Rattle.std.specs.Prelude.{◌≡◌, ◌∷◌, [], map, IfOk};
+ghost use Rattle.std.specs.Prelude.{◌≡◌, ◌∷◌, [], map, true, IfOk};
 ghost use Rattle.irc_line.specs.declared.line.TagLimit.TheVariants.{Client};
 ghost use Rattle.chat_change.specs.Message.{value_of};
+ghost use Rattle.upstream_session.specs.Messages as messages;
 ghost use Rattle.upstream_session.specs.Sayings as spec;
-ghost use Rattle.upstream_session.specs.Standing.{after};
+ghost use Rattle.upstream_session.specs.MessageOutcome.{after};
 ghost use Rattle.upstream_session.specs.Step.{stays};
 
-use crate::command::{Command, command_of};
-use crate::connection::{Connection, LAST_SERIAL, Standing};
+use crate::command::{ServerCommand, command_of};
+use crate::connection::{Connection, LAST_SERIAL, MessageOutcome};
 use crate::effect::UpEffect;
 use crate::effects::{one, push};
 use crate::messages::made_id;
 use crate::scratch::Scratch;
+use byte_text::NoMemory;
 use chat_change::{Kind, Message, Moment};
-use client_replies::passed_line;
 use irc_line::{TagLimit, read_line};
-use memory::NoMemory;
+use irc_reply::to_server::passed_line;
 use std::alloc::Global;
 
 /// The line without the CR LF at its end, if it has that.
@@ -41,12 +42,12 @@ impl Connection {
         alloc: Global,
         scratch: &mut Scratch,
         text: &[u8],
-    ) -> Result<(Standing, Vec<UpEffect>), NoMemory>
+    ) -> Result<(MessageOutcome, Vec<UpEffect>), NoMemory>
         ensures { IfOk result (λ r. record { session = after r.0 self.now; effects = r.1.items }
             ≡ stays self.now (spec.send_line text.now)) }
     {
         let list = send_line(alloc, scratch, text)?;
-        Ok((Standing::Stays, list))
+        Ok((MessageOutcome::Stays, list))
     }
 
     // Whether the message is kept here: the server doesn't send it back.
@@ -63,21 +64,22 @@ impl Connection {
         now: Moment,
         text: &[u8],
         message: Message<'_>,
-    ) -> Result<(Standing, Vec<UpEffect>), NoMemory>
+    ) -> Result<(MessageOutcome, Vec<UpEffect>), NoMemory>
+        requires { messages.can_be_kept self.now (value_of message) ≡ true }
         ensures { IfOk result (λ r. record { session = after r.0 self.now; effects = r.1.items }
             ≡ spec.say_kept self.now now text.now (value_of message.entry)) }
     {
         if self.serial == LAST_SERIAL {
             let list = one(alloc, UpEffect::Close)?;
-            return Ok((Standing::Closes, list));
+            return Ok((MessageOutcome::Closes, list));
         }
         let mut list = send_line(alloc, scratch, text)?;
         match made_id(alloc, &self.home, self.serial)? {
-            None => Ok((Standing::Stays, list)),
+            None => Ok((MessageOutcome::Stays, list)),
             Some(id) => {
                 let post = self.post(alloc, scratch, id, now, message)?;
                 push(&mut list, post)?;
-                Ok((Standing::Counts(self.serial + 1), list))
+                Ok((MessageOutcome::Counts(self.serial + 1), list))
             }
         }
     }
@@ -89,7 +91,7 @@ impl Connection {
         now: Moment,
         text: &[u8],
         message: Message<'_>,
-    ) -> Result<(Standing, Vec<UpEffect>), NoMemory>
+    ) -> Result<(MessageOutcome, Vec<UpEffect>), NoMemory>
         ensures { IfOk result (λ r. record { session = after r.0 self.now; effects = r.1.items }
             ≡ spec.say_message self.now now text.now (value_of message.entry)) }
     {
@@ -108,7 +110,7 @@ impl Connection {
         text: &[u8],
         kind: Kind,
         parameters: &[&[u8]],
-    ) -> Result<(Standing, Vec<UpEffect>), NoMemory>
+    ) -> Result<(MessageOutcome, Vec<UpEffect>), NoMemory>
         ensures { IfOk result (λ r. record { session = after r.0 self.now; effects = r.1.items }
             ≡ spec.say_words self.now now text.now kind (map (λ p. p.now) parameters.now)) }
     {
@@ -134,32 +136,32 @@ impl Connection {
         scratch: &mut Scratch,
         now: Moment,
         text: &[u8],
-    ) -> Result<(Standing, Vec<UpEffect>), NoMemory>
+    ) -> Result<(MessageOutcome, Vec<UpEffect>), NoMemory>
         ensures { IfOk result (λ r. record { session = after r.0 self.now; effects = r.1.items }
             ≡ spec.say_line self.now now text.now) }
     {
         match read_line(text, TagLimit::Client) {
             Err(_) => self.send_only(alloc, scratch, text),
             Ok(line) => match command_of(line.command()) {
-                Command::Privmsg => {
+                ServerCommand::Privmsg => {
                     self.say_words(alloc, scratch, now, text, Kind::Privmsg, line.parameters())
                 }
-                Command::Notice => {
+                ServerCommand::Notice => {
                     self.say_words(alloc, scratch, now, text, Kind::Notice, line.parameters())
                 }
-                Command::Cap
-                | Command::Welcome
-                | Command::Greeting
-                | Command::NickInUse
-                | Command::Ping
-                | Command::Nick
-                | Command::Join
-                | Command::Part
-                | Command::Kick
-                | Command::Error
-                | Command::Redact
-                | Command::Tagmsg
-                | Command::Other => self.send_only(alloc, scratch, text),
+                ServerCommand::Cap
+                | ServerCommand::Welcome
+                | ServerCommand::Greeting
+                | ServerCommand::NickInUse
+                | ServerCommand::Ping
+                | ServerCommand::Nick
+                | ServerCommand::Join
+                | ServerCommand::Part
+                | ServerCommand::Kick
+                | ServerCommand::Error
+                | ServerCommand::Redact
+                | ServerCommand::Tagmsg
+                | ServerCommand::Other => self.send_only(alloc, scratch, text),
             },
         }
     }

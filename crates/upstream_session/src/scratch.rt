@@ -1,17 +1,17 @@
 //! What a session keeps from line to line, so that a line asks for less memory.
 ghost use Rattle.std.specs.Prelude.{◌≡◌, ◌∷◌, [], IfOk};
 
-use crate::buffers::Buffers;
+use crate::buffers::KnownBuffers;
 use crate::effect::UpEffect;
 use crate::effects::push;
-use memory::{NoMemory, Text};
+use byte_text::{NoMemory, Text};
 use std::alloc::Global;
 use std::mem;
 
 /// The buffers of late conversations, and the room of a list and of a text that were given back.
 #[derive(Drop)]
 pub(crate) struct Scratch {
-    pub(crate) buffers: Buffers,
+    pub(crate) buffers: KnownBuffers,
     list: Vec<UpEffect>,
     text: Vec<u8>,
 }
@@ -29,7 +29,7 @@ impl Scratch {
     /// Nothing yet. It takes no memory.
     pub(crate) fn new(alloc: Global) -> Scratch {
         Scratch {
-            buffers: Buffers::none(),
+            buffers: KnownBuffers::none(),
             list: Vec::new(alloc),
             text: Vec::new(alloc),
         }

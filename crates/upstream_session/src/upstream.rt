@@ -9,15 +9,14 @@ use crate::effect::UpEffect;
 use crate::effects::{push, send};
 use crate::sayings::without_ending;
 use crate::scratch::Scratch;
+use byte_text::{NoMemory, Text};
 use chat_change::Moment;
 use client_directory::Entry;
-use client_replies::nick_line;
 use irc_caps::CapSet;
 use irc_line::{TagLimit, read_line};
-use memory::{NoMemory, Text};
+use irc_reply::to_server::{ls_line, nick_line, user_line};
 use std::alloc::Global;
 use std::marker::Model;
-use upstream_lines::{ls_line, user_line};
 
 /// The session with the server of a network: it registers, is up, or is closed.
 #[derive(Drop)]
@@ -152,10 +151,10 @@ impl Upstream {
             return Ok(Vec::new(alloc));
         }
         let text = without_ending(bytes);
-        let (standing, list) = self
+        let (outcome, list) = self
             .connection
             .say_line(alloc, &mut self.scratch, now, text)?;
-        self.connection.go_on(standing);
+        self.connection.go_on(outcome);
         Ok(list)
     }
 

@@ -1,10 +1,10 @@
 //! One client.
 use attach::{Attachment, Hall};
 use bnc_ports::{Admitted, Port, Reason};
+use byte_text::{NoMemory, Text};
 use chat_change::Record;
 use client_session::Session;
 use irc_caps::CapSet;
-use memory::{NoMemory, Text};
 use std::alloc::Global;
 use std::collections::VecDeque;
 use upstream_session::{Recipients, hears_line, hears_message};
@@ -26,11 +26,10 @@ pub(crate) struct Client {
 impl Client {
     /// A client that hasn't registered yet.
     pub(crate) fn new(site: &Site, line: usize, admitted: Admitted) -> Result<Client, NoMemory> {
-        let guest = Guest::new(site.alloc, line, admitted);
-        let session = Session::new(site.alloc, site.cluster.as_bytes(), site.maximum)?;
         let told = Text::new(site.alloc, b"*")?;
+        let session = Session::new(site.alloc, site.cluster.as_bytes(), site.maximum)?;
         Ok(Client {
-            guest,
+            guest: Guest::new(site.alloc, line, admitted),
             session,
             network: None,
             told,

@@ -3,8 +3,8 @@ use crate::client::Client;
 use crate::live_text::LiveText;
 use attach::Attachment;
 use bnc_ports::{Admitted, Lobby, Reason};
-use memory::NoMemory;
-use std::alloc::Global;
+use byte_text::NoMemory;
+use std::alloc::{AllocError, Global};
 use std::collections::{BTreeMap, VecDeque};
 use work_desk::Site;
 
@@ -54,10 +54,8 @@ impl<X: Attachment> Clients<X> {
             return Err(NoMemory);
         }
         let client = Client::new(site, line, admitted)?;
-        match self.all.insert(line, client) {
-            Ok(_) => Ok(()),
-            Err(_) => Err(NoMemory),
-        }
+        drop(self.all.insert(line, client).map_err(AllocError::from)?);
+        Ok(())
     }
 
     // Lets the attachment under a key go, and with it the client's place.
@@ -70,7 +68,9 @@ impl<X: Attachment> Clients<X> {
         let Some(client) = self.all.remove(&line) else {
             return false;
         };
-        self.free(client.guest.key());
+        let key = client.guest.key();
+        drop(client);
+        self.free(key);
         true
     }
 

@@ -1,8 +1,8 @@
 //! The line of a message as it comes.
+use byte_text::NoMemory;
 use chat_batch::write_live;
 use chat_change::Record;
 use irc_caps::CapSet;
-use memory::NoMemory;
 use std::alloc::Global;
 
 /// The line of a message, written once for sessions that hold the same capabilities.

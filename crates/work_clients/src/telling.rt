@@ -3,8 +3,8 @@ use crate::client::Client;
 use crate::clients::Clients;
 use attach::{Attachment, Hall};
 use bnc_ports::{Port, Reason};
+use byte_text::{NoMemory, Text};
 use chat_change::Record;
-use memory::{NoMemory, Text};
 use upstream_session::Recipients;
 use work_desk::Desk;
 

@@ -89,17 +89,16 @@ impl Client {
             feeders,
             ..
         } = desk;
-        let heard = match guest.next_line() {
-            Next::Line(bytes) => session.step(site.alloc, bytes, &site.directory, peek),
-            Next::TooLong => match session.too_long(site.alloc, &site.directory) {
-                Ok(effects) => Ok(effects),
-                Err(_) => Err(StepFault::NoMemory),
+        match guest.next_line() {
+            Next::Line(bytes) => match session.step(site.alloc, bytes, &site.directory, peek) {
+                Ok(effects) => Step::Do(effects),
+                Err(fault) => Step::Over(reason_of(fault)),
             },
-            Next::More => return step_after(guest.fill(port, chunk, feeders)),
-        };
-        match heard {
-            Ok(effects) => Step::Do(effects),
-            Err(fault) => Step::Over(reason_of(fault)),
+            Next::TooLong => match session.too_long(site.alloc, &site.directory) {
+                Ok(effects) => Step::Do(effects),
+                Err(_) => Step::Over(Reason::NoMemory),
+            },
+            Next::More => step_after(guest.fill(port, chunk, feeders)),
         }
     }
 

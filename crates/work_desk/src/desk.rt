@@ -2,8 +2,8 @@
 use crate::schedule::Schedule;
 use crate::site::Site;
 use bnc_ports::Port;
+use byte_text::NoMemory;
 use chat_change::Moment;
-use memory::NoMemory;
 use shared_lines::{Lines, SharedLine};
 use work_lines::Feeders;
 use work_timers::Timer;

@@ -1,4 +1,9 @@
 //! What all parts of a worker share: what it knows of its node and of the time, its port, and its timers.
+//!
+//! A [`Desk`] is lent to the part that has its turn: the servers, the clients or the peers. Its [`Site`] is what the node's
+//! configuration and directory say; its [`Schedule`] rings when a connection is to be tried again, is silent, or a floor is
+//! due; its lines are shared with other workers. [`Fate`] says whether a connection stays. It stands on `bnc_ports`,
+//! `work_lines` and `work_timers`. Read [`Desk`] first.
 #![tactic(auto)]
 
 mod desk;

@@ -1,5 +1,5 @@
 //! The timers of a worker.
-use memory::NoMemory;
+use byte_text::NoMemory;
 use std::alloc::Global;
 use work_timers::{Timer, Timers};
 

@@ -2,10 +2,10 @@
 ghost use Rattle.std.specs.Prelude.{◌≡◌, ◌<◌, ◌%◌, position};
 ghost use Rattle.work_desk.specs.Networks as spec;
 
+use byte_text::{NoMemory, Text};
 use chat_change::Moment;
 use client_directory::{Directory, Entry};
 use gossip_link::Terms;
-use memory::{NoMemory, Text};
 use std::alloc::Global;
 use upstream_session::{Channels, Config};
 

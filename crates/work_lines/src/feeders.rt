@@ -2,8 +2,8 @@
 ghost use Rattle.std.specs.Prelude.{◌≡◌, None, IfOk, IfSome, []};
 ghost use Rattle.irc_line.specs.Stream.{holding};
 
+use byte_text::NoMemory;
 use irc_line::Feeder;
-use memory::NoMemory;
 use std::alloc::Global;
 use std::marker::Model;
 

@@ -5,9 +5,8 @@ use crate::pending::Pending;
 use crate::pipe::{Pipe, Pumped};
 use attach::{Attachment, Hall};
 use bnc_ports::{Admitted, Port};
-use byte_search::find_byte;
+use byte_text::{NoMemory, find_byte};
 use irc_line::Next;
-use memory::NoMemory;
 use std::alloc::Global;
 
 /// So many lines are offered in one go.

@@ -2,8 +2,8 @@
 use crate::feeders::Feeders;
 use crate::pending::Pending;
 use bnc_ports::{Halt, Port};
+use byte_text::NoMemory;
 use irc_line::{Feeder, Next};
-use memory::NoMemory;
 use std::alloc::Global;
 
 /// What came of asking for more bytes.

@@ -1,12 +1,10 @@
 //! Bytes that wait.
 ghost use Rattle.std.specs.Prelude.{◌≡◌, ◌==◌, ◌++◌, [], drop, length, IfOk, OnErr};
 
-use memory::NoMemory;
+use byte_text::NoMemory;
+use bytes::BytesMut;
 use std::alloc::Global;
 use std::marker::Model;
-
-/// So many bytes that were taken out are kept before the rest is moved to the front.
-const MOVED_FROM: usize = 4096;
 
 /// So much room is kept where nothing waits: enough for a line or two, and not for a page.
 const KEPT: usize = 1024;
@@ -14,19 +12,15 @@ const KEPT: usize = 1024;
 /// Bytes that wait, oldest first. Contracts see them as their list.
 #[derive(Drop)]
 pub struct Pending {
-    bytes: Vec<u8>,
-    // Those before it are gone.
-    start: usize,
+    bytes: BytesMut,
 }
 
 impl Model for Pending {
-    ghost use Rattle.std.specs.Prelude.{◌≤◌, List, ℕ, drop, vec_len};
+    ghost use Rattle.std.specs.Prelude.{List, ℕ};
 
     ghost Value = { List ℕ };
 
-    ghost view = { λ p. drop p.start p.bytes.items };
-
-    ghost invariant = { λ p. p.start ≤ vec_len p.bytes };
+    ghost view = { λ p. p.bytes.items };
 }
 
 impl Pending {
@@ -35,8 +29,7 @@ impl Pending {
         ensures { result ≡ [] }
     {
         Pending {
-            bytes: Vec::new(alloc),
-            start: 0,
+            bytes: BytesMut::new(alloc),
         }
     }
 
@@ -44,34 +37,21 @@ impl Pending {
     pub fn as_bytes(&self) -> &[u8]
         ensures { result.now ≡ self.now }
     {
-        &self.bytes.as_slice()[self.start..]
+        self.bytes.as_slice()
     }
 
     /// How many bytes wait.
     pub fn len(&self) -> usize
         ensures { result ≡ length self.now }
     {
-        self.as_bytes().len()
+        self.bytes.len()
     }
 
     /// Whether no byte waits.
     pub fn is_empty(&self) -> bool
         ensures { result ≡ (length self.now == 0) }
     {
-        self.len() == 0
-    }
-
-    // Moves what waits to the front of the room, where much before it is gone.
-    fn compact(&mut self)
-        ensures { self.new ≡ self.old }
-    {
-        if self.start < MOVED_FROM || self.start < self.bytes.len() / 2 {
-            return;
-        }
-        let left = self.bytes.len() - self.start;
-        self.bytes.as_mut_slice().copy_within(self.start.., 0);
-        self.bytes.truncate(left);
-        self.start = 0;
+        self.bytes.is_empty()
     }
 
     /// Further bytes wait, behind the others. For want of memory nothing changes.
@@ -79,33 +59,28 @@ impl Pending {
         ensures pushed { IfOk result (λ _. self.new ≡ self.old ++ bytes.now) }
         ensures err { OnErr result (self.new ≡ self.old) }
     {
-        self.compact();
-        match self.bytes.extend_from_slice(bytes) {
-            Ok(()) => Ok(()),
-            Err(_) => Err(NoMemory),
-        }
+        Ok(self.bytes.extend_from_slice(bytes)?)
     }
 
     /// The first bytes wait no longer.
     pub fn take(&mut self, count: usize)
         ensures { self.new ≡ drop count self.old }
     {
-        let left = self.bytes.len() - self.start;
-        if count < left {
-            self.start += count;
-        } else {
-            self.bytes.clear();
-            self.start = 0;
+        let count = count.min(self.bytes.len());
+        self.bytes.advance(count);
+        if self.bytes.is_empty() {
+            self.give_back();
         }
-        self.give_back();
     }
 
-    // Much room is given back where nothing waits.
+    // The room is used from its beginning again, and much of it is given back.
     fn give_back(&mut self)
-        ensures { self.new ≡ self.old }
+        requires { self.old ≡ [] }
+        ensures { self.new ≡ [] }
     {
-        if self.bytes.is_empty() && self.bytes.capacity() > KEPT {
-            self.bytes.shrink_to(0);
+        self.bytes.clear();
+        if self.bytes.capacity() > KEPT {
+            self.bytes = BytesMut::new(*self.bytes.allocator());
         }
     }
 }

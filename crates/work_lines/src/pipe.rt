@@ -3,8 +3,8 @@ use crate::feeders::Feeders;
 use crate::input::{Filled, Input};
 use crate::pending::Pending;
 use bnc_ports::{Halt, Port};
+use byte_text::NoMemory;
 use irc_line::Next;
-use memory::NoMemory;
 use std::alloc::Global;
 
 /// How far the owed bytes went out.

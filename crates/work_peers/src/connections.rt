@@ -2,8 +2,8 @@
 use crate::peer::Peer;
 use crate::peers::Peers;
 use bnc_ports::{Event, Port, Reason};
+use byte_text::NoMemory;
 use gossip_link::{Arrived, Side};
-use memory::NoMemory;
 use peer_session::PeerSession;
 use work_desk::{Desk, Site};
 use work_lines::Pipe;
@@ -43,12 +43,10 @@ impl Peers {
             Some(_) => Side::Opener,
             None => Side::Acceptor,
         };
-        let mut pipe = Pipe::new(site.alloc, line);
-        let session = PeerSession::new(side);
-        self.out.clear();
-        session.open(&site.terms, &mut self.out)?;
-        pipe.owe(self.out.as_slice())?;
-        self.add(line, Peer::new(pipe, session, dialed))
+        self.make_room()?;
+        let mut peer = Peer::new(Pipe::new(site.alloc, line), PeerSession::new(side), dialed);
+        peer.open(&site.terms, &mut self.out)?;
+        self.add(line, peer)
     }
 
     /// A connection over which no peer has said hello is closed.
@@ -96,18 +94,18 @@ impl Peers {
     /// Closes a connection, and tells the operator why. Where this node opens the connections with its peer, it dials
     /// the peer later. A connection that isn't there is passed over.
     pub fn close<P: Port>(&mut self, desk: &mut Desk<P>, line: usize, reason: Reason) {
-        let Some(peer) = self.remove(line) else {
+        let Some(Peer { dialed, place, .. }) = self.remove(line) else {
             return;
         };
         desk.timers.clear(Timer::Unregistered(line));
         desk.timers.clear(Timer::UnansweredPacket(line));
         let address = desk.port.address(line);
         desk.port.close(line);
-        match self.name(peer.place) {
+        match self.name(place) {
             Some(node) => desk.port.report(&Event::PeerDown { node, reason }),
             None => desk.port.report(&Event::PeerRefused { address, reason }),
         }
-        if let Some(place) = peer.place.or(peer.dialed) {
+        if let Some(place) = place.or(dialed) {
             self.dial_later(desk, place);
         }
     }

@@ -1,6 +1,6 @@
 //! What is kept of a peer over its connections.
+use byte_text::NoMemory;
 use gossip_link::{Link, NodeName, Terms};
-use memory::NoMemory;
 use std::alloc::Global;
 
 /// What is kept of a peer over its connections.

@@ -2,9 +2,9 @@
 use crate::peer::Peer;
 use crate::peers::Peers;
 use bnc_ports::{Port, Reason};
+use byte_text::NoMemory;
 use gossip_delta::{Source, Taker};
 use gossip_link::{Arrived, Link, LinkFault};
-use memory::NoMemory;
 use peer_session::Outcome;
 use work_desk::{Desk, Site};
 use work_timers::Timer;

@@ -1,5 +1,7 @@
 //! A connection with a peer.
 use bnc_ports::Reason;
+use byte_text::NoMemory;
+use gossip_link::Terms;
 use peer_session::PeerSession;
 use work_lines::Pipe;
 
@@ -29,6 +31,13 @@ impl Peer {
             place: None,
             lost: None,
         }
+    }
+
+    /// What is to be sent before any line came waits for the peer. It is written into the room.
+    pub(crate) fn open(&mut self, terms: &Terms, room: &mut Vec<u8>) -> Result<(), NoMemory> {
+        room.clear();
+        self.session.open(terms, room)?;
+        self.pipe.owe(room.as_slice())
     }
 
     /// Bytes wait for the peer. Too many close the connection.

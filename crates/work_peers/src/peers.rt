@@ -1,9 +1,9 @@
 //! A worker's peers, by the numbers of their connections.
 use crate::neighbour::Neighbour;
 use crate::peer::Peer;
+use byte_text::NoMemory;
 use gossip_link::{NodeName, Terms};
-use memory::NoMemory;
-use std::alloc::Global;
+use std::alloc::{AllocError, Global};
 use std::collections::{BTreeMap, VecDeque};
 
 /// A worker's peers, by the numbers of their connections. Places are those of the peers in the node's terms, from 0.
@@ -31,9 +31,7 @@ impl Peers {
         let mut neighbours = Vec::new(alloc);
         for name in names {
             let neighbour = Neighbour::new(alloc, terms, name)?;
-            if neighbours.push(neighbour).is_err() {
-                return Err(NoMemory);
-            }
+            neighbours.push(neighbour).map_err(AllocError::from)?;
         }
         Ok(Peers {
             all: BTreeMap::new(alloc),
@@ -43,27 +41,28 @@ impl Peers {
         })
     }
 
-    /// Takes a connection in. Each has room in the queue.
-    pub(crate) fn add(&mut self, line: usize, peer: Peer) -> Result<(), NoMemory> {
-        let count = self.all.len().saturating_add(1);
-        if self.busy.reserve(count).is_err() {
-            return Err(NoMemory);
-        }
-        match self.all.insert(line, peer) {
-            Ok(_) => Ok(()),
+    /// Makes room in the queue for one more connection: each has its place there.
+    pub(crate) fn make_room(&mut self) -> Result<(), NoMemory> {
+        match self.busy.reserve(self.all.len().saturating_add(1)) {
+            Ok(()) => Ok(()),
             Err(_) => Err(NoMemory),
         }
     }
 
+    /// Takes a connection in. There is [room](Peers::make_room) for it.
+    pub(crate) fn add(&mut self, line: usize, peer: Peer) -> Result<(), NoMemory> {
+        drop(self.all.insert(line, peer).map_err(AllocError::from)?);
+        Ok(())
+    }
+
     /// Takes a connection out.
     pub(crate) fn remove(&mut self, line: usize) -> Option<Peer> {
-        let peer = self.all.remove(&line)?;
         for neighbour in self.neighbours.iter_mut() {
             if neighbour.line == Some(line) {
                 neighbour.line = None;
             }
         }
-        Some(peer)
+        self.all.remove(&line)
     }
 
     /// The peer at that place said hello over that connection: the connection over which it did so before.

@@ -2,9 +2,9 @@
 use crate::peer::Peer;
 use crate::peers::Peers;
 use bnc_ports::{Port, Reason};
+use byte_text::NoMemory;
 use gossip_link::Arrived;
 use irc_line::Next;
-use memory::NoMemory;
 use peer_session::Heard;
 use work_desk::Desk;
 use work_lines::{Filled, Pumped};

@@ -3,7 +3,7 @@ use crate::server::Server;
 use crate::servers::Servers;
 use crate::standing::{Standing, down_entry};
 use bnc_ports::{Dial, Event, Port, Reason};
-use memory::{NoMemory, Text};
+use byte_text::{NoMemory, Text};
 use upstream_session::{UpEffect, Upstream};
 use work_desk::{Desk, Site};
 use work_timers::Timer;
@@ -16,12 +16,12 @@ const QUIET: u64 = 300_000;
 
 // A session with a network's server, from that serial number on.
 fn session_of(site: &Site, network: usize, serial: u64) -> Result<Upstream, NoMemory> {
-    let Some(config) = site.config(network) else {
-        return Err(NoMemory);
-    };
     let me = site.terms.me();
     let node = Text::new(site.alloc, me.node().as_bytes())?;
-    Ok(Upstream::new(site.alloc, config, node, me.incarnation(), serial))
+    match site.config(network) {
+        Some(config) => Ok(Upstream::new(site.alloc, config, node, me.incarnation(), serial)),
+        None => Err(NoMemory),
+    }
 }
 
 // The operator is told that the network is down, and a connection is tried again later.
@@ -68,9 +68,11 @@ impl Servers {
         line: usize,
         network: usize,
     ) -> Result<Vec<UpEffect>, NoMemory> {
+        self.make_room()?;
         let session = session_of(site, network, self.serial_of(network))?;
         let effects = session.start(site.alloc)?;
-        self.insert(line, network, session, site.now)?;
+        let server = Server::new(site.alloc, line, network, session, site.now);
+        self.insert(line, server)?;
         Ok(effects)
     }
 
@@ -115,7 +117,7 @@ impl Servers {
         line: usize,
         reason: Reason,
     ) -> Option<Standing> {
-        let Server { network, entry, .. } = self.remove(line)?;
+        let Standing { network, entry } = self.remove(line)?;
         desk.port.close(line);
         desk.timers.clear(Timer::QuietUpstream(line));
         put_off(desk, network, reason);

@@ -1,8 +1,10 @@
 //! One connection with the server of a network.
 use crate::standing::is_same_entry;
 use bnc_ports::{Port, Reason};
+use byte_text::Text;
 use client_directory::Entry;
 use irc_line::Next;
+use std::alloc::Global;
 use std::collections::VecDeque;
 use upstream_session::{UpEffect, Upstream};
 use work_desk::{Desk, Fate};
@@ -39,6 +41,25 @@ pub(crate) struct Server {
 }
 
 impl Server {
+    /// A session with a network's server that begins over a connection, at that moment. All workers know the network as down.
+    pub(crate) fn new(
+        alloc: Global,
+        line: usize,
+        network: usize,
+        session: Upstream,
+        now: u64,
+    ) -> Server {
+        let nick = Text::of(Vec::new(alloc));
+        Server {
+            pipe: Pipe::new(alloc, line),
+            network,
+            session,
+            entry: Entry::new(false, nick, Vec::new(alloc), false),
+            heard_at: now,
+            fate: Fate::Stays,
+        }
+    }
+
     /// Stands in the queue.
     pub(crate) fn wake(&mut self, busy: &mut VecDeque<usize>, line: usize) {
         if self.pipe.queue() && busy.push_back(line).is_err() {
@@ -58,6 +79,13 @@ impl Server {
     /// Whether the session stands otherwise than all workers know.
     pub(crate) fn has_changed(&self) -> bool {
         !is_same_entry(self.session.entry(), &self.entry)
+    }
+
+    /// All workers are to know the session as it stands now, which is answered. For want of memory nothing changes.
+    pub(crate) fn note_entry(&mut self, alloc: Global) -> Option<Entry> {
+        let entry = self.session.entry().try_clone(alloc).ok()?;
+        self.entry = self.session.entry().try_clone(alloc).ok()?;
+        Some(entry)
     }
 
     /// Why the connection is to be closed after such a write, where it is.

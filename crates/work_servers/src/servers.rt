@@ -1,13 +1,11 @@
 //! The table of a worker's servers.
 use crate::server::Server;
+use crate::standing::Standing;
 use bnc_ports::Reason;
-use client_directory::Entry;
-use memory::{NoMemory, Text};
-use std::alloc::Global;
+use byte_text::NoMemory;
+use std::alloc::{AllocError, Global};
 use std::collections::{BTreeMap, VecDeque};
-use upstream_session::Upstream;
 use work_desk::Fate;
-use work_lines::Pipe;
 
 // The serial number of the first id that the node makes for a network. Messages of one millisecond are ordered by the bytes of
 // their ids. So that they stand in the order in which they came, all numbers have 13 digits: the next longer one comes after 9
@@ -26,7 +24,6 @@ struct Slot {
 /// A worker's servers, by the numbers of their connections.
 #[derive(Drop)]
 pub struct Servers {
-    alloc: Global,
     pub(crate) all: BTreeMap<usize, Server>,
     // of all networks; those of other workers stay empty
     slots: Vec<Slot>,
@@ -44,7 +41,6 @@ impl Servers {
             return Err(NoMemory);
         };
         Ok(Servers {
-            alloc,
             all: BTreeMap::new(alloc),
             slots,
             busy: VecDeque::new(alloc),
@@ -71,42 +67,36 @@ impl Servers {
         }
     }
 
-    /// A session with a network's server has begun over a connection, at that moment. For want of memory nothing changes.
-    pub(crate) fn insert(
-        &mut self,
-        line: usize,
-        network: usize,
-        session: Upstream,
-        now: u64,
-    ) -> Result<(), NoMemory> {
-        let pipe = Pipe::new(self.alloc, line);
-        let nick = Text::new(self.alloc, b"")?;
-        // Each server has room in the queue.
-        if self.busy.reserve(self.all.len().saturating_add(1)).is_err() {
-            return Err(NoMemory);
-        }
-        let server = Server {
-            pipe,
-            network,
-            session,
-            entry: Entry::new(false, nick, Vec::new(self.alloc), false),
-            heard_at: now,
-            fate: Fate::Stays,
-        };
-        match self.all.insert(line, server) {
-            Ok(_) => Ok(()),
+    /// Makes room in the queue for one more server: each has its place there.
+    pub(crate) fn make_room(&mut self) -> Result<(), NoMemory> {
+        match self.busy.reserve(self.all.len().saturating_add(1)) {
+            Ok(()) => Ok(()),
             Err(_) => Err(NoMemory),
         }
     }
 
-    /// Takes a server out. Its network's next session goes on from its serial number.
-    pub(crate) fn remove(&mut self, line: usize) -> Option<Server> {
-        let server = self.all.remove(&line)?;
-        if let Some(slot) = self.slots.get_mut(server.network) {
+    /// A session with a network's server has begun over a connection. There is [room](Servers::make_room) for it. For want of
+    /// memory nothing changes.
+    pub(crate) fn insert(&mut self, line: usize, server: Server) -> Result<(), NoMemory> {
+        drop(self.all.insert(line, server).map_err(AllocError::from)?);
+        Ok(())
+    }
+
+    /// Takes a server out, and tells how all workers know its session. Its network's next session goes on from its serial
+    /// number.
+    pub(crate) fn remove(&mut self, line: usize) -> Option<Standing> {
+        let Server {
+            network,
+            session,
+            entry,
+            ..
+        } = self.all.remove(&line)?;
+        if let Some(slot) = self.slots.get_mut(network) {
             slot.line = None;
-            slot.serial = server.session.serial();
+            slot.serial = session.serial();
         }
-        Some(server)
+        drop(session);
+        Some(Standing { network, entry })
     }
 
     /// The network of that connection, by its place among those of the node.

@@ -3,7 +3,7 @@ use crate::server::Step;
 use crate::servers::Servers;
 use crate::standing::Standing;
 use bnc_ports::{Event, Port, Reason};
-use memory::NoMemory;
+use byte_text::NoMemory;
 use upstream_session::UpEffect;
 use work_desk::{Desk, Fate, Site};
 use work_lines::Pumped;
@@ -80,13 +80,11 @@ impl Servers {
             return None;
         }
         let network = server.network;
-        let now = server.session.entry();
-        let known = now.try_clone(desk.site.alloc).ok()?;
-        let entry = now.try_clone(desk.site.alloc).ok()?;
-        if known.is_up() && !server.entry.is_up() {
-            report_up(&mut desk.port, &desk.site, network, known.nick());
+        let was_up = server.entry.is_up();
+        let entry = server.note_entry(desk.site.alloc)?;
+        if entry.is_up() && !was_up {
+            report_up(&mut desk.port, &desk.site, network, entry.nick());
         }
-        server.entry = known;
         Some(Standing { network, entry })
     }
 }

@@ -5,11 +5,9 @@
 #![tactic(auto)]
 
 mod due;
-#[cfg(test)]
-mod tests;
 mod timer;
 mod timers;
 
-pub use memory::NoMemory;
+pub use byte_text::NoMemory;
 pub use timer::Timer;
 pub use timers::Timers;

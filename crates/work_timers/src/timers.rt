@@ -6,7 +6,7 @@ ghost use Rattle.work_timers.specs.Timers as spec;
 
 use crate::due::Due;
 use crate::timer::Timer;
-use memory::NoMemory;
+use byte_text::NoMemory;
 use std::alloc::Global;
 use std::collections::{BTreeMap, BTreeSet};
 use std::marker::Model;

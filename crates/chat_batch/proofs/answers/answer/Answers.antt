@@ -1,15 +1,15 @@
 use Rattle.chat_batch.specs.Answers.{answer_of}
-use Rattle.chat_batch.proofs.AnswerLemmas.{gives_text, gives_answered, is_unwritten}
+use Rattle.chat_batch.proofs.AnswerLemmas.{written_text, written_answered, is_unwritten}
 use Rattle.chat_batch.proofs.answers.answer.Goals as goal
 
 pub returns-clause-text : goal.returns-clause-text
 returns-clause-text g c changes h =
-    gives_text g.W.Write.contents c.args.writer.now c.answer_command.new.writer c.answer_command.result (answer_of changes c.args.facts.now c.args.line.now)
+    written_text g.W.Write.contents c.args.writer.now c.answer_command.new.writer c.answer_command.result (answer_of changes c.args.facts.now c.args.line.now)
     (c.answer_command.ensures.text changes h) c.answer_command.ensures.memory
 
 pub returns-clause-answered : goal.returns-clause-answered
 returns-clause-answered g c changes h =
-    gives_answered g.W.Write.contents c.args.writer.now c.answer_command.new.writer c.answer_command.result (answer_of changes c.args.facts.now c.args.line.now)
+    written_answered g.W.Write.contents c.args.writer.now c.answer_command.new.writer c.answer_command.result (answer_of changes c.args.facts.now c.args.line.now)
     (c.answer_command.ensures.text changes h)
 
 pub returns-clause-memory : goal.returns-clause-memory

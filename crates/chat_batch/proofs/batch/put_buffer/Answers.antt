@@ -1,5 +1,5 @@
 use Rattle.std.proofs.Common.{◌≡◌, ℕ, List, [], ◌∷◌, ◌++◌, Bool, true, false, cond, codes, None, refl, ap, ◌∙◌}
-use Rattle.output.proofs.CallerLemmas.{prefix_of_first, prefix_same, writes_second, writes_failed, writes_same}
+use Rattle.byte_text.proofs.CallerLemmas.{prefix_of_first, prefix_same, writes_second, writes_failed, writes_same}
 use Rattle.irc_caps.specs.declared.CapSet.{CapSet}
 use Rattle.irc_time.specs.Text.{time_text}
 use Rattle.irc_reply.specs.Reply.{reply}

@@ -1,7 +1,7 @@
 use Rattle.std.proofs.Common.{subst}
 use Rattle.std.specs.Io.KnownBytes.{Appends}
 use Rattle.std.proofs.KnownBytes.{Appends-trans}
-use Rattle.output.proofs.CallerLemmas.{prefix_of_first, prefix_of_second, writes_failed, prefix_same, own_texts_at, own_texts_through}
+use Rattle.byte_text.proofs.CallerLemmas.{prefix_of_first, prefix_of_second, writes_failed, prefix_same, own_texts_at, own_texts_through}
 use Rattle.chat_batch.specs.Batch.{buffer_text}
 use Rattle.chat_batch.proofs.batch.put_buffers.Goals as goal
 

@@ -1,11 +1,11 @@
 use Rattle.std.proofs.Common.{◌≡◌, ◌∙◌, subst}
 use Rattle.chat_batch.specs.Answers.{subcommand_of, Answer}
-use Rattle.chat_batch.specs.Gives.{Gives}
+use Rattle.chat_batch.specs.WritesAnswer.{WritesAnswer}
 use Rattle.chat_batch.proofs.AnswerLemmas.{selector_refused}
 use Rattle.chat_batch.proofs.refusal.refuse_selector.Goals as goal
 
 pub returns-clause-text : goal.returns-clause-text
 returns-clause-text g c =
     let word : c.as_bytes.result.now ≡ subcommand_of c.args.word.now = c.as_bytes.ensures ∙ c.in-Ok.ensures in
-    subst (λ (a : Answer). Gives g.W.Write.contents c.args.writer.now c.refuse.new.writer c.refuse.result a) (selector_refused c.args.facts.now c.args.word.now c.args.given.now c.as_bytes.result.now word)
+    subst (λ (a : Answer). WritesAnswer g.W.Write.contents c.args.writer.now c.refuse.new.writer c.refuse.result a) (selector_refused c.args.facts.now c.args.word.now c.args.given.now c.as_bytes.result.now word)
     c.refuse.ensures.text

@@ -1,6 +1,6 @@
 use Rattle.std.proofs.Common.{refl, ap, ◌∙◌}
 use Rattle.irc_time.specs.Text.{time_text}
-use Rattle.output.proofs.CallerLemmas.{prefix_of_first, prefix_of_second, writes_second, writes_failed, writes_same, prefix_same}
+use Rattle.byte_text.proofs.CallerLemmas.{prefix_of_first, prefix_of_second, writes_second, writes_failed, writes_same, prefix_same}
 use Rattle.chat_batch.proofs.TagLemmas.{tags_same}
 use Rattle.chat_batch.proofs.tags.put_tags.Goals as goal
 

@@ -1,4 +1,4 @@
-use Rattle.output.proofs.CallerLemmas.{prefix_of_first, prefix_of_second, writes_second, writes_failed}
+use Rattle.byte_text.proofs.CallerLemmas.{prefix_of_first, prefix_of_second, writes_second, writes_failed}
 use Rattle.chat_batch.proofs.tags.put_three.Goals as goal
 
 pub returns-in_err-put : goal.returns-in_err-put

@@ -3,7 +3,7 @@ use Rattle.std.specs.FinMap as map
 use Rattle.std.specs.Option.{option_map}
 use Rattle.chat_change.specs.Order.{id_cmp}
 use Rattle.chat_change.specs.Key.{Key, FloorOf, MarkerOf, MessageOf}
-use Rattle.buffer_messages.specs.Messages.{Messages}
+use Rattle.chat_buffers.specs.Messages.{Messages}
 use Rattle.chat_buffers.specs.Held.{held_piece, held_floor, numbered}
 use Rattle.chat_buffers.specs.declared.held.Held.{Held}
 use Rattle.chat_buffers.proofs.held.nothing_held.Goals as goal

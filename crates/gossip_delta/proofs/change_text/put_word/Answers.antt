@@ -1,4 +1,4 @@
-use Rattle.output.proofs.CallerLemmas.{prefix_of_first, writes_second, writes_failed}
+use Rattle.byte_text.proofs.CallerLemmas.{prefix_of_first, writes_second, writes_failed}
 use Rattle.gossip_delta.proofs.change_text.put_word.Goals as goal
 
 pub returns-in_err-put : goal.returns-in_err-put

@@ -3,7 +3,7 @@ use Rattle.std.specs.Io.KnownBytes.{Appends}
 use Rattle.std.proofs.KnownBytes.{Appends-trans}
 use Rattle.std.proofs.lemmas.List.{take_more, map-append, take-append-drop}
 use Rattle.std.proofs.lemmas.List.Concat.{flat_map-append}
-use Rattle.output.proofs.CallerLemmas.{prefix_of_first, prefix_of_second, writes_failed, prefix_same}
+use Rattle.byte_text.proofs.CallerLemmas.{prefix_of_first, prefix_of_second, writes_failed, prefix_same}
 use Rattle.gossip_delta.specs.Words.{words_text}
 use Rattle.gossip_delta.proofs.change_text.put_words.Goals as goal
 

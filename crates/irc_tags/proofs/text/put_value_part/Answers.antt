@@ -1,6 +1,6 @@
 use Rattle.std.proofs.Common.{◌≡◌, ℕ, false, List, [], ◌∷◌, ◌++◌, length, refl, sym, ◌∙◌}
 use Rattle.std.specs.Prelude.{◌==◌}
-use Rattle.output.proofs.CallerLemmas.{prefix_of_first, writes_second, writes_failed, writes_same, prefix_same}
+use Rattle.byte_text.proofs.CallerLemmas.{prefix_of_first, writes_second, writes_failed, writes_same, prefix_same}
 use Rattle.irc_tags.specs.Value.{value_text}
 use Rattle.irc_tags.specs.TagList.{equals_sign}
 use Rattle.irc_tags.specs.Text.{value_part}

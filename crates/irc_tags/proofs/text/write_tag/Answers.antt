@@ -1,4 +1,4 @@
-use Rattle.output.proofs.CallerLemmas.{prefix_of_first, writes_second, writes_failed}
+use Rattle.byte_text.proofs.CallerLemmas.{prefix_of_first, writes_second, writes_failed}
 use Rattle.irc_tags.proofs.text.write_tag.Goals as goal
 
 pub returns-in_err-put : goal.returns-in_err-put

@@ -1,7 +1,7 @@
 use Rattle.std.proofs.Common.{subst}
 use Rattle.std.specs.Io.KnownBytes.{Appends}
 use Rattle.std.proofs.KnownBytes.{Appends-trans}
-use Rattle.output.proofs.CallerLemmas.{prefix_of_first, prefix_of_second, writes_failed, prefix_same, texts_at, texts_through}
+use Rattle.byte_text.proofs.CallerLemmas.{prefix_of_first, prefix_of_second, writes_failed, prefix_same, texts_at, texts_through}
 use Rattle.peer_lines.specs.Spelling.{written}
 use Rattle.peer_lines.specs.declared.peer_line.PeerLine.TheVariants.{Change}
 use Rattle.peer_lines.proofs.writing.put_changes.Goals as goal

@@ -1,4 +1,4 @@
-use Rattle.output.proofs.CallerLemmas.{prefix_of_first, prefix_same, writes_second, writes_failed, writes_same}
+use Rattle.byte_text.proofs.CallerLemmas.{prefix_of_first, prefix_same, writes_second, writes_failed, writes_same}
 use Rattle.std.proofs.Common.{length, refl, ap}
 use Rattle.peer_lines.proofs.WrittenLemmas.{head_parts}
 use Rattle.peer_lines.proofs.writing.put_head.Goals as goal

@@ -1,4 +1,4 @@
-use Rattle.output.proofs.CallerLemmas.{prefix_of_first, prefix_of_second, prefix_same, writes_second, writes_failed, writes_same}
+use Rattle.byte_text.proofs.CallerLemmas.{prefix_of_first, prefix_of_second, prefix_same, writes_second, writes_failed, writes_same}
 use Rattle.std.proofs.Common.{refl}
 use Rattle.peer_lines.proofs.WrittenLemmas.{ack_parts}
 use Rattle.peer_lines.proofs.writing.write_ack.Goals as goal

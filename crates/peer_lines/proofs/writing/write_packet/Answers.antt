@@ -1,4 +1,4 @@
-use Rattle.output.proofs.CallerLemmas.{prefix_of_first, prefix_same, writes_second, writes_failed, writes_same}
+use Rattle.byte_text.proofs.CallerLemmas.{prefix_of_first, prefix_same, writes_second, writes_failed, writes_same}
 use Rattle.std.proofs.Common.{refl}
 use Rattle.peer_lines.proofs.WrittenLemmas.{packet_parts}
 use Rattle.peer_lines.proofs.writing.write_packet.Goals as goal

@@ -1,5 +1,5 @@
 use Rattle.std.proofs.Common.{◌≡◌, ℕ, List, ◌++◌, ◌∙◌, refl}
-use Rattle.output.proofs.CallerLemmas.{prefix_of_first, prefix_same, writes_second, writes_failed, writes_same}
+use Rattle.byte_text.proofs.CallerLemmas.{prefix_of_first, prefix_same, writes_second, writes_failed, writes_same}
 use Rattle.peer_lines.specs.Life.{Life}
 use Rattle.peer_lines.specs.Spelling.{written}
 use Rattle.peer_lines.specs.declared.peer_line.PeerLine.TheVariants.{Word, Hello}

@@ -1,5 +1,5 @@
 use Rattle.std.proofs.Common.{◌≡◌, ◌∙◌, ap, Some, Ok}
-use Rattle.output.proofs.CallerLemmas.{prefix_same}
+use Rattle.byte_text.proofs.CallerLemmas.{prefix_same}
 use Rattle.client_session.specs.Session.{facts_in}
 use Rattle.bnc_server.specs.Node.{answer_to}
 use Rattle.bnc_server.specs.HeldNode.{HeldNode, held_node}

@@ -1,5 +1,5 @@
 use Rattle.std.proofs.Common.{◌+◌, subst, drop}
-use Rattle.output.proofs.CallerLemmas.{writes_failed}
+use Rattle.byte_text.proofs.CallerLemmas.{writes_failed}
 use Rattle.bnc_server.proofs.NodeLemmas.{HasDone, done-one, stopped_text, left}
 use Rattle.bnc_server.proofs.node.Node.carry_out_all.Goals as goal
 

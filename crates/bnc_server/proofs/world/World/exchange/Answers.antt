@@ -1,5 +1,5 @@
 use Rattle.std.proofs.Common.{◌≡◌, ◌∙◌, Some, sym, ap, subst, rules}
-use Rattle.output.specs.Writes.{WritesKnown}
+use Rattle.byte_text.specs.Writes.{WritesKnown}
 use Rattle.bnc_server.specs.World.{node_at, after_packet_of, ack_of, taking_ack, ack_text}
 use Rattle.bnc_server.specs.HeldNode.{HeldWorld, held_world}
 use Rattle.bnc_server.proofs.NodeLemmas.{on_ok}

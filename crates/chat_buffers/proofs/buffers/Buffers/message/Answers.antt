@@ -6,7 +6,7 @@ use Rattle.chat_change.specs.Order.{buffer_cmp}
 use Rattle.chat_change.specs.Key.{MessageOf}
 use Rattle.chat_change.specs.declared.change.Change.TheVariants as value
 use Rattle.chat_history.specs.Retention.{at_or_above}
-use Rattle.chat_buffers.specs.Fate.{message_change}
+use Rattle.chat_buffers.specs.MessageRef.{message_change}
 use Rattle.chat_buffers.specs.Held.{numbered, held_floor}
 use Rattle.chat_buffers.specs.Store.{Numbered}
 use Rattle.chat_buffers.proofs.LookupLemmas.{change_here, message_here, record_bears}

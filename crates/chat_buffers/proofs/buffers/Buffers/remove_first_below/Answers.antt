@@ -4,7 +4,7 @@ use Rattle.std.specs.Option.{IfSome}
 use Rattle.chat_change.specs.Order.{buffer_cmp}
 use Rattle.ordered_maps.specs.MapView.{IsWith}
 use Rattle.ordered_maps.proofs.CallerLemmas.{written}
-use Rattle.buffer_messages.specs.Messages as spec
+use Rattle.chat_buffers.specs.Messages as spec
 use Rattle.chat_change.proofs.CallerLemmas.{buffer_total}
 use Rattle.chat_buffers.specs.Store.{IsKeyedStore}
 use Rattle.chat_buffers.specs.Entering.{TakesOne, IsSweptOf}

@@ -1,4 +1,0 @@
-mod SpotLemmas
-mod AgreementLemmas
-mod StepLemmas
-mod KeptLemmas

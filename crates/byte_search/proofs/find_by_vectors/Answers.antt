@@ -1,5 +1,0 @@
-use Rattle.byte_search.proofs.PositionLemmas.{first_is_position}
-use Rattle.byte_search.proofs.find_by_vectors.Goals as goal
-
-pub returns-clause-place : goal.returns-clause-place
-returns-clause-place c = first_is_position _ c.args.bytes.now c.find_byte.result c.find_byte.ensures

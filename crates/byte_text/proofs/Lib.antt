@@ -1,0 +1,3 @@
+mod PositionLemmas
+mod TextsLemmas
+pub mod CallerLemmas

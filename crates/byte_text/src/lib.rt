@@ -1,0 +1,17 @@
+//! What every crate above does with bytes: it keeps them ([`Text`]), finds one of them ([`find_byte`]), writes them to any
+//! writer ([`put`]), and says that there was no memory for them ([`NoMemory`]).
+//!
+//! Contracts see a text as its list of bytes. What a writing call leaves in its writer they say by one word, `Writes`: at
+//! `Ok` the writer's known bytes have grown by the whole text, and at `Err` by a prefix of it. Writing takes no memory: no
+//! function that writes, here or above, is given an allocator for it. Read [`put`] first.
+#![tactic(auto)]
+
+mod no_memory;
+mod search;
+mod text;
+mod writing;
+
+pub use no_memory::NoMemory;
+pub use search::find_byte;
+pub use text::Text;
+pub use writing::put;

@@ -1,0 +1,292 @@
+//! The messages of one buffer, in two maps that agree.
+
+ghost use Rattle.std.specs.Prelude.{◌≡◌, ◌≢◌, ◌<◌, Some, None, IsTrue, IsSome, false, IfOk, IfSome};
+ghost use Rattle.std.specs.Prelude.{OnOk, OnErr};
+ghost use Rattle.std.specs.FinMap as map;
+ghost use Rattle.std.specs.BTreeMap as tree;
+ghost use Rattle.std.specs.Map.Iter.{deref};
+ghost use Rattle.chat_change.specs.Order.{id_cmp};
+ghost use Rattle.std.specs.Option.{option_map};
+ghost use Rattle.chat_history.specs.Cut.{of_record, latest_first};
+ghost use Rattle.ordered_maps.specs.MapView.{IsSetTo, IsWithout};
+ghost use Rattle.chat_buffers.specs.Agreement.{place};
+ghost use Rattle.chat_buffers.specs.Messages as spec;
+ghost use Rattle.chat_buffers.specs.declared.held_message.HeldMessage.TheVariants as held_message;
+
+use crate::held_message::HeldMessage;
+use crate::moment_if_known::MomentIfKnown;
+use chat_change::{Moment, MsgId, Record};
+use chat_history::Spot;
+use ordered_maps::{exchange, overwrite, put, take_out};
+use std::alloc::{AllocError, Global};
+use std::collections::BTreeMap;
+use std::marker::Model;
+
+/// What is held of the messages of one buffer. It is seen as the map from each id to what is held of its message.
+#[derive(Drop)]
+pub(crate) struct Messages {
+    pub(crate) by_id: BTreeMap<MsgId, HeldMessage>,
+    // the kept records, by where they stand, the latest first
+    pub(crate) by_spot: BTreeMap<Spot, Record>,
+}
+
+impl Model for Messages {
+    ghost use Rattle.ordered_maps.specs.MapView.{held_by};
+    ghost use Rattle.chat_buffers.specs.Messages as spec;
+    ghost use Rattle.chat_buffers.specs.Agreement.{Agree};
+
+    ghost Value = { spec.Messages };
+
+    ghost coded = { spec.coded_messages };
+
+    ghost view = { λ p. held_by p.by_id };
+
+    ghost invariant = { λ p. Agree p.by_spot p.by_id };
+}
+
+/// A clone has maps of its own, and shares the ids and the records.
+impl Clone for Messages {
+    ghost is_clone = { λ messages copy. copy ≡ messages };
+
+    fn clone(&self) -> Result<Messages, AllocError> {
+        let by_id = self.by_id.clone()?;
+        let by_spot = self.by_spot.clone()?;
+        Ok(Messages { by_id, by_spot })
+    }
+}
+
+// What a record is filed by, and the record. All share its memory.
+#[derive(Drop)]
+struct Copies {
+    spot: Spot,
+    id: MsgId,
+    // the id once more
+    name: MsgId,
+    post: Record,
+}
+
+fn copies_of(post: &Record) -> Result<Copies, AllocError>
+    ensures { IfOk result (λ copies. copies ≡ record {
+      spot = of_record post.now;
+      id = post.now.id;
+      name = post.now.id;
+      post = post.now;
+    }) }
+{
+    let spot = Spot {
+        at: post.at(),
+        id: Some(post.id().try_clone()?),
+    };
+    let id = post.id().try_clone()?;
+    let name = post.id().try_clone()?;
+    let post = post.try_clone()?;
+    Ok(Copies {
+        spot,
+        id,
+        name,
+        post,
+    })
+}
+
+// Makes what is held of a message what it was before. It takes no memory.
+fn restore(by_id: &mut BTreeMap<MsgId, HeldMessage>, id: &MsgId, before: Option<HeldMessage>)
+    requires held { IsSome (tree.get id_cmp by_id.old id.now) }
+    ensures { IsSetTo id_cmp by_id.old id.now before by_id.new }
+{
+    match before {
+        Some(before) => overwrite(by_id, id, before),
+        None => take_out(by_id, id),
+    }
+}
+
+impl Messages {
+    /// No messages.
+    pub(crate) fn new(alloc: Global) -> Messages
+        ensures { result ≡ map.empty }
+    {
+        Messages {
+            by_id: BTreeMap::new(alloc),
+            by_spot: BTreeMap::new(alloc),
+        }
+    }
+
+    /// What is held of a message, if anything.
+    pub(crate) fn held_message(&self, id: &MsgId) -> Option<&HeldMessage>
+        ensures { option_map deref result ≡ map.get self.now id.now }
+    {
+        self.by_id.get(id)
+    }
+
+    // The moment of the record that is kept of a message.
+    fn kept_moment(&self, id: &MsgId) -> Option<Moment>
+        ensures { result ≡ spec.kept_moment (map.get self.now id.now) }
+    {
+        match self.by_id.get(id)? {
+            HeldMessage::Kept(post, _) => Some(post.at()),
+            HeldMessage::Gone(_, _) => None,
+        }
+    }
+
+    /// Keeps a record under a number, in place of what was held of its message, and answers the number that that had. Where
+    /// there is no memory nothing has changed.
+    pub(crate) fn post(&mut self, post: Record, number: u64) -> Result<Option<u64>, AllocError>
+        ensures before { IfOk result (λ before. before ≡
+            option_map spec.number_of (map.get self.old post.id)) }
+        ensures placed { OnOk result
+            (self.new ≡ map.insert self.old post.id (held_message.Kept post number)) }
+        ensures refused { OnErr result (self.new ≡ self.old) }
+    {
+        let at = post.at();
+        // without it nothing says that the moment is at most the greatest, as the maps' agreement does of each record
+        let _bound = at.ms();
+        let Ok(
+            Copies {
+                spot,
+                id,
+                name,
+                post: copy,
+            },
+        ) = copies_of(&post)
+        else {
+            drop(post);
+            return Err(AllocError);
+        };
+        let Ok(before) = exchange(&mut self.by_id, id, HeldMessage::Kept(post, number)) else {
+            drop(spot);
+            drop(name);
+            drop(copy);
+            return Err(AllocError);
+        };
+        if !put(&mut self.by_spot, spot, copy) {
+            restore(&mut self.by_id, &name, before);
+            drop(name);
+            return Err(AllocError);
+        }
+        let earlier = number_in(&before);
+        leave_place(&mut self.by_spot, moment_in(before), name, at);
+        Ok(earlier)
+    }
+
+    /// Notes that a message was redacted, lets its record go, and answers the number that what was held of the message had.
+    /// Where there is no memory nothing has changed.
+    pub(crate) fn redact(
+        &mut self,
+        id: MsgId,
+        at: Option<Moment>,
+        number: u64,
+    ) -> Result<Option<u64>, AllocError>
+        ensures before { IfOk result (λ before. before ≡
+            option_map spec.number_of (map.get self.old id)) }
+        ensures placed { OnOk result
+            (self.new ≡ map.insert self.old id (held_message.Gone at number)) }
+        ensures refused { OnErr result (self.new ≡ self.old) }
+    {
+        let before = number_of(&self.by_id, &id);
+        match self.kept_moment(&id) {
+            Some(stood) => self.let_go(stood, id, at, number),
+            None => {
+                if !self.note(id, at, number) {
+                    return Err(AllocError);
+                }
+            }
+        }
+        Ok(before)
+    }
+
+    // Notes that a message was redacted of which no record is kept.
+    fn note(&mut self, id: MsgId, at: Option<Moment>, number: u64) -> bool
+        requires not_kept { spec.kept_moment (map.get self.old id) ≡ None }
+        ensures placed { IsTrue result →
+            self.new ≡ map.insert self.old id (held_message.Gone at number) }
+        ensures refused { result ≡ false → self.new ≡ self.old }
+    {
+        let gone = HeldMessage::Gone(MomentIfKnown::new(at), number);
+        put(&mut self.by_id, id, gone)
+    }
+
+    // Notes that a message was redacted whose record stands at `stood`, and lets that record go.
+    fn let_go(&mut self, stood: Moment, id: MsgId, at: Option<Moment>, number: u64)
+        requires kept { spec.kept_moment (map.get self.old id) ≡ Some stood }
+        ensures { self.new ≡ map.insert self.old id (held_message.Gone at number) }
+    {
+        let gone = HeldMessage::Gone(MomentIfKnown::new(at), number);
+        overwrite(&mut self.by_id, &id, gone);
+        let spot = Spot {
+            at: stood,
+            id: Some(id),
+        };
+        take_out(&mut self.by_spot, &spot);
+        drop(spot);
+    }
+
+    /// Takes the oldest record out where it stands before a floor, and answers the number of its piece. None where no
+    /// record stands before the floor. It takes no memory.
+    pub(crate) fn remove_first_below(&mut self, floor: Moment) -> Option<u64>
+        ensures one { IfSome result (λ n. spec.TakesOne self.old floor n self.new) }
+        ensures done { result ≡ None → spec.IsFrom floor self.new }
+        ensures kept { result ≡ None → self.new ≡ self.old }
+    {
+        let at = match self.by_spot.last_key_value() {
+            Some((spot, _)) => spot.at,
+            None => return None,
+        };
+        if at.ms() >= floor.ms() {
+            return None;
+        }
+        let (spot, post) = self.by_spot.pop_last()?;
+        drop(spot);
+        let number = number_of(&self.by_id, post.id());
+        take_out(&mut self.by_id, post.id());
+        drop(post);
+        number
+    }
+}
+
+// The number of the piece of a message.
+fn number_of(by_id: &BTreeMap<MsgId, HeldMessage>, id: &MsgId) -> Option<u64>
+    ensures { result ≡ option_map spec.number_of (tree.get id_cmp by_id.now id.now) }
+{
+    let held_message = by_id.get(id)?;
+    Some(held_message.number())
+}
+
+// The number of what was held of a message.
+fn number_in(held_message: &Option<HeldMessage>) -> Option<u64>
+    ensures { result ≡ option_map spec.number_of held_message.now }
+{
+    match held_message {
+        Some(held_message) => Some(held_message.number()),
+        None => None,
+    }
+}
+
+// The moment of the record that was kept of a message.
+fn moment_in(held_message: Option<HeldMessage>) -> Option<Moment>
+    ensures { result ≡ spec.kept_moment held_message }
+{
+    match &held_message {
+        Some(HeldMessage::Kept(post, _)) => Some(post.at()),
+        Some(HeldMessage::Gone(_, _)) => None,
+        None => None,
+    }
+}
+
+// Takes out the record of a message that stood at another moment than the new one. It takes no memory.
+fn leave_place(by_spot: &mut BTreeMap<Spot, Record>, before: Option<Moment>, id: MsgId, at: Moment)
+    ensures first { before ≡ None → by_spot.new.entries ≡ by_spot.old.entries }
+    ensures same { before ≡ Some at → by_spot.new.entries ≡ by_spot.old.entries }
+    ensures moved { IfSome before (λ t. t ≢ at →
+        IsWithout latest_first by_spot.old (place t id) by_spot.new) }
+{
+    match before {
+        Some(before) if before.ms() != at.ms() => {
+            let spot = Spot {
+                at: before,
+                id: Some(id),
+            };
+            take_out(by_spot, &spot);
+            drop(spot);
+        }
+        _ => drop(id),
+    }
+}

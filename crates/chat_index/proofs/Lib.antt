@@ -1,3 +1,0 @@
-mod IndexLemmas
-mod SweepLemmas
-mod WalkLemmas

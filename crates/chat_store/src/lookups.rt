@@ -1,0 +1,73 @@
+//! What is looked up in the maps, and searched in them.
+
+ghost use Rattle.std.specs.Prelude.{◌≡◌, IfSome, reverse};
+ghost use Rattle.std.specs.Map.Iter.{deref};
+ghost use Rattle.std.specs.Option.{option_map};
+ghost use Rattle.chat_change.specs.Key as key;
+ghost use Rattle.chat_change.specs.Order.{buffer_cmp};
+ghost use Rattle.chat_change.specs.declared.change.Change.TheVariants as value;
+ghost use Rattle.chat_history.specs.Choice.{IsFirst};
+ghost use Rattle.chat_history.specs.Cut.{after, before};
+ghost use Rattle.chat_history.specs.Visible.{records_in};
+ghost use Rattle.chat_buffers.specs.MessageRef.{message_change, IsMessageOf};
+ghost use Rattle.chat_buffers.specs.Sought.{all_past};
+ghost use Rattle.chat_buffers.specs.Store as spec;
+
+use crate::store::Store;
+use chat_buffers::{Down, MessageRef, Sought, Up};
+use chat_change::{Buffer, Moment, MsgId};
+use chat_history::Cut;
+
+impl Store {
+    /// The floor that was set for a buffer, if one was.
+    pub fn floor(&self, buffer: &Buffer) -> Option<Moment>
+        ensures { spec.change_at self.now (key.FloorOf buffer.now) ≡
+            option_map (value.Floor buffer.now) result }
+    {
+        self.buffers.floor(buffer)
+    }
+
+    /// The read marker of a buffer, if one was set.
+    pub fn marker(&self, buffer: &Buffer) -> Option<Moment>
+        ensures { spec.change_at self.now (key.MarkerOf buffer.now) ≡
+            option_map (value.Mark buffer.now) result }
+    {
+        self.buffers.marker(buffer)
+    }
+
+    /// What is held of a message, if anything.
+    pub fn message(&self, buffer: &Buffer, id: &MsgId) -> Option<MessageRef<'_>>
+        ensures held { spec.change_at self.now (key.MessageOf buffer.now id.now) ≡
+            option_map (message_change buffer.now id.now) result }
+        ensures bears { IfSome result (IsMessageOf buffer.now id.now) }
+    {
+        self.buffers.message(buffer, id)
+    }
+
+    /// The visible records of a buffer after a cut, by rising (moment, id). It takes no memory.
+    pub fn up(&self, buffer: &Buffer, cut: &Cut<'_>) -> Up<'_>
+        ensures { result ≡ after cut.now (records_in (spec.history_in self.now) buffer.now) }
+    {
+        self.buffers.up(buffer, cut)
+    }
+
+    /// The visible records of a buffer before a cut, by falling (moment, id). It takes no memory.
+    pub fn down(&self, buffer: &Buffer, cut: &Cut<'_>) -> Down<'_>
+        ensures { result ≡ reverse (before cut.now
+            (records_in (spec.history_in self.now) buffer.now)) }
+    {
+        self.buffers.down(buffer, cut)
+    }
+
+    /// The lowest buffer after the last one of which a record is sought. It takes no memory.
+    pub fn next_buffer<'a>(
+        &'a self,
+        sought: &Sought<'_>,
+        last: &Option<&Buffer>,
+    ) -> Option<&'a Buffer>
+        ensures { IsFirst buffer_cmp (all_past sought.now (option_map deref last.now)
+            (spec.history_in self.now)) (option_map deref result) }
+    {
+        self.buffers.next_buffer(sought, last)
+    }
+}

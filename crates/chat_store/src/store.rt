@@ -1,0 +1,153 @@
+//! The numbered pieces of many buffers, with an index by number.
+
+ghost use Rattle.std.specs.Prelude.{◌≡◌, IsTrue, IfOk, false};
+ghost use Rattle.std.specs.FinMap as map;
+ghost use Rattle.chat_change.specs.declared.change.Change.TheVariants as value;
+ghost use Rattle.chat_buffers.specs.Store as spec;
+ghost use Rattle.chat_buffers.specs.Entering.{FitsStore, IsEntered, IsSweptOf};
+ghost use Rattle.chat_store.specs.Sweeping.{TakesSome, IsSwept};
+
+use crate::number::Number;
+use crate::piece_name::{PieceName, name_of};
+use chat_buffers::Buffers;
+use chat_change::{Buffer, Change, Moment};
+use ordered_maps::{put, take_out};
+use std::alloc::{AllocError, Global};
+use std::collections::BTreeMap;
+use std::marker::Model;
+
+/// The numbered pieces of many buffers, one for each key at most. Each is found by its number. They are seen as one store.
+#[derive(Drop)]
+pub struct Store {
+    alloc: Global,
+    pub(crate) buffers: Buffers,
+    // what the piece of each number is known by
+    pub(crate) index: BTreeMap<Number, PieceName>,
+}
+
+impl Model for Store {
+    ghost use Rattle.chat_buffers.specs.Store as spec;
+    ghost use Rattle.chat_store.specs.Index.{IsIndexed};
+
+    ghost Value = { spec.Store };
+
+    ghost coded = { spec.coded_store };
+
+    ghost view = { λ s. s.buffers };
+
+    ghost invariant = { λ s. spec.IsKeyedStore s.buffers × IsIndexed s.buffers s.index };
+}
+
+impl Store {
+    /// No pieces.
+    pub fn new(alloc: Global) -> Store
+        ensures { result ≡ map.empty }
+    {
+        Store {
+            alloc,
+            buffers: Buffers::new(alloc),
+            index: BTreeMap::new(alloc),
+        }
+    }
+
+    /// Puts a piece under its key. A floor takes away the records that lie below it, and makes redactions forget the moments
+    /// there. Where there is no memory nothing has changed.
+    pub fn place(&mut self, number: u64, change: Change) -> bool
+        requires fits { FitsStore self.old change }
+        requires fresh { spec.IsFresh self.old number }
+        ensures placed { IsTrue result → spec.Places self.old number change self.new }
+        ensures refused { result ≡ false → self.new ≡ self.old }
+    {
+        match change {
+            Change::Floor { buffer, at } => self.place_floor(number, buffer, at),
+            Change::Post(post) => self.enter(number, Change::Post(post)),
+            Change::Redact { buffer, id, at } => self.enter(
+                number,
+                Change::Redact { buffer, id, at },
+            ),
+            Change::Mark { buffer, at } => self.enter(number, Change::Mark { buffer, at }),
+        }
+    }
+
+    fn place_floor(&mut self, number: u64, buffer: Buffer, at: Moment) -> bool
+        requires fits { FitsStore self.old (value.Floor buffer at) }
+        requires fresh { spec.IsFresh self.old number }
+        ensures placed { IsTrue result →
+            spec.Places self.old number (value.Floor buffer at) self.new }
+        ensures refused { result ≡ false → self.new ≡ self.old }
+    {
+        // it shows that each piece stands under its own key
+        let _ = &self.buffers;
+        let Ok(floored) = buffer.try_clone() else {
+            drop(buffer);
+            return false;
+        };
+        if !self.enter(number, Change::Floor { buffer, at }) {
+            drop(floored);
+            return false;
+        }
+        self.sweep(&floored, at);
+        drop(floored);
+        true
+    }
+
+    // Puts a piece under its key. A floor leaves the records that lie below it.
+    fn enter(&mut self, number: u64, change: Change) -> bool
+        requires fits { FitsStore self.old change }
+        requires fresh { spec.IsFresh self.old number }
+        ensures entered { IsTrue result → IsEntered self.old number change self.new }
+        ensures refused { result ≡ false → self.new ≡ self.old }
+    {
+        let Ok(name) = name_of(self.alloc, &change) else {
+            drop(change);
+            return false;
+        };
+        if !put(&mut self.index, Number::of(number), name) {
+            drop(change);
+            return false;
+        }
+        let Ok(before) = self.buffers.enter(number, change) else {
+            take_out(&mut self.index, &Number::of(number));
+            return false;
+        };
+        if let Some(before) = before {
+            take_out(&mut self.index, &Number::of(before));
+        }
+        true
+    }
+
+    /// An equal value, with maps of its own. It shares the buffers' names, the ids and the records.
+    pub fn try_clone(&self, alloc: Global) -> Result<Store, AllocError>
+        ensures { IfOk result (λ copy. copy ≡ self.now) }
+    {
+        let buffers = self.buffers.try_clone(alloc)?;
+        let index = self.index.clone()?;
+        Ok(Store {
+            alloc,
+            buffers,
+            index,
+        })
+    }
+
+    // Takes the records of a buffer away that lie below a floor. It takes no memory.
+    fn sweep(&mut self, buffer: &Buffer, floor: Moment)
+        ensures { IsSwept buffer.now floor self.old self.new }
+    {
+        while self.take_first_below(buffer, floor) {}
+    }
+
+    // Takes the oldest record of a buffer away, where it lies below a floor.
+    fn take_first_below(&mut self, buffer: &Buffer, floor: Moment) -> bool
+        ensures one { IsTrue result → TakesSome self.old buffer.now floor self.new }
+        ensures done { result ≡ false → IsSweptOf buffer.now floor self.new }
+        ensures kept { result ≡ false → self.new ≡ self.old }
+    {
+        match self.buffers.remove_first_below(buffer, floor) {
+            Some(gone) => {
+                take_out(&mut self.index, &Number::of(gone));
+                true
+            }
+            None => false,
+        }
+    }
+}

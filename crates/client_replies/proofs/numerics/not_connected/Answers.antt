@@ -1,5 +1,0 @@
-use Rattle.std.proofs.Common.{◌∙◌}
-use Rattle.client_replies.proofs.numerics.not_connected.Goals as goal
-
-pub returns : goal.returns
-returns c = let e = c.as_bytes.ensures ∙ c.in_ok-notice.ensures in rw e at c.reply_text.ensures

@@ -1,5 +1,0 @@
-use Rattle.std.proofs.Common.{◌∙◌}
-use Rattle.client_replies.proofs.numerics.support.Goals as goal
-
-pub returns : goal.returns
-returns c = let e = c.as_bytes.ensures.value ∙ c.in_ok-history.ensures in rw e at c.reply_text.ensures

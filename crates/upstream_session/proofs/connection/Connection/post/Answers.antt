@@ -1,0 +1,13 @@
+use Rattle.std.proofs.Common.{◌≡◌, true, sym, subst}
+use Rattle.std.proofs.lemmas.Bool.{and_parts}
+use Rattle.chat_change.specs.Faults.{is_message}
+use Rattle.chat_change.specs.Message.{Message, value_of}
+use Rattle.upstream_session.specs.Messages.{conversation, has_buffer}
+use Rattle.upstream_session.proofs.connection.Connection.post.Goals as goal
+
+-- a message that can be kept is of a conversation that has a buffer
+pub buffer_for-requires : goal.buffer_for-requires
+buffer_for-requires c =
+    let m : Message = value_of c.args.message in
+    subst (λ talk. has_buffer c.args.self.now.home talk ≡ true) (sym c.conversation-talk.ensures)
+    (and_parts (has_buffer c.args.self.now.home (conversation c.args.self.now m.source m.target)) (is_message m) c.requires).0
