@@ -1,14 +1,10 @@
 //! A writer that keeps what it takes.
-ghost use Rattle.std.specs.Prelude.{◌≡◌, [], Some};
-
 use crate::log::{Event, Log};
 use std::alloc::Global;
 use std::io;
 use std::io::{ErrorKind, Write};
-use std::marker::Model;
 
-/// A writer that keeps the bytes that it takes: contracts see it as these. At first it takes all that it is given, and
-/// never fails.
+/// A writer that keeps the bytes that it takes. At first it takes all that it is given, and never fails.
 #[derive(Drop)]
 pub struct Sink<'a> {
     bytes: Vec<u8>,
@@ -20,19 +16,9 @@ pub struct Sink<'a> {
     log: Option<&'a Log>,
 }
 
-impl<'a> Model for Sink<'a> {
-    ghost use Rattle.std.specs.Prelude.{List, ℕ};
-
-    ghost Value = { List ℕ };
-
-    ghost view = { λ s. s.bytes.items };
-}
-
 impl<'a> Sink<'a> {
     /// A writer that has no bytes yet.
-    pub fn new(alloc: Global) -> Sink<'a>
-        ensures { result ≡ [] }
-    {
+    pub fn new(alloc: Global) -> Sink<'a> {
         Sink {
             bytes: Vec::new(alloc),
             most: usize::MAX,
@@ -45,16 +31,12 @@ impl<'a> Sink<'a> {
     }
 
     /// It takes so many bytes a write at most.
-    pub fn at_most(self, most: usize) -> Sink<'a>
-        ensures { result ≡ self.entry }
-    {
+    pub fn at_most(self, most: usize) -> Sink<'a> {
         Sink { most, ..self }
     }
 
     /// Its first write is interrupted, and from then on every second one.
-    pub fn interrupted(self) -> Sink<'a>
-        ensures { result ≡ self.entry }
-    {
+    pub fn interrupted(self) -> Sink<'a> {
         Sink {
             is_interrupted: true,
             interrupts_next: true,
@@ -63,9 +45,7 @@ impl<'a> Sink<'a> {
     }
 
     /// It fails at each write once it has made so many (`ErrorKind::BrokenPipe`). Interruptions do not count.
-    pub fn failing_after(self, writes: usize) -> Sink<'a>
-        ensures { result ≡ self.entry }
-    {
+    pub fn failing_after(self, writes: usize) -> Sink<'a> {
         Sink {
             writes_left: writes,
             ..self
@@ -73,9 +53,7 @@ impl<'a> Sink<'a> {
     }
 
     /// It fails at each flush once it has made so many (`ErrorKind::BrokenPipe`).
-    pub fn failing_after_flushes(self, flushes: usize) -> Sink<'a>
-        ensures { result ≡ self.entry }
-    {
+    pub fn failing_after_flushes(self, flushes: usize) -> Sink<'a> {
         Sink {
             flushes_left: flushes,
             ..self
@@ -83,9 +61,7 @@ impl<'a> Sink<'a> {
     }
 
     /// It notes its writes and flushes in the log.
-    pub fn logged(self, log: &'a Log) -> Sink<'a>
-        ensures { result ≡ self.entry }
-    {
+    pub fn logged(self, log: &'a Log) -> Sink<'a> {
         Sink {
             log: Some(log),
             ..self
@@ -93,9 +69,7 @@ impl<'a> Sink<'a> {
     }
 
     /// The bytes that it has taken.
-    pub fn bytes(&self) -> &[u8]
-        ensures { result.now ≡ self.now }
-    {
+    pub fn bytes(&self) -> &[u8] {
         self.bytes.as_slice()
     }
 
@@ -108,8 +82,6 @@ impl<'a> Sink<'a> {
 }
 
 impl<'a> Write for Sink<'a> {
-    ghost contents = { λ bytes. Some bytes };
-
     fn write(&mut self, buf: &[u8]) -> io::Result<usize> {
         if self.interrupts_next {
             self.interrupts_next = false;

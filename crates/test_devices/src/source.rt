@@ -1,13 +1,9 @@
 //! A reader of given bytes.
-ghost use Rattle.std.specs.Prelude.{◌≡◌, Some};
-
 use crate::log::{Event, Log};
 use std::io;
 use std::io::{ErrorKind, Read};
-use std::marker::Model;
 
-/// A reader that gives these bytes: contracts see it as those that are left. At first it gives as many a read as there
-/// is room for, and never fails.
+/// A reader that gives these bytes. At first it gives as many a read as there is room for, and never fails.
 #[derive(Drop)]
 pub struct Source<'a> {
     rest: &'a [u8],
@@ -18,21 +14,9 @@ pub struct Source<'a> {
     log: Option<&'a Log>,
 }
 
-impl<'a> Model for Source<'a> {
-    ghost use Rattle.std.specs.Prelude.{List, ℕ, ◌<◌};
-
-    ghost Value = { List ℕ };
-
-    ghost view = { λ s. s.rest.now };
-
-    ghost invariant = { λ s. 0 < s.most };
-}
-
 impl<'a> Source<'a> {
     /// A reader of all the bytes.
-    pub fn new(bytes: &'a [u8]) -> Source<'a>
-        ensures { result ≡ bytes.now }
-    {
+    pub fn new(bytes: &'a [u8]) -> Source<'a> {
         Source {
             rest: bytes,
             most: usize::MAX,
@@ -44,9 +28,7 @@ impl<'a> Source<'a> {
     }
 
     /// It gives so many bytes a read at most, and at least one while there are some.
-    pub fn at_most(self, most: usize) -> Source<'a>
-        ensures { result ≡ self.entry }
-    {
+    pub fn at_most(self, most: usize) -> Source<'a> {
         Source {
             most: most.max(1),
             ..self
@@ -54,9 +36,7 @@ impl<'a> Source<'a> {
     }
 
     /// Its first read is interrupted, and from then on every second one.
-    pub fn interrupted(self) -> Source<'a>
-        ensures { result ≡ self.entry }
-    {
+    pub fn interrupted(self) -> Source<'a> {
         Source {
             is_interrupted: true,
             interrupts_next: true,
@@ -65,9 +45,7 @@ impl<'a> Source<'a> {
     }
 
     /// It fails at each read once it has made so many (`ErrorKind::BrokenPipe`). Interruptions do not count.
-    pub fn failing_after(self, reads: usize) -> Source<'a>
-        ensures { result ≡ self.entry }
-    {
+    pub fn failing_after(self, reads: usize) -> Source<'a> {
         Source {
             reads_left: reads,
             ..self
@@ -75,9 +53,7 @@ impl<'a> Source<'a> {
     }
 
     /// It notes its reads in the log.
-    pub fn logged(self, log: &'a Log) -> Source<'a>
-        ensures { result ≡ self.entry }
-    {
+    pub fn logged(self, log: &'a Log) -> Source<'a> {
         Source {
             log: Some(log),
             ..self
@@ -93,8 +69,6 @@ impl<'a> Source<'a> {
 }
 
 impl<'a> Read for Source<'a> {
-    ghost remaining = { λ rest. Some rest };
-
     fn read(&mut self, buf: &mut [u8]) -> io::Result<usize> {
         if self.interrupts_next {
             self.interrupts_next = false;

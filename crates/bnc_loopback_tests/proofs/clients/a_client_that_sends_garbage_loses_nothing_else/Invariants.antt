@@ -1,8 +1,0 @@
-use Rattle.bnc_loopback_tests.proofs.clients.a_client_that_sends_garbage_loses_nothing_else.Given as goal
-
--- the node that is about to be made
-abbrev pub ghosts-run_node-J-Naming : goal.ghosts-run_node-J-Naming
-ghosts-run_node-J-Naming g a = record { book = a.name.seen.book }
-
-abbrev pub ghosts-run_node-J-Ledger : goal.ghosts-run_node-J-Ledger
-ghosts-run_node-J-Ledger g a = record { name = a.name.blank.name; parts = a.name.blank.parts }

@@ -1,0 +1,59 @@
+//! The words of faults.
+use attach::{ClaimFault, HallFault, NoRing, Overrun, Places, PlacesFault};
+use std::alloc::Global;
+use std::fmt;
+use std::process::Abort;
+
+// The fault is printed as this text.
+fn prints<R: Abort, F: fmt::Display>(rt: &R, alloc: Global, fault: &F, text: &str) {
+    let printed = format!(in alloc; "{fault}").expect(rt, "memory");
+    assert!(rt; printed.as_str() == text, "{printed}");
+}
+
+#[test]
+fn each_fault_has_a_text(rt: HostRuntime) {
+    let alloc = rt.alloc();
+    let overrun = "the line and the bytes that are owed exceed the bound";
+    prints(&rt, alloc, &Overrun, overrun);
+    prints(&rt, alloc, &HallFault::Overrun, overrun);
+    prints(
+        &rt,
+        alloc,
+        &HallFault::NoSuch,
+        "no attachment is under the key",
+    );
+    prints(
+        &rt,
+        alloc,
+        &PlacesFault::BadCount,
+        "the number of places is not 1 to 4096",
+    );
+    prints(
+        &rt,
+        alloc,
+        &PlacesFault::NoMemory,
+        "no memory for the places",
+    );
+    prints(&rt, alloc, &ClaimFault::Full, "each place is taken");
+    prints(
+        &rt,
+        alloc,
+        &ClaimFault::NoSeat,
+        "the places can have no further owner",
+    );
+}
+
+#[test]
+fn a_stand_has_a_text(rt: HostRuntime) {
+    let mut clerk = Places::new(rt.alloc(), 1).expect(&rt, "memory");
+    let stand = clerk.claim().expect(&rt, "a place");
+    let printed = format!(in rt.alloc(); "{stand:?}").expect(&rt, "memory");
+    assert!(rt; printed.as_str() == "Stand { place: 0 }");
+    let fault = NoRing { stand };
+    prints(
+        &rt,
+        rt.alloc(),
+        &fault,
+        "no memory for the client at place 0",
+    );
+}

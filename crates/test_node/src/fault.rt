@@ -1,0 +1,66 @@
+//! Why a row ends before its time.
+use gossip_delta::DeltaFault;
+use shared_node::{AskFault, NodeFault, PutFault};
+
+/// Why a row ends before its time.
+#[derive(Clone, Copy, Debug, PartialEq)]
+pub enum Fault {
+    /// There was no memory.
+    NoMemory,
+    /// The node would have no pass, or too many.
+    BadCount,
+    /// A reading call wasn't let in.
+    NoEntry,
+    /// A pass read this number, and was to read another.
+    Other(u64),
+    /// Not just the first markers are seen, so many of them.
+    NotTheFirst(usize),
+    /// An answer spells no marker.
+    NoMarker,
+    /// No number is left for a change.
+    Exhausted,
+    /// A number of milliseconds isn't a moment.
+    NoMoment,
+    /// An answer went back behind what the pass saw or was told of.
+    WentBack,
+    /// This many changes were put in the end, which isn't the right count.
+    Total(u64),
+    /// A node was closed without all of its passes, or wasn't with them.
+    NotClosed,
+    /// The node has fewer passes than the row needs.
+    NoPass,
+}
+
+impl From<NodeFault> for Fault {
+    fn from(fault: NodeFault) -> Fault {
+        match fault {
+            NodeFault::BadCount => Fault::BadCount,
+            NodeFault::NoMemory | NodeFault::NoReader => Fault::NoMemory,
+        }
+    }
+}
+
+impl From<PutFault> for Fault {
+    fn from(_: PutFault) -> Fault {
+        Fault::NoMemory
+    }
+}
+
+impl From<AskFault> for Fault {
+    fn from(fault: AskFault) -> Fault {
+        match fault {
+            AskFault::NoEntry => Fault::NoEntry,
+            // A vector can't be written to for want of memory alone.
+            AskFault::NoMemory | AskFault::Write => Fault::NoMemory,
+        }
+    }
+}
+
+impl From<DeltaFault> for Fault {
+    fn from(fault: DeltaFault) -> Fault {
+        match fault {
+            DeltaFault::NoEntry => Fault::NoEntry,
+            DeltaFault::NoMemory => Fault::NoMemory,
+        }
+    }
+}

@@ -1,0 +1,118 @@
+//! Plays the rows.
+ghost use Rattle.shared_node.specs.Names.{IsNamed};
+
+use crate::asks::facts;
+use crate::fault::Fault;
+use crate::growth::put_markers;
+use crate::rows::{Play, ROWS};
+use crate::steps::Cluster;
+use crate::threads::puts_beside_asks;
+use shared_node::{Naming, Pass, SharedNode, Unnamed};
+use std::marker::Brand;
+use std::sync::Wait;
+use std::thread::Threads;
+
+type Node<'a, J, R> = SharedNode<J, &'a R>;
+
+/// How many changes were put, where these are all passes of the node.
+fn total_of<J: Naming, R: Wait>(node: Node<'_, J, R>, passes: Vec<Pass<J>>) -> Result<u64, Fault> {
+    match node.close(passes) {
+        Ok((half, _)) => Ok(half.total()),
+        Err(_) => Err(Fault::NotClosed),
+    }
+}
+
+/// A node isn't closed where a pass is missing. Then it counts what all of them put.
+fn close<J: Naming, R: Wait>(cluster: Cluster<'_, J, R>) -> Result<u64, Fault> {
+    let Cluster {
+        node,
+        mut passes,
+        ..
+    } = cluster;
+    let Some(pass) = passes.pop() else {
+        return Err(Fault::NoPass);
+    };
+    match node.close(passes) {
+        Ok(_) => Err(Fault::NotClosed),
+        Err((node, mut passes)) => match passes.push(pass) {
+            Ok(()) => total_of(node, passes),
+            Err(_) => Err(Fault::NoMemory),
+        },
+    }
+}
+
+// The first pass puts three markers on what stood under the lock of the node.
+fn play_half<J: Naming, R: Wait>(cluster: Cluster<'_, J, R>) -> Result<u64, Fault> {
+    let Cluster {
+        alloc,
+        facts,
+        node,
+        passes,
+        ..
+    } = cluster;
+    let Ok((mut half, mut passes)) = node.close(passes) else {
+        return Err(Fault::NotClosed);
+    };
+    let Some(pass) = passes.first_mut() else {
+        return Err(Fault::NoPass);
+    };
+    put_markers(alloc, &facts, &mut half, pass, 3)?;
+    Ok(half.total())
+}
+
+fn play_on<J: Naming + Send + Sync, R: Threads + Wait + Sync>(
+    mut cluster: Cluster<'_, J, R>,
+    play: Play,
+) -> Result<u64, Fault> {
+    match play {
+        Play::Half => return play_half(cluster),
+        Play::Steps(steps) => cluster.play_steps(steps)?,
+        Play::Threads => puts_beside_asks(&mut cluster)?,
+    }
+    close(cluster)
+}
+
+// Plays on a new node, and says how many changes were put.
+fn play<J: Naming + Send + Sync, R: Threads + Wait + AllocGlobal + Sync>(
+    rt: &R,
+    name: Unnamed,
+    play: Play,
+) -> Result<u64, Fault>
+    requires { IsNamed J.book J.name J.parts name }
+{
+    let alloc = rt.alloc();
+    let facts = facts(alloc).ok_or(Fault::NoMemory)?;
+    let (node, passes) = SharedNode::<J, &R>::new(alloc, rt, name)?;
+    let cluster = Cluster {
+        rt,
+        alloc,
+        facts,
+        node,
+        passes,
+    };
+    play_on(cluster, play)
+}
+
+// Plays on a new node of so many passes.
+fn play_anew<R: Threads + Wait + AllocGlobal + Sync>(
+    rt: &R,
+    passes: usize,
+    row: Play,
+) -> Result<u64, Fault> {
+    play::<Brand, R>(rt, Unnamed::new(passes), row)
+}
+
+#[test]
+fn rows_come_to_their_totals(rt: HostRuntime) {
+    for (name, passes, row, total) in ROWS {
+        assert_eq!(rt; play_anew(&rt, passes, row), Ok(total), "{name}");
+    }
+}
+
+#[test]
+fn a_node_has_1_to_64_passes(rt: HostRuntime) {
+    for passes in [0, 65] {
+        let refused = play_anew(&rt, passes, Play::Steps(&[]));
+        assert!(rt; matches!(refused, Err(Fault::BadCount)));
+    }
+}

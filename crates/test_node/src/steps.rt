@@ -1,0 +1,138 @@
+//! Plays steps on a node, in one thread.
+use crate::asks::{A, delta_count, due_floor, marker, shown};
+use crate::changes::{mark, packet, post};
+use crate::fault::Fault;
+use crate::growth::put_markers_on;
+use crate::rows::{Read, Step};
+use chat_batch::Facts;
+use chat_change::Change;
+use gossip_delta::Taker;
+use shared_node::{Naming, NodeTaker, Pass, SharedNode};
+use std::alloc::Global;
+use std::sync::Wait;
+
+/// A node with its passes.
+#[derive(Drop)]
+pub struct Cluster<'a, J: Naming, R: Wait> {
+    pub rt: &'a R,
+    pub alloc: Global,
+    pub facts: Facts,
+    pub node: SharedNode<J, &'a R>,
+    pub passes: Vec<Pass<J>>,
+}
+
+// Where the change isn't taken for want of memory, it waits, and is taken with no further one.
+fn take<T: Taker>(alloc: Global, taker: &mut T, changes: &[Change]) -> Result<(), Fault> {
+    if taker.take(alloc, changes).is_ok() || taker.take(alloc, &[]).is_ok() {
+        Ok(())
+    } else {
+        Err(Fault::NoMemory)
+    }
+}
+
+fn tell<J: Naming, H: Wait + Drop, W: Wait>(
+    rt: &W,
+    node: &SharedNode<J, H>,
+    from: &mut Pass<J>,
+    to: &mut Pass<J>,
+    changes: &[Change],
+) -> Result<(), Fault> {
+    let receipt = node.put(rt, from, changes)?;
+    to.learn(&receipt);
+    Ok(())
+}
+
+// The first pass puts changes, and the second one learns of them.
+fn tell_second<J: Naming, H: Wait + Drop, W: Wait>(
+    rt: &W,
+    node: &SharedNode<J, H>,
+    passes: &mut [Pass<J>],
+    changes: &[Change],
+) -> Result<(), Fault> {
+    let Some((first, rest)) = passes.split_first_mut() else {
+        return Err(Fault::NoPass);
+    };
+    match rest.first_mut() {
+        Some(second) => tell(rt, node, first, second, changes),
+        None => Err(Fault::NoPass),
+    }
+}
+
+impl<J: Naming, R: Wait> Cluster<'_, J, R> {
+    // The number that a pass reads.
+    fn read(&mut self, place: usize, read: Read) -> Result<u64, Fault> {
+        let Some(pass) = self.passes.get_mut(place) else {
+            return Err(Fault::NoPass);
+        };
+        match read {
+            Read::Marker => marker(self.alloc, &self.facts, pass, A),
+            Read::Delta => delta_count(self.alloc, pass),
+            Read::Shown(id) => shown(self.alloc, pass, id),
+            Read::Due => due_floor(self.alloc, pass),
+        }
+    }
+
+    fn check_read(&mut self, place: usize, read: Read, wanted: u64) -> Result<(), Fault> {
+        let number = self.read(place, read)?;
+        if number == wanted {
+            Ok(())
+        } else {
+            Err(Fault::Other(number))
+        }
+    }
+
+    // The first pass puts a change, and the second one learns of it.
+    fn tell(&mut self, change: Option<Change>) -> Result<(), Fault> {
+        let change = change.ok_or(Fault::NoMemory)?;
+        tell_second(self.rt, &self.node, self.passes.as_mut_slice(), &[change])
+    }
+
+    // The last pass takes what a peer sends.
+    fn take(&mut self, change: Option<Change>) -> Result<(), Fault> {
+        let change = change.ok_or(Fault::NoMemory)?;
+        let Some(pass) = self.passes.pop() else {
+            return Err(Fault::NoPass);
+        };
+        let mut taker = NodeTaker::new(&self.node, pass, self.rt);
+        let taken = take(self.alloc, &mut taker, &[change]);
+        match self.passes.push(taker.into_pass()) {
+            Ok(()) => taken,
+            Err(_) => Err(Fault::NoMemory),
+        }
+    }
+
+    fn put_packet(&mut self) -> Result<(), Fault> {
+        let Some(pass) = self.passes.first_mut() else {
+            return Err(Fault::NoPass);
+        };
+        let changes = packet(self.alloc).ok_or(Fault::NoMemory)?;
+        self.node.put(self.rt, pass, &changes)?;
+        Ok(())
+    }
+
+    fn put_markers(&mut self, count: usize) -> Result<(), Fault> {
+        let Some(pass) = self.passes.first_mut() else {
+            return Err(Fault::NoPass);
+        };
+        put_markers_on(self.rt, &self.node, self.alloc, &self.facts, pass, count)
+    }
+
+    fn play_step(&mut self, step: Step) -> Result<(), Fault> {
+        match step {
+            Step::Read(place, read, wanted) => self.check_read(place, read, wanted),
+            Step::TellMark(ms) => self.tell(mark(self.alloc, "#a", ms)),
+            Step::TellPost(ms) => self.tell(post(self.alloc, "m1", ms)),
+            Step::Take(ms) => self.take(mark(self.alloc, "#a", ms)),
+            Step::Packet => self.put_packet(),
+            Step::Markers(count) => self.put_markers(count),
+        }
+    }
+
+    /// Plays the steps.
+    pub fn play_steps(&mut self, steps: &[Step]) -> Result<(), Fault> {
+        for step in steps {
+            self.play_step(*step)?;
+        }
+        Ok(())
+    }
+}

@@ -1,0 +1,225 @@
+//! A node with one connection to a peer.
+use anyhow::Error;
+use chat_state::State;
+use gossip_delta::read_change;
+use gossip_link::{
+    Life, Link, LinkFault, NodeName, Packet, PeerLine, SharedWord, Side, Terms, read_peer,
+    write_packet,
+};
+use peer_session::{Arrived, Heard, Outcome, PeerSession};
+use std::alloc::Global;
+
+/// A node, its link with a peer, and its connection with that.
+#[derive(Drop)]
+pub struct Node {
+    terms: Terms,
+    // the place of the peer in the terms
+    place: usize,
+    link: Link,
+    state: State,
+    session: PeerSession,
+    is_known: bool,
+    now: u64,
+}
+
+fn life_of(alloc: Global, name: &[u8], incarnation: u64) -> Result<Life, LinkFault> {
+    Ok(Life::new(NodeName::new(alloc, name)?, incarnation))
+}
+
+const NAMES: [&[u8]; 3] = [b"n1", b"n2", b"n3"];
+
+fn push_names(alloc: Global, names: &mut Vec<NodeName>) -> Result<(), Error> {
+    for name in NAMES {
+        let name = NodeName::new(alloc, name)?;
+        names.push(name)?;
+    }
+    Ok(())
+}
+
+// The terms of a node with three peers, itself among them.
+fn terms_of(alloc: Global, me: &[u8], incarnation: u64) -> Result<Terms, Error> {
+    let mut peers = Vec::new(alloc);
+    push_names(alloc, &mut peers)?;
+    let word = SharedWord::new(alloc, b"green")?;
+    Ok(Terms::new(word, life_of(alloc, me, incarnation)?, peers))
+}
+
+fn link_of(alloc: Global, me: &[u8], incarnation: u64, peer: &[u8]) -> Result<Link, LinkFault> {
+    let me = life_of(alloc, me, incarnation)?;
+    Ok(Link::new(me, NodeName::new(alloc, peer)?))
+}
+
+fn hello_word(answer: Result<bool, LinkFault>) -> &'static [u8] {
+    match answer {
+        Ok(true) => b"new",
+        Ok(false) => b"same",
+        Err(LinkFault::WrongLife) => b"wrong life",
+        Err(_) => b"another fault",
+    }
+}
+
+fn ack_word(answer: Result<(), LinkFault>) -> &'static [u8] {
+    match answer {
+        Ok(()) => b"taken",
+        Err(LinkFault::WrongLife) => b"wrong life",
+        Err(LinkFault::AckTooHigh) => b"too high",
+        Err(_) => b"another fault",
+    }
+}
+
+fn link_word(link: &mut Link, line: &PeerLine) -> &'static [u8] {
+    match line {
+        PeerLine::Hello(life) => hello_word(link.hello(life)),
+        PeerLine::Ack(ack) => ack_word(link.take_ack(ack)),
+        _ => b"no line for a link",
+    }
+}
+
+impl Node {
+    /// A node of that name in that incarnation, and the place of its peer among n1, n2 and n3. It holds nothing, and has no
+    /// connection yet.
+    pub fn new(
+        alloc: Global,
+        me: &[u8],
+        incarnation: u64,
+        peer: &[u8],
+        place: usize,
+    ) -> Result<Node, Error> {
+        let terms = terms_of(alloc, me, incarnation)?;
+        let link = link_of(alloc, me, incarnation, peer)?;
+        Ok(Node {
+            terms,
+            place,
+            link,
+            state: State::new(alloc),
+            session: PeerSession::new(Side::Acceptor),
+            is_known: false,
+            now: 0,
+        })
+    }
+
+    /// How many changes it counted.
+    pub fn front(&self) -> u64 {
+        self.state.front()
+    }
+
+    /// Begins a new connection, and appends what is sent first.
+    pub fn connect(&mut self, side: Side, out: &mut Vec<u8>) -> Result<(), Error> {
+        self.session = PeerSession::new(side);
+        self.is_known = false;
+        Ok(self.session.open(&self.terms, out)?)
+    }
+
+    // Makes the next packet, if one is due, and appends it.
+    fn send_next(&mut self, alloc: Global, out: &mut Vec<u8>) -> Result<(), Error> {
+        if self.is_known {
+            let (link, state) = (&mut self.link, &mut self.state);
+            let _ = self.session.send_next(alloc, link, state, self.now, out)?;
+        }
+        Ok(())
+    }
+
+    // What comes of a message of the peer, in a word.
+    fn conclude(&mut self, outcome: Outcome) -> &'static [u8] {
+        match outcome {
+            Outcome::Ignored => b"ignored",
+            Outcome::Known => b"known",
+            Outcome::Taken => {
+                self.session.publish();
+                b"taken"
+            }
+            Outcome::TakenInPart => {
+                self.session.publish();
+                b"taken in part"
+            }
+        }
+    }
+
+    // Carries out what arrived from the peer at a place.
+    fn arrive(
+        &mut self,
+        alloc: Global,
+        place: usize,
+        arrived: &Arrived,
+        out: &mut Vec<u8>,
+    ) -> Result<&'static [u8], Error> {
+        if place != self.place {
+            return Ok(b"another peer");
+        }
+        self.is_known = true;
+        let (link, state) = (&mut self.link, &mut self.state);
+        let outcome = self.session.arrive(alloc, link, arrived, state, out)?;
+        Ok(self.conclude(outcome))
+    }
+
+    fn answer(
+        &mut self,
+        alloc: Global,
+        line: Option<&[u8]>,
+        out: &mut Vec<u8>,
+    ) -> Result<&'static [u8], Error> {
+        let heard = self.session.hear(alloc, &self.terms, line, out)?;
+        match &heard {
+            Heard::Nothing => Ok(b""),
+            Heard::Close => Ok(b"close"),
+            Heard::Message(place, arrived) => self.arrive(alloc, *place, arrived, out),
+        }
+    }
+
+    /// Hears a line, of which None was too long, and appends what is sent because of it: the word for what it came to.
+    pub fn hear(
+        &mut self,
+        alloc: Global,
+        line: Option<&[u8]>,
+        out: &mut Vec<u8>,
+    ) -> Result<&'static [u8], Error> {
+        let word = self.answer(alloc, line, out)?;
+        self.send_next(alloc, out)?;
+        Ok(word)
+    }
+
+    /// Puts the change that a line spells.
+    pub fn put(&mut self, alloc: Global, line: &[u8]) -> Result<(), Error> {
+        let change = read_change(alloc, line)?;
+        let _ = self.state.absorb(change)?;
+        Ok(())
+    }
+
+    /// Publishes what was put, and appends what is sent because of it.
+    pub fn publish(&mut self, alloc: Global, out: &mut Vec<u8>) -> Result<(), Error> {
+        self.session.publish();
+        self.send_next(alloc, out)
+    }
+
+    /// It is that moment: whether the connection is to be closed. What is sent because of it is appended.
+    pub fn tick(&mut self, alloc: Global, now: u64, out: &mut Vec<u8>) -> Result<bool, Error> {
+        self.now = now;
+        let is_over = self.session.tick(now);
+        self.send_next(alloc, out)?;
+        Ok(is_over)
+    }
+
+    /// When it is to be told of the time again.
+    pub fn deadline(&self) -> Option<u64> {
+        self.session.deadline()
+    }
+
+    /// The link alone hears a hello or an acknowledgement: its answer, and the number that is acknowledged.
+    pub fn ask_link(&mut self, alloc: Global, line: &[u8]) -> Result<(&'static [u8], u64), Error> {
+        let line = read_peer(alloc, line)?;
+        let word = link_word(&mut self.link, &line);
+        Ok((word, self.link.acked()))
+    }
+
+    fn packet(&mut self, alloc: Global) -> Result<Option<Packet>, LinkFault> {
+        self.link.make(alloc, &mut self.state)
+    }
+
+    /// The link alone makes a packet, which is appended.
+    pub fn ask_packet(&mut self, alloc: Global, out: &mut Vec<u8>) -> Result<(), Error> {
+        match &self.packet(alloc)? {
+            Some(packet) => Ok(write_packet(packet, out)?),
+            None => Ok(out.extend_from_slice(b"nothing")?),
+        }
+    }
+}

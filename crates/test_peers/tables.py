@@ -1,0 +1,367 @@
+#!/usr/bin/env python3
+"""Writes the tables of peer lines in data/, each with what a plain reader makes of the line: it goes by the table of
+docs/PROTOCOL.md alone, field by field. The gate doesn't run it; it runs what it wrote.
+
+    ./tables.py          writes data/limits, data/changed, data/gathers, data/exchanges
+"""
+
+import os
+import re
+
+GREATEST = 18446744073709551615
+GREATEST_MOMENT = 253402300799999
+LINE_LIMIT = 510
+
+
+# ---- fields: each is a test of the bytes between two spaces
+
+def number(most):
+    return lambda f: re.fullmatch(rb"0|[1-9][0-9]*", f) is not None and int(f) <= most
+
+
+def plain(f):
+    """Bytes that may stand in a word."""
+    return not set(f) & set(b"\0\r\n ")
+
+
+def node(f):
+    return re.fullmatch(rb"[a-z0-9]{1,32}", f) is not None
+
+
+def name(f):
+    return re.fullmatch(rb"[a-z0-9_-]{1,32}", f) is not None
+
+
+def target(f):
+    return 1 <= len(f) <= 200 and plain(f) and b"," not in f and f[:1] != b":" and f != b"*"
+
+
+def folded_target(f):
+    return target(f) and not set(f) & set(range(ord("A"), ord("Z") + 1))
+
+
+def identity(f):
+    """A message id, and a source."""
+    return 1 <= len(f) <= 255 and plain(f) and f[:1] != b":"
+
+
+def kind(f):
+    return f in (b"P", b"N")
+
+
+def shared_word(f):
+    return 1 <= len(f) <= 64 and plain(f)
+
+
+def literal(word):
+    return lambda f: f == word
+
+
+moment = number(GREATEST_MOMENT)
+count = number(GREATEST)
+BUFFER = [name, name, folded_target]
+LIVES = [node, count, node, count]
+
+SHAPES = {
+    b"W": [shared_word],
+    b"H": [literal(b"1"), node, count],
+    b"D": LIVES + [count, count, number(256)],
+    b"A": LIVES + [count],
+}
+CHANGES = {
+    b"REDACT": BUFFER + [identity, lambda f: f == b"*" or moment(f)],
+    b"MARK": BUFFER + [moment],
+    b"FLOOR": BUFFER + [moment],
+}
+POST = BUFFER + [identity, moment, kind, target, identity]
+
+
+def fits(fields, shape):
+    return len(fields) == len(shape) and all(test(f) for f, test in zip(fields, shape))
+
+
+def is_post(line):
+    parts = line.split(b" ", 10)
+    if len(parts) != 11 or parts[10][:1] != b":" or set(parts[10]) & set(b"\0\r\n"):
+        return False
+    if not fits(parts[2:10], POST):
+        return False
+    command = {b"P": b"PRIVMSG", b"N": b"NOTICE"}[parts[7]]
+    return len(b":%s %s %s %s" % (parts[9], command, parts[8], parts[10])) <= LINE_LIMIT
+
+
+def letter_of(line):
+    """The first word of the line that is read, or `-`."""
+    words = line.split(b" ")
+    if words[0] == b"C":
+        if words[1:2] == [b"POST"]:
+            return "C" if is_post(line) else "-"
+        shape = CHANGES.get(words[1]) if len(words) > 1 else None
+        return "C" if shape and fits(words[2:], shape) else "-"
+    shape = SHAPES.get(words[0])
+    if shape is None or not fits(words[1:], shape):
+        return "-"
+    if words[0] == b"D" and not (int(words[5]) < int(words[6]) and 1 <= int(words[7])):
+        return "-"
+    return words[0].decode()
+
+
+# ---- lines of which a byte is changed
+
+PACKET = [
+    b"W green",
+    b"H 1 n1 1",
+    b"D n1 12 n2 3 0 5 5",
+    b"C POST demo net #a m1 1000 P #A bob!b@h :hi  :all",
+    b"C POST demo net bob m2 0 N al bob!b@h :",
+    b"C REDACT demo net #a m1 1000",
+    b"C REDACT demo net #a m2 *",
+    b"C MARK demo net #a 1001",
+    b"C FLOOR demo net #a 999",
+    b"A n2 3 n1 12 5",
+]
+PUT = [0, 10, 13, 32, 255] + [ord(c) for c in "07zZ:*"]
+
+
+def changed(line, at, change):
+    before, here, behind = line[:at], line[at:at + 1], line[at + 1:]
+    if change == "dropped":
+        return before + behind
+    if change == "doubled":
+        return before + here + here + behind
+    if change == "cut":
+        return before
+    return before + bytes([change]) + behind
+
+
+def changed_table():
+    for line in PACKET:
+        yield b"== " + line
+        for change in PUT + ["dropped", "doubled", "cut"]:
+            letters = "".join(letter_of(changed(line, at, change)) for at in range(len(line)))
+            yield f"{change} {letters}".encode()
+
+
+# ---- limits
+
+def post(network="net", target="#a", id="m1", ms=1, to="#a", source="bob!b@h", body="hi"):
+    return f"C POST demo {network} {target} {id} {ms} P {to} {source} :{body}"
+
+
+def longest_body(source, to):
+    return LINE_LIMIT - len(f":{source} PRIVMSG {to} :")
+
+
+def limit_lines():
+    yield from PACKET_TEXTS
+    for n in (64, 65):
+        yield "W " + "w" * n
+    yield "W w w"
+    for n in (32, 33):
+        yield f"H 1 {'n' * n} 1"
+        yield f"A {'n' * n} 1 n2 1 0"
+        yield f"A n1 1 {'n' * n} 1 0"
+        yield f"C MARK {'d' * n} net #a 1"
+        yield f"C MARK demo {'n' * n} #a 1"
+    for n in (GREATEST, GREATEST + 1, 10 ** 20, 2 ** 128):
+        yield f"H 1 n1 {n}"
+        yield f"A n1 {n} n2 1 0"
+        yield f"A n1 1 n2 {n} 0"
+        yield f"A n1 1 n2 1 {n}"
+        yield f"D n1 1 n2 1 0 {n} 1"
+        yield f"D n1 1 n2 1 {n} {n} 1"
+        yield f"D n1 1 n2 1 0 2 {n}"
+    yield f"D n1 1 n2 1 {GREATEST - 1} {GREATEST} 1"
+    yield f"D n1 1 n2 1 {GREATEST} {GREATEST} 1"
+    yield f"D n1 1 n2 1 {GREATEST} 0 1"
+    for span in ("0 1", "1 1", "2 1", "255 256", "256 256"):
+        yield f"D n1 1 n2 1 {span} 1"
+    for n in (0, 1, 255, 256, 257, 512):
+        yield f"D n1 1 n2 1 0 300 {n}"
+    for n in (GREATEST_MOMENT, GREATEST_MOMENT + 1, GREATEST):
+        yield f"C MARK demo net #a {n}"
+        yield f"C FLOOR demo net #a {n}"
+        yield f"C REDACT demo net #a m1 {n}"
+        yield post(ms=n)
+    for n in (200, 201):
+        yield f"C MARK demo net {'#' * n} 1"
+        yield post(target="#" * n)
+        yield post(to="#" * n)
+    for n in (255, 256):
+        yield f"C REDACT demo net #a {'m' * n} 1"
+        yield post(id="m" * n)
+        yield post(source="s" * n)
+    for source, to in (("bob!b@h", "#a"), ("s" * 255, "#" * 200)):
+        for more in (0, 1):
+            yield post(source=source, to=to, body="b" * (longest_body(source, to) + more))
+    for number in ("00", "01", "+1", "-1", "1.0", "0x1", "1_0", "1e1"):
+        yield f"H 1 n1 {number}"
+        yield f"C MARK demo net #a {number}"
+        yield f"D n1 1 n2 1 0 2 {number}"
+    for other in ("", " ", "W", "W ", "H", "H 1", "H 1 n1", "H 2 n1 1", "H 0 n1 1", "H 1 n1 1 1", "h 1 n1 1", "D",
+                  "D n1 1 n2 1 0 2", "D n1 1 n2 1 0 2 2 2", "A n1 1 n2 1", "A n1 1 n2 1 0 0", "C", "C POST", "C MARK",
+                  "C PART demo net #a 1", "C mark demo net #a 1", "C MARK demo net #A 1", "C MARK demo net #a 1 ",
+                  "C MARK demo net  1", "C REDACT demo net #a m1", "C REDACT demo net #a m1 **", "C FLOOR demo net * 1",
+                  "X n1 1", "WW green", "W\tgreen"):
+        yield other
+
+
+PACKET_TEXTS = [line.decode() for line in PACKET]
+
+
+def limits_table():
+    yield b"== limits"
+    for line in limit_lines():
+        yield f"{letter_of(line.encode())} {line}".encode()
+
+
+# ---- lines that come over one connection
+
+MARK = "C MARK demo net #a 1"
+
+
+def head(count):
+    return f"D n1 1 n2 1 0 300 {count}"
+
+
+HELLO, ACK, WORD = "H 1 n1 1", "A n2 1 n1 1 5", "W green"
+
+CONNECTIONS = {
+    "words, hellos and acknowledgements arrive by themselves": [WORD, HELLO, ACK, WORD],
+    "a packet arrives with the last of its changes": [head(3), MARK, MARK, MARK, WORD],
+    "a change without a head": [MARK, head(1), MARK, MARK],
+    "no change is missing behind 256 of them": [head(256)] + [MARK] * 256 + [HELLO],
+    "a head of 256 changes, and a hello behind it": [head(256), HELLO, MARK, head(1), MARK],
+    "a head that is refused opens no packet": [head(257), MARK, head(1), MARK],
+    "a head from where it ends opens no packet": ["D n1 1 n2 1 5 5 1", MARK, head(1), MARK],
+    "a packet of each kind of change": ["D n1 12 n2 3 0 5 5"] + PACKET_TEXTS[3:8] + PACKET_TEXTS[8:9] + [ACK],
+    "two packets in turn": [head(2), MARK, MARK, head(1), MARK],
+}
+for word, line in (("word", WORD), ("hello", HELLO), ("head", head(1)), ("acknowledgement", ACK)):
+    CONNECTIONS[f"a {word} in place of the first change, and then a whole packet"] = \
+        [head(2), line, head(2), MARK, MARK]
+    CONNECTIONS[f"a {word} in place of the last change, and then a whole packet"] = \
+        [head(2), MARK, line, head(2), MARK, MARK]
+
+
+def arrivals(lines):
+    """What arrives with each line, where a line that can't be read doesn't come to the gather."""
+    missing = 0
+    for line in lines:
+        read = letter_of(line.encode())
+        if read == "-":
+            yield "-"
+        elif missing:
+            missing = missing - 1 if read == "C" else 0
+            yield "-" if read != "C" else ("." if missing else "P")
+        elif read == "D":
+            missing = int(line.split(" ")[7])
+            yield "."
+        else:
+            yield "-" if read == "C" else read
+
+
+def gathers_table():
+    for name, lines in CONNECTIONS.items():
+        yield f"== {name}".encode()
+        for letter, line in zip(arrivals(lines), lines):
+            yield f"{letter} {line}".encode()
+
+
+# ---- two nodes that are connected, as the part "Between nodes" of docs/PROTOCOL.md has them
+
+DELTA_LIMIT = 256
+
+
+class Node:
+    """A node that is in its first incarnation, and each of whose changes is a marker of a buffer of its own."""
+
+    def __init__(self, me, peer, changes):
+        self.me, self.peer, self.changes = me, peer, list(changes)
+        self.acked = 0
+        self.is_known = self.is_due = False
+        self.under_way = None
+        self.missing, self.end = 0, None
+
+    def greeting(self):
+        return [WORD, f"H 1 {self.me} 1"]
+
+    def next_packet(self):
+        if not self.is_known or not self.is_due or self.under_way is not None:
+            return []
+        self.is_due = False
+        newer = self.changes[self.acked:self.acked + DELTA_LIMIT]
+        if not newer:
+            return []
+        self.under_way = self.acked + len(newer)
+        return [f"D {self.me} 1 {self.peer} 1 {self.acked} {self.under_way} {len(newer)}"] + newer
+
+    def acknowledge(self, upto):
+        self.acked, self.is_due = max(self.acked, upto), True
+        if upto == self.under_way:
+            self.under_way = None
+
+    def take(self, change):
+        if change not in self.changes:
+            self.changes.append(change)
+        self.missing -= 1
+        if self.missing:
+            return []
+        self.is_due = True
+        return [f"A {self.me} 1 {self.peer} 1 {self.end}"]
+
+    def hear(self, line, greets):
+        words, sent = line.split(" "), []
+        if words[0] == "W" and greets:
+            sent = self.greeting()
+        elif words[0] == "H":
+            self.is_known = self.is_due = True
+        elif words[0] == "D":
+            self.end, self.missing = words[6], int(words[7])
+        elif words[0] == "C":
+            sent = self.take(line)
+        elif words[0] == "A":
+            self.acknowledge(int(words[5]))
+        return sent + self.next_packet()
+
+
+def exchanged(opener, acceptor):
+    """The lines that each of the two sends, until both are silent."""
+    to_acceptor, to_opener = opener.greeting(), []
+    while to_acceptor:
+        yield from ("1> " + line for line in to_acceptor)
+        to_opener = [reply for line in to_acceptor for reply in acceptor.hear(line, True)]
+        yield from ("2> " + line for line in to_opener)
+        to_acceptor = [reply for line in to_opener for reply in opener.hear(line, False)]
+
+
+def exchanges_table():
+    for first, second in ((0, 0), (1, 0), (300, 0), (300, 10)):
+        ours = [f"C MARK demo net #a-{i} 5" for i in range(first)]
+        theirs = [f"C MARK demo net #b-{i} 5" for i in range(second)]
+        opener, acceptor = Node("n1", "n2", ours), Node("n2", "n1", theirs)
+        yield f"== {first} and {second} changes".encode()
+        yield from (f"1 {change}".encode() for change in ours)
+        yield from (f"2 {change}".encode() for change in theirs)
+        if not ours + theirs:
+            yield b"none"
+        yield b"--"
+        yield from (line.encode() for line in exchanged(opener, acceptor))
+        assert sorted(opener.changes) == sorted(acceptor.changes) == sorted(ours + theirs)
+        for node in (opener, acceptor):
+            yield f"front {len(node.changes)}".encode()
+
+
+TABLES = {"limits": limits_table, "changed": changed_table, "gathers": gathers_table, "exchanges": exchanges_table}
+
+
+def main():
+    data = os.path.join(os.path.dirname(os.path.abspath(__file__)), "data")
+    for name, rows in TABLES.items():
+        with open(os.path.join(data, name), "wb") as out:
+            for row in rows():
+                out.write(row + b"\n")
+
+
+if __name__ == "__main__":
+    main()

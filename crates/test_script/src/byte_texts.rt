@@ -1,0 +1,73 @@
+//! Searches in texts, writes of what a writer doesn't take at once, and the text of want of memory.
+use byte_text::{NoMemory, find_byte, put};
+use std::alloc::{AllocError, Global};
+use std::io::ErrorKind;
+use std::test::Fail;
+use test_devices::{Event, Log, Sink};
+
+const TEXT: &[u8] = b"PING :x\r\n";
+
+// Whether a writer that fails once it has taken so many bytes, one a write, gets these, and that fault is told.
+fn stops_at(alloc: Global, bytes: usize) -> bool {
+    let mut writer = Sink::new(alloc)
+        .at_most(1)
+        .interrupted()
+        .failing_after(bytes);
+    let fault = put(&mut writer, TEXT).map_err(|e| e.kind());
+    fault == Err(ErrorKind::BrokenPipe) && TEXT.get(..bytes) == Some(writer.bytes())
+}
+
+#[test]
+fn stops_at_each_write(rt: HostRuntime) {
+    for bytes in 0..TEXT.len() {
+        assert!(rt; stops_at(rt.alloc(), bytes), "at {bytes}");
+    }
+    let mut writer = Sink::new(rt.alloc()).at_most(1).interrupted();
+    assert!(rt; put(&mut writer, TEXT).is_ok());
+    assert!(rt; writer.bytes() == TEXT);
+}
+
+#[test]
+fn gives_up_at_a_write_of_nothing(rt: HostRuntime) {
+    let mut writer = Sink::new(rt.alloc()).at_most(0);
+    let fault = put(&mut writer, TEXT).map_err(|e| e.kind());
+    assert!(rt; fault == Err(ErrorKind::WriteZero));
+}
+
+/// A short write is followed by one of the rest, no bytes by no write, and nothing is flushed.
+#[test]
+fn writes_what_is_left(rt: HostRuntime) {
+    let log = Log::new(rt.alloc());
+    let mut writer = Sink::new(rt.alloc()).at_most(7).logged(&log);
+    assert!(rt; put(&mut writer, b"").is_ok() && log.is(&[]));
+    assert!(rt; put(&mut writer, TEXT).is_ok());
+    assert!(rt; log.is(&[Event::Write(7), Event::Write(2)]));
+}
+
+#[test]
+fn finds_the_first(rt: HostRuntime) {
+    let rows: [(&[u8], Option<usize>); 6] = [
+        (b"", None),
+        (b" ", Some(0)),
+        (b"P", None),
+        (b"P ", Some(1)),
+        (b"PING", None),
+        (b"PING :a b", Some(4)),
+    ];
+    for (text, at) in rows {
+        assert_eq!(rt; find_byte(text, b' '), at);
+    }
+    let mut long = [b'x'; 200];
+    assert_eq!(rt; find_byte(&long, b'\n'), None);
+    long[150] = b'\n';
+    long[199] = b'\n';
+    assert_eq!(rt; find_byte(&long, b'\n'), Some(150));
+    assert_eq!(rt; find_byte(&long[151..], b'\n'), Some(48));
+}
+
+#[test]
+fn says_that_there_is_no_memory(rt: HostRuntime) -> Result<(), Fail> {
+    let fault = NoMemory::from(AllocError);
+    assert!(rt; format!(in rt.alloc(); "{fault}")?.as_str() == "no memory");
+    Ok(())
+}

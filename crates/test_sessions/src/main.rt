@@ -1,0 +1,98 @@
+//! Plays files of cases and compares what each case comes to with what it is to come to: sessions of clients (`client`),
+//! sessions with servers (`upstream`), and configurations (`config`). The words name the files; the part of a file's name in
+//! front of the first `_` says how its cases are played ([`cases`] has the forms). Then it tells the answers of each set of
+//! capabilities (`capabilities`), the faults of the crates in words and what the operator reads (`words`).
+//!
+//! It stands on `client_session`, `upstream_session`, `chat_batch`, `node_config` and the crates whose faults it tells. Read
+//! `play_file` first.
+#![tactic(auto)]
+
+mod capabilities;
+mod cases;
+mod client;
+mod config;
+mod facts;
+mod hearers;
+mod telling;
+mod upstream;
+mod words;
+
+use anyhow::Error;
+use cases::{Case, case_in};
+use std::alloc::Global;
+use std::io::Write;
+use std::{env, fs, io};
+
+/// What a case of sessions comes to.
+fn played(alloc: Global, player: &str, case: Case<'_>) -> Result<Vec<u8>, Error> {
+    let script = cases::spelled(alloc, case.script)?;
+    match player {
+        "client" => client::play(alloc, case.setting, script.as_str()),
+        _ => upstream::play(alloc, case.setting, script.as_str()),
+    }
+}
+
+/// Whether a case of sessions comes to what it is to come to. What else it comes to is told.
+fn is_right_session(rt: &HostRuntime, player: &str, part: &str) -> Result<bool, Error> {
+    let Some(case) = case_in(part) else {
+        return Ok(false);
+    };
+    let out = played(rt.alloc(), player, case)?;
+    if out.as_slice() == case.expected.as_bytes() {
+        return Ok(true);
+    }
+    tell(rt, &out)?;
+    Ok(false)
+}
+
+/// Writes bytes to the standard output.
+fn tell(rt: &HostRuntime, out: &[u8]) -> io::Result<()> {
+    let mut writer = io::writer(rt);
+    writer.write_all(out)
+}
+
+/// Plays a case, and says whether it is right.
+fn is_right(rt: &HostRuntime, player: &str, example: &str, part: &str) -> Result<bool, Error> {
+    match player {
+        "config" => config::is_right_change(rt.alloc(), example, part),
+        "wholes" => config::is_right_whole(rt, part),
+        "hearers" => hearers::is_hearing(rt.alloc(), part),
+        _ => is_right_session(rt, player, part),
+    }
+}
+
+/// Plays the cases of a file, and says how many there were and how many came to something else.
+fn play_file(rt: &HostRuntime, example: &str, path: &str) -> Result<(), Error> {
+    let (player, _) = path.split_once("_").unwrap_or((path, ""));
+    let mark = match player {
+        "wholes" | "hearers" => "\n",
+        _ => "== ",
+    };
+    let text = fs::read_to_string(rt, path)?;
+    let mut count: u64 = 0;
+    let mut wrong: u64 = 0;
+    for part in text.split(mark) {
+        if part.is_empty() {
+            continue;
+        }
+        count = count.saturating_add(1);
+        if !is_right(rt, player, example, part)? {
+            wrong = wrong.saturating_add(1);
+            println!(rt; "wrong: {part}")?;
+        }
+    }
+    println!(rt; "{path}: {count} cases, {wrong} wrong")?;
+    Ok(())
+}
+
+fn main(rt: HostRuntime) -> Result<(), Error> {
+    let example = fs::read_to_string(&rt, "example")?;
+    for path in env::args(&rt)?.skip(1) {
+        play_file(&rt, example.as_str(), path.as_str())?;
+    }
+    let answers = capabilities::told(rt.alloc())?;
+    tell(&rt, answers.as_bytes())?;
+    let words = words::told(rt.alloc())?;
+    tell(&rt, &words)?;
+    Ok(())
+}

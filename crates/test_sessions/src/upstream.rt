@@ -1,0 +1,195 @@
+//! Sessions with servers, played line by line:
+//!
+//!     == new|up|echo|redact|last|odd: name of the case
+//!     < line of the server
+//!     > line of a client
+//!     + line of a client, which comes with CR LF
+//!     ? tells how the session stands
+//!     ! starts the session
+//!     --
+//!     `send`, `put`, `relay` and `close` with what they carry, and how the session stands
+//!
+//! Each line comes at the moment 1000. A session is of the account `demo` with the network `net`, as `al`, in the channels
+//! #a and #b, of the node n1 in its incarnation 7. It is new, or the server has welcomed it (`up`), having acknowledged
+//! `echo-message` (`echo`) or `draft/message-redaction` (`redact`); one has used up its serial numbers (`last`), and one is
+//! of a node whose name can't stand in an id (`odd`).
+use crate::facts::{config_of, moment};
+use crate::telling::{tell_next, tell_row, without_ending};
+use anyhow::Error;
+use byte_text::Text;
+use chat_change::Change;
+use gossip_delta::write_change;
+use node_config::Network;
+use std::alloc::{AllocError, Global};
+use std::io::Write;
+use upstream_session::{Channels, Config, Recipients, UpEffect, Upstream};
+
+const LAST_SERIAL: u64 = 18_446_744_073_709_551_615;
+
+fn network_of(alloc: Global) -> Result<Network, Error> {
+    let config = config_of(alloc)?;
+    match config.networks.first() {
+        Some(network) => Ok(network.try_clone(alloc)?),
+        None => Err(Error::from(AllocError)),
+    }
+}
+
+// A session that isn't connected yet.
+fn upstream_of(alloc: Global, node: &[u8], first_serial: u64) -> Result<Upstream, Error> {
+    let node = Text::new(alloc, node)?;
+    let Network {
+        account,
+        name,
+        nick,
+        user,
+        channels,
+        ..
+    } = network_of(alloc)?;
+    let config = Config {
+        account,
+        network: name,
+        nick,
+        user,
+        channels: Channels::of(channels),
+    };
+    Ok(Upstream::new(alloc, config, node, 7, first_serial))
+}
+
+/// The session of a setting.
+fn session_of(alloc: Global, setting: &str) -> Result<Upstream, Error> {
+    let mut session = match setting {
+        "last" => upstream_of(alloc, b"n1", LAST_SERIAL)?,
+        "odd" => upstream_of(alloc, b"n 1", 1)?,
+        _ => upstream_of(alloc, b"n1", 1)?,
+    };
+    let lines = match setting {
+        "new" => "",
+        "echo" => "CAP al ACK :echo-message\n:irc.example 001 al :Welcome",
+        "redact" => "CAP al ACK :draft/message-redaction\n:irc.example 001 al :Welcome",
+        _ => ":irc.example 001 al :Welcome",
+    };
+    let now = moment()?;
+    for line in lines.lines() {
+        let _ = session.step(alloc, line.as_bytes(), now)?;
+    }
+    Ok(session)
+}
+
+fn tell_relayed(out: &mut Vec<u8>, line: &[u8], to: Recipients) -> Result<(), AllocError> {
+    match to {
+        Recipients::All => tell_row(out, b"relay ", line),
+        Recipients::Holding(capability) => {
+            out.extend_from_slice(b"relay to ")?;
+            out.extend_from_slice(capability.name())?;
+            tell_row(out, b" ", line)
+        }
+    }
+}
+
+fn tell_change(alloc: Global, out: &mut Vec<u8>, change: &Change) -> Result<(), Error> {
+    let mut line = Vec::new(alloc);
+    write_change(change, &mut line)?;
+    Ok(tell_row(out, b"put ", without_ending(&line))?)
+}
+
+// Tells an effect in a row.
+fn tell_effect(alloc: Global, out: &mut Vec<u8>, effect: &UpEffect) -> Result<(), Error> {
+    match effect {
+        UpEffect::Send(line) => tell_row(out, b"send ", without_ending(line.as_bytes()))?,
+        UpEffect::Put(change) => tell_change(alloc, out, change)?,
+        UpEffect::Relay(line, to) => tell_relayed(out, without_ending(line.as_bytes()), *to)?,
+        UpEffect::Close => tell_row(out, b"close", b"")?,
+    }
+    Ok(())
+}
+
+// Tells the effects of a line, and gives their list back, so that later lines are answered in its room.
+fn tell_all(
+    alloc: Global,
+    out: &mut Vec<u8>,
+    session: &mut Upstream,
+    effects: Vec<UpEffect>,
+) -> Result<(), Error> {
+    for effect in &effects {
+        tell_effect(alloc, out, effect)?;
+    }
+    session.recycle(effects);
+    Ok(())
+}
+
+// Tells whether the network is up, whether its server takes REDACT, the nick, the channels and the serial number.
+fn tell_session(out: &mut Vec<u8>, session: &Upstream) -> Result<(), Error> {
+    let entry = session.entry();
+    out.extend_from_slice(if entry.is_up() {
+        b"up".as_slice()
+    } else {
+        b"down"
+    })?;
+    if entry.takes_redact() {
+        tell_next(out, b"redact")?;
+    }
+    tell_next(out, entry.nick())?;
+    for channel in entry.channels() {
+        tell_next(out, channel.as_bytes())?;
+    }
+    write!(out, " {}\n", session.serial())?;
+    Ok(())
+}
+
+fn step(
+    alloc: Global,
+    session: &mut Upstream,
+    mark: &str,
+    line: &str,
+) -> Result<Vec<UpEffect>, Error> {
+    let bytes = line.as_bytes();
+    let now = moment()?;
+    let effects = match mark {
+        "<" => session.step(alloc, bytes, now),
+        ">" => session.say(alloc, bytes, now),
+        _ => session.start(alloc),
+    };
+    Ok(effects?)
+}
+
+// A call that is refused leaves the session as it was: it is made again.
+fn step_again(
+    alloc: Global,
+    session: &mut Upstream,
+    mark: &str,
+    line: &str,
+) -> Result<Vec<UpEffect>, Error> {
+    if let Ok(effects) = step(alloc, session, mark, line) {
+        return Ok(effects);
+    }
+    step(alloc, session, mark, line)
+}
+
+fn play_line(
+    alloc: Global,
+    session: &mut Upstream,
+    text: &str,
+    out: &mut Vec<u8>,
+) -> Result<(), Error> {
+    let (mark, line) = text.split_once(" ").unwrap_or((text, ""));
+    let effects = match mark {
+        "?" => return tell_session(out, session),
+        "+" => {
+            let whole = format!(in alloc; "{line}\r\n")?;
+            step_again(alloc, session, ">", whole.as_str())?
+        }
+        "<" | ">" | "!" => step_again(alloc, session, mark, line)?,
+        _ => return Ok(tell_row(out, b"no line of a script", b"")?),
+    };
+    tell_all(alloc, out, session, effects)
+}
+
+/// What the lines of a script come to, one after the other.
+pub fn play(alloc: Global, setting: &str, script: &str) -> Result<Vec<u8>, Error> {
+    let mut session = session_of(alloc, setting)?;
+    let mut out = Vec::new(alloc);
+    for line in script.split("\n") {
+        play_line(alloc, &mut session, line, &mut out)?;
+    }
+    Ok(out)
+}

@@ -1,0 +1,110 @@
+//! Plays states of chat histories by the rows of files, and compares what each row comes to with what it is to come to. The
+//! words name the files, which `tables.py` writes with the answers of a plain model of a history. A file has cases:
+//!
+//!     == name of the case
+//!     row
+//!     row = what comes of it
+//!
+//! A row that begins with `C` spells a change, and other rows speak of changes by their numbers in the case, from 0. A case
+//! has a state and another one beside it, both empty at first: `act` says what rows do with them, `tell` what they ask,
+//! and [`Sight`] what is looked at. What comes of a row without ` = ` is nothing.
+#![tactic(auto)]
+
+mod acts;
+mod looks;
+mod numbers;
+mod questions;
+mod texts;
+mod walks;
+
+use acts::{Player, act};
+use anyhow::Error;
+use questions::{Sight, tell};
+use std::alloc::Global;
+use std::{env, fs};
+
+/// What comes of a row.
+fn told(
+    alloc: Global,
+    player: &mut Player,
+    sight: Sight<'_>,
+    words: &str,
+) -> Result<Vec<u8>, Error> {
+    let mut out = Vec::new(alloc);
+    if !act(alloc, player, words, &mut out)? {
+        tell(alloc, &mut player.state, sight, words, &mut out)?;
+    }
+    Ok(out)
+}
+
+/// Plays a row, and says whether that came of it that is to come of it.
+fn comes(alloc: Global, player: &mut Player, sight: Sight<'_>, row: &str) -> Result<bool, Error> {
+    let (words, wanted) = row.split_once(" = ").unwrap_or((row, ""));
+    let found = told(alloc, player, sight, words)?;
+    Ok(found.as_slice() == wanted.as_bytes())
+}
+
+/// The same, and shows the row where something else came of it.
+fn is_right(
+    rt: &HostRuntime,
+    player: &mut Player,
+    sight: Sight<'_>,
+    row: &str,
+) -> Result<bool, Error> {
+    let is_right = comes(rt.alloc(), player, sight, row)?;
+    if !is_right {
+        println!(rt; "wrong: {row}")?;
+    }
+    Ok(is_right)
+}
+
+/// Plays the rows of a case, and says of how many something else came.
+fn play_rows(rt: &HostRuntime, player: &mut Player, rows: &str) -> Result<u64, Error> {
+    let mut sight = Sight::NONE;
+    let mut wrong: u64 = 0;
+    for row in rows.lines() {
+        match sight.turned(row) {
+            Some(turned) => sight = turned,
+            None => {
+                let is_right = is_right(rt, player, sight, row)?;
+                wrong = wrong.saturating_add(u64::from(!is_right));
+            }
+        }
+    }
+    Ok(wrong)
+}
+
+/// Plays the rows of a case from two empty states on.
+fn play_case(rt: &HostRuntime, rows: &str) -> Result<u64, Error> {
+    let mut player = Player::new(rt.alloc());
+    play_rows(rt, &mut player, rows)
+}
+
+/// Plays a case, behind its name.
+fn play_part(rt: &HostRuntime, part: &str) -> Result<u64, Error> {
+    let (name, rows) = part.split_once("\n").unwrap_or((part, ""));
+    let wrong = play_case(rt, rows)?;
+    if wrong > 0 {
+        println!(rt; "in {name}: {wrong} wrong")?;
+    }
+    Ok(wrong)
+}
+
+/// Plays the cases of a file, and says how many there were and of how many rows something else came.
+fn play_cases(rt: &HostRuntime, path: &str, text: &str) -> Result<(), Error> {
+    let mut cases: u64 = 0;
+    let mut wrong: u64 = 0;
+    for part in text.split("== ").skip(1) {
+        cases = cases.saturating_add(1);
+        wrong = wrong.saturating_add(play_part(rt, part)?);
+    }
+    Ok(println!(rt; "{path}: {cases} cases, {wrong} rows wrong")?)
+}
+
+fn main(rt: HostRuntime) -> Result<(), Error> {
+    for path in env::args(&rt)?.skip(1) {
+        let text = fs::read_to_string(&rt, path.as_str())?;
+        play_cases(&rt, path.as_str(), text.as_str())?;
+    }
+    Ok(())
+}

@@ -1,0 +1,157 @@
+//! Walks over the records of a channel, from cuts between them.
+use crate::looks::{buffer_of, put_all_falling, put_all_rising, put_falling, put_rising};
+use crate::texts::number_of;
+use anyhow::Error;
+use chat_change::{Buffer, Moment, MsgId};
+use chat_state::{Cut, Down, Spot, State, Up};
+use std::alloc::{AllocError, Global};
+use std::io;
+
+/// The texts of all records of a channel, upwards and downwards.
+#[derive(Drop)]
+struct Whole {
+    rising: Vec<u8>,
+    falling: Vec<u8>,
+}
+
+fn whole_of(alloc: Global, state: &State, buffer: &Buffer) -> io::Result<Whole> {
+    let mut whole = Whole {
+        rising: Vec::new(alloc),
+        falling: Vec::new(alloc),
+    };
+    put_all_rising(state, buffer, &mut whole.rising)?;
+    put_all_falling(state, buffer, &mut whole.falling)?;
+    Ok(whole)
+}
+
+// How many records there are in a text, if they are the last ones of the whole.
+fn digit_of(whole: &[u8], part: &[u8]) -> u8 {
+    if !whole.ends_with(part) {
+        return b'?';
+    }
+    let mut digit = b'0';
+    for byte in part {
+        if *byte == b';' {
+            digit = digit.saturating_add(1);
+        }
+    }
+    digit
+}
+
+fn up<'a>(state: &'a State, buffer: &Buffer, side: &str, spot: &Spot) -> Up<'a> {
+    // The prover is to be shown each type that a cut may hold.
+    let _held: (Option<Moment>, Option<&Spot>) = (None, None);
+    match side {
+        "bottom" => state.up(buffer, Cut::Bottom),
+        "under" => state.up(buffer, Cut::UnderTime(spot.at)),
+        "over" => state.up(buffer, Cut::OverTime(spot.at)),
+        "before" => state.up(buffer, Cut::UnderMsg(spot)),
+        "after" => state.up(buffer, Cut::OverMsg(spot)),
+        _ => state.up(buffer, Cut::Top),
+    }
+}
+
+fn down<'a>(state: &'a State, buffer: &Buffer, side: &str, spot: &Spot) -> Down<'a> {
+    // The prover is to be shown each type that a cut may hold.
+    let _held: (Option<Moment>, Option<&Spot>) = (None, None);
+    match side {
+        "bottom" => state.down(buffer, Cut::Bottom),
+        "under" => state.down(buffer, Cut::UnderTime(spot.at)),
+        "over" => state.down(buffer, Cut::OverTime(spot.at)),
+        "before" => state.down(buffer, Cut::UnderMsg(spot)),
+        "after" => state.down(buffer, Cut::OverMsg(spot)),
+        _ => state.down(buffer, Cut::Top),
+    }
+}
+
+fn up_digit(alloc: Global, records: Up<'_>, whole: &Whole) -> io::Result<u8> {
+    let mut part = Vec::new(alloc);
+    put_rising(records, &mut part)?;
+    Ok(digit_of(&whole.rising, &part))
+}
+
+fn down_digit(alloc: Global, records: Down<'_>, whole: &Whole) -> io::Result<u8> {
+    let mut part = Vec::new(alloc);
+    put_falling(records, &mut part)?;
+    Ok(digit_of(&whole.falling, &part))
+}
+
+// A place, as a moment or as a moment, a colon and an id.
+fn spot_of(alloc: Global, place: &str) -> Result<Spot, Error> {
+    let (ms, id) = place.split_once(":").unwrap_or((place, ""));
+    let at = Moment::from_ms(number_of(ms)).ok_or(AllocError)?;
+    if id.is_empty() {
+        return Ok(Spot { at, id: None });
+    }
+    let id = MsgId::new(alloc, id.as_bytes())?;
+    Ok(Spot { at, id: Some(id) })
+}
+
+// How many records a walk has up and down from a cut.
+fn put_walk(
+    alloc: Global,
+    state: &State,
+    buffer: &Buffer,
+    side: &str,
+    spot: &Spot,
+    whole: &Whole,
+    out: &mut Vec<u8>,
+) -> io::Result<()> {
+    let above = up_digit(alloc, up(state, buffer, side, spot), whole)?;
+    let below = down_digit(alloc, down(state, buffer, side, spot), whole)?;
+    out.extend_from_slice(&[above, below])?;
+    Ok(())
+}
+
+// The walk from a cut as it is spelled: `bottom`, `top`, or `under`, `over`, `before` or `after` with a place.
+fn put_walk_from(
+    alloc: Global,
+    state: &State,
+    buffer: &Buffer,
+    word: &str,
+    whole: &Whole,
+    out: &mut Vec<u8>,
+) -> Result<(), Error> {
+    let (side, place) = word.split_once(":").unwrap_or((word, ""));
+    let spot = spot_of(alloc, place)?;
+    put_walk(alloc, state, buffer, side, &spot, whole, out)?;
+    Ok(())
+}
+
+fn put_walks_in(
+    alloc: Global,
+    state: &State,
+    buffer: &Buffer,
+    cuts: &str,
+    whole: &Whole,
+    out: &mut Vec<u8>,
+) -> Result<(), Error> {
+    for cut in cuts.split(" ") {
+        put_walk_from(alloc, state, buffer, cut, whole, out)?;
+    }
+    Ok(())
+}
+
+fn put_buffer_walks(
+    alloc: Global,
+    state: &State,
+    buffer: &Buffer,
+    cuts: &str,
+    out: &mut Vec<u8>,
+) -> Result<(), Error> {
+    let whole = whole_of(alloc, state, buffer)?;
+    put_walks_in(alloc, state, buffer, cuts, &whole, out)
+}
+
+/// How many records the walks in a channel have, two digits for each cut: a `?` where they aren't the last ones of the walk
+/// over all records.
+pub fn put_walks(
+    alloc: Global,
+    state: &State,
+    channel: &str,
+    cuts: &str,
+    out: &mut Vec<u8>,
+) -> Result<(), Error> {
+    let buffer = buffer_of(alloc, channel)?;
+    put_buffer_walks(alloc, state, &buffer, cuts, out)
+}

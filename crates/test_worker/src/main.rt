@@ -1,0 +1,133 @@
+//! Shows what a worker does: it plays a worker over a port of memory, act by act, and two workers at once, each in a thread
+//! of its own, and compares what comes of each act with what is to come of it. It stands on `bnc_work`. Read `play` first.
+//! The words name files of cases:
+//!
+//!     == name of the case
+//!     with posts 120, clock 5000, networks 3, peers n0 n2, places 2, worker 1, shut, alone
+//!     act
+//!         what comes of it
+//!
+//! The second line may be missing, and each of its parts. At first the node n1, in its incarnation 7, holds so many posts of
+//! `#a`, of the network `net` of the account `demo`: m0, m1 and so on, a second apart from the beginning of 1970. It has the
+//! first of the networks demo/net, demo/two and eve/net, the peer n0, four places for clients, one worker and an open gate,
+//! and the clock is 1,000 seconds after 1970 began. `worker 1` is the second of two workers. With `shut` the gate lets
+//! nothing through, and with `alone` no connection can be begun.
+//!
+//! Acts begin a line:
+//!
+//!     1 client 1024       a client comes by connection 1, to whom 1,024 bytes may be owed
+//!     1 stray             a client comes whose attachment doesn't
+//!     1 peer              a node comes
+//!     10 opens            the connection that was begun under that number is there
+//!     10 refused          it can't be made
+//!     1 < line            a line comes, with CR LF
+//!     1 + line            a line comes, with what comes next
+//!     1 many 99 line      a line comes 99 times, with what comes next
+//!     1 . bytes           bytes come that end no line
+//!     1 long 9000         a line of so many bytes comes
+//!     1 ends              the other end sends nothing more
+//!     1 gone              the other end is gone
+//!     1 takes 100         the other end takes 100 bytes at once
+//!     1 takes 100 of 450  and no more than 450 in all
+//!     wait 60000          milliseconds pass
+//!     mail ..             another worker tells something
+//!     fail                the port fails
+//!     stop                the clock can't be read any more
+//!
+//! Where an act begins with `20-89` it happens to each of these connections, one after another.
+//!
+//! What comes of an act stands behind it, four spaces in. First comes, in its order, which place a client got, what the
+//! operator was told, which connections were begun, and what was told to the other worker; then, connection by connection,
+//! the lines that were sent, behind `>`, bytes that end no line, behind `.`, and whether it was closed. The last line of a
+//! case says how the work ended. A NUL is spelled `␀`, and a CR `␍`. A line of more than 200 bytes is told by the first 40 of
+//! them and their count.
+//!
+//! Where a case has a line `--`, two workers play at once: the first one what stands before it, and the other what stands
+//! behind it. An open gate holds each of their answers until the other worker has come to the gate too.
+#![tactic(auto)]
+
+mod act;
+mod gate;
+mod line;
+mod mail;
+mod play;
+mod port;
+mod setting;
+mod station;
+
+use play::played;
+use setting::{Setting, USUAL, setting_in};
+use std::io::Print;
+use std::sync::Wait;
+use std::thread::Threads;
+use std::time::Clock;
+use std::{env, fs, io};
+
+/// What a worker begins with, and what happens and is to come of it.
+#[derive(Clone, Copy)]
+struct Case<'a> {
+    name: &'a str,
+    setting: Setting<'a>,
+    script: &'a str,
+}
+
+/// The case that a part of a file spells: None without its marks.
+fn case_in(part: &str) -> Option<Case<'_>> {
+    let (name, rest) = part.split_once("\n")?;
+    let Some(rest) = rest.strip_prefix("with ") else {
+        return Some(Case {
+            name,
+            setting: USUAL,
+            script: rest,
+        });
+    };
+    let (parts, script) = rest.split_once("\n")?;
+    Some(Case {
+        name,
+        setting: setting_in(parts),
+        script,
+    })
+}
+
+/// Plays a case, and says whether it came to what it is to come to.
+fn is_right<R>(rt: &R, case: Case<'_>) -> io::Result<bool>
+where
+    R: Print + Threads + Wait + Clock + AllocGlobal + Copy + Send + Sync + Drop,
+{
+    let Some(told) = played(rt, case.setting, case.script) else {
+        println!(rt; "{} can't be played", case.name)?;
+        return Ok(false);
+    };
+    if told.as_slice() == case.script.as_bytes() {
+        return Ok(true);
+    }
+    let text = String::from_utf8_lossy(rt.alloc(), &told)?;
+    println!(rt; "{} came to:\n{}", case.name, text)?;
+    Ok(false)
+}
+
+/// Plays the cases of a file, and says how many there were and how many came to something else.
+fn play_all<R>(rt: &R, path: &str, text: &str) -> io::Result<()>
+where
+    R: Print + Threads + Wait + Clock + AllocGlobal + Copy + Send + Sync + Drop,
+{
+    let mut count: u64 = 0;
+    let mut wrong: u64 = 0;
+    for part in text.split("== ").skip(1) {
+        count = count.saturating_add(1);
+        let right = match case_in(part) {
+            Some(case) => is_right(rt, case)?,
+            None => false,
+        };
+        wrong = wrong.saturating_add(u64::from(!right));
+    }
+    println!(rt; "{path}: {count} cases, {wrong} wrong")
+}
+
+fn main(rt: HostRuntime) -> io::Result<()> {
+    for path in env::args(&rt)?.skip(1) {
+        let text = fs::read_to_string(&rt, path.as_str())?;
+        play_all(&rt, path.as_str(), text.as_str())?;
+    }
+    Ok(())
+}

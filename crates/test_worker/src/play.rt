@@ -1,0 +1,126 @@
+//! Plays one case.
+ghost use Rattle.shared_node.specs.Names.{IsNamed};
+
+use crate::gate::Latch;
+use crate::port::MemoryPort;
+use crate::setting::Setting;
+use crate::station::{posts, station_of};
+use attach::RingClient;
+use bnc_work::{Station, WorkEnd, work, work_all};
+use shared_node::{Naming, Pass, SharedNode, Unnamed};
+use std::alloc::{AllocError, Global};
+use std::marker::Brand;
+use std::sync::Wait;
+use std::sync::atomic::AtomicU64;
+use std::thread::Threads;
+use std::time::Clock;
+
+/// A worker that is to begin: its pass, what it begins with, and its port.
+type Job<'a, J, R> = (Pass<J>, Station<RingClient>, &'a mut MemoryPort<R>);
+
+// A worker for each port. The first one's pass puts the posts.
+fn jobs<'a, J: Naming, R: Wait + Drop + Copy>(
+    rt: &R,
+    alloc: Global,
+    node: &SharedNode<J, &R>,
+    passes: Vec<Pass<J>>,
+    setting: Setting<'_>,
+    ports: &'a mut [MemoryPort<R>],
+) -> Option<Vec<Job<'a, J, R>>> {
+    let mut passes = passes;
+    let changes = posts(alloc, setting.posts)?;
+    node.put(rt, passes.first_mut()?, changes.as_slice()).ok()?;
+    let mut all = Vec::new(alloc);
+    for (pass, port) in passes.into_iter().zip(ports.iter_mut()) {
+        let station = station_of(alloc, setting, &mut port.lobby)?;
+        all.push((pass, station, port)).ok()?;
+    }
+    Some(all)
+}
+
+// Runs the workers over their ports, each in a thread of its own; or the one of a number, where there is one port.
+fn run<J, R>(
+    rt: &R,
+    name: Unnamed,
+    setting: Setting<'_>,
+    ports: &mut [MemoryPort<R>],
+) -> Option<Vec<WorkEnd>>
+where
+    J: Naming + Send + Sync,
+    R: Threads + Wait + Clock + AllocGlobal + Copy + Send + Sync + Drop,
+    requires { IsNamed J.book J.name J.parts name }
+{
+    let alloc = rt.alloc();
+    let gate = Latch {
+        rt: *rt,
+        is_open: setting.is_open,
+        holds: ports.len() == 2,
+        come: [AtomicU64::new(0), AtomicU64::new(0)],
+    };
+    let (node, passes) = SharedNode::<J, &R>::new(alloc, rt, name).ok()?;
+    let mut all = jobs(rt, alloc, &node, passes, setting, ports)?;
+    if all.len() == 1 {
+        let (pass, station, port) = all.pop()?;
+        let end = work(rt, setting.worker, &node, pass, station, port, &gate);
+        return vec![in alloc; end].ok();
+    }
+    work_all(rt, &node, all, &gate).ok()
+}
+
+fn name_of(end: WorkEnd) -> &'static str {
+    match end {
+        WorkEnd::GateShut => "gate shut",
+        WorkEnd::Ended => "ended",
+        WorkEnd::Failed => "failed",
+    }
+}
+
+// Tells what came of the last act, and how the work ended.
+fn tell_end<R: Wait + Drop>(port: &mut MemoryPort<R>, end: WorkEnd) -> Result<(), AllocError> {
+    port.tell_lines()?;
+    port.tell(name_of(end))
+}
+
+// What a script came to: with a line `--` between, where there are two workers.
+fn told_by<R: Wait + Drop>(
+    alloc: Global,
+    ports: &mut [MemoryPort<R>],
+    ends: &[WorkEnd],
+) -> Result<Vec<u8>, AllocError> {
+    let mut told = Vec::new(alloc);
+    for (port, end) in ports.iter_mut().zip(ends.iter()) {
+        if !told.is_empty() {
+            told.extend_from_slice(b"--\n")?;
+        }
+        tell_end(port, *end)?;
+        told.extend_from_slice(port.told())?;
+    }
+    Ok(told)
+}
+
+fn ports_of<R: Wait + Drop + Copy>(
+    rt: &R,
+    alloc: Global,
+    setting: Setting<'_>,
+    script: &str,
+) -> Option<Vec<MemoryPort<R>>> {
+    let mut ports = Vec::new(alloc);
+    for part in script.split("--\n") {
+        ports
+            .push(MemoryPort::new(*rt, alloc, setting, part)?)
+            .ok()?;
+    }
+    Some(ports)
+}
+
+/// What a script comes to: its acts, and what comes of each. None where it can't be played.
+pub fn played<R>(rt: &R, setting: Setting<'_>, script: &str) -> Option<Vec<u8>>
+where
+    R: Threads + Wait + Clock + AllocGlobal + Copy + Send + Sync + Drop,
+{
+    let alloc = rt.alloc();
+    let mut ports = ports_of(rt, alloc, setting, script)?;
+    let name = Unnamed::new(ports.len());
+    let ends = run::<Brand, R>(rt, name, setting, ports.as_mut_slice())?;
+    told_by(alloc, ports.as_mut_slice(), &ends).ok()
+}

@@ -1,0 +1,89 @@
+//! What a case begins with.
+use crate::act::{cut, number_in};
+
+/// What a case begins with.
+#[derive(Clone, Copy)]
+pub struct Setting<'a> {
+    /// So many posts are there.
+    pub posts: u64,
+    /// The clock, in milliseconds after 1970 began.
+    pub clock: u64,
+    /// So many of the networks demo/net, demo/two and eve/net are configured.
+    pub networks: usize,
+    /// The names of the peers, a space between each two.
+    pub peers: &'a str,
+    /// So many clients have a place.
+    pub places: usize,
+    /// Whether the gate lets answers through.
+    pub is_open: bool,
+    /// Whether connections can be begun.
+    pub can_dial: bool,
+    /// Which worker it is.
+    pub worker: usize,
+    /// Of how many.
+    pub workers: usize,
+}
+
+/// What a case begins with that says nothing else.
+pub const USUAL: Setting<'static> = Setting {
+    posts: 0,
+    clock: 1_000_000,
+    networks: 1,
+    peers: "n0",
+    places: 4,
+    is_open: true,
+    can_dial: true,
+    worker: 0,
+    workers: 1,
+};
+
+impl<'a> Setting<'a> {
+    fn with(self, part: &'a str) -> Setting<'a> {
+        let (word, rest) = cut(part);
+        let number = number_in(rest).unwrap_or(0);
+        match word {
+            "posts" => Setting {
+                posts: number as u64,
+                ..self
+            },
+            "clock" => Setting {
+                clock: number as u64,
+                ..self
+            },
+            "networks" => Setting {
+                networks: number,
+                ..self
+            },
+            "places" => Setting {
+                places: number,
+                ..self
+            },
+            "peers" => Setting {
+                peers: rest,
+                ..self
+            },
+            "worker" => Setting {
+                worker: number,
+                workers: 2,
+                ..self
+            },
+            "shut" => Setting {
+                is_open: false,
+                ..self
+            },
+            _ => Setting {
+                can_dial: false,
+                ..self
+            },
+        }
+    }
+}
+
+/// The setting that a line spells, without the word `with`.
+pub fn setting_in(text: &str) -> Setting<'_> {
+    let mut setting = USUAL;
+    for part in text.split(", ") {
+        setting = setting.with(part);
+    }
+    setting
+}

@@ -1,0 +1,130 @@
+//! What a worker begins with. None is want of memory.
+use crate::setting::Setting;
+use attach::RingClient;
+use bnc_ports::Lobby;
+use bnc_work::Station;
+use byte_text::Text;
+use chat_change::{Buffer, Change, Kind, Message, Moment, MsgId, Record};
+use client_directory::{Account, Directory, Entry, Network};
+use gossip_link::{Life, NodeName, SharedWord, Terms};
+use std::alloc::Global;
+use upstream_session::{Channels, Config};
+
+const NETWORKS: [(&str, &str); 3] = [("demo", "net"), ("demo", "two"), ("eve", "net")];
+
+fn text(alloc: Global, text: &str) -> Option<Text> {
+    Text::new(alloc, text.as_bytes()).ok()
+}
+
+fn network_of(alloc: Global, name: &str) -> Option<Network> {
+    let name = text(alloc, name)?;
+    let entry = Entry::new(false, text(alloc, "al")?, Vec::new(alloc), false);
+    Some(Network::new(name, entry))
+}
+
+fn account_of(alloc: Global, name: &str, networks: &[&str]) -> Option<Account> {
+    let secret = text(alloc, "s3cret")?;
+    let mut account = Account::new(alloc, text(alloc, name)?, secret);
+    for network in networks {
+        account.add(network_of(alloc, network)?).ok()?;
+    }
+    Some(account)
+}
+
+// The account `demo` with the networks `net` and `two`, and `eve` with `net`.
+fn directory_of(alloc: Global) -> Option<Directory> {
+    let mut directory = Directory::new(alloc);
+    directory
+        .add(account_of(alloc, "demo", &["net", "two"])?)
+        .ok()?;
+    directory.add(account_of(alloc, "eve", &["net"])?).ok()?;
+    Some(directory)
+}
+
+fn config_of(alloc: Global, account: &str, network: &str) -> Option<Config> {
+    let account = text(alloc, account)?;
+    let network = text(alloc, network)?;
+    let nick = text(alloc, "al")?;
+    Some(Config {
+        account,
+        network,
+        nick,
+        user: text(alloc, "alan")?,
+        channels: Channels::of(Vec::new(alloc)),
+    })
+}
+
+fn configs_of(alloc: Global, count: usize) -> Option<Vec<Config>> {
+    let mut configs = Vec::new(alloc);
+    for (account, network) in NETWORKS.iter().take(count) {
+        configs.push(config_of(alloc, account, network)?).ok()?;
+    }
+    Some(configs)
+}
+
+fn node_name(alloc: Global, name: &str) -> Option<NodeName> {
+    NodeName::new(alloc, name.as_bytes()).ok()
+}
+
+fn names_in(alloc: Global, names: &str) -> Option<Vec<NodeName>> {
+    let mut all = Vec::new(alloc);
+    for name in names.split_whitespace() {
+        all.push(node_name(alloc, name)?).ok()?;
+    }
+    Some(all)
+}
+
+// The terms of the node n1 in its incarnation 7.
+fn terms_of(alloc: Global, peers: &str) -> Option<Terms> {
+    let word = SharedWord::new(alloc, b"green").ok()?;
+    let me = Life::new(node_name(alloc, "n1")?, 7);
+    Some(Terms::new(word, me, names_in(alloc, peers)?))
+}
+
+/// What a worker begins with, over the lobby, which is taken.
+pub fn station_of(
+    alloc: Global,
+    setting: Setting<'_>,
+    lobby: &mut Option<Lobby<RingClient>>,
+) -> Option<Station<RingClient>> {
+    let cluster = text(alloc, "bnc.example")?;
+    let peers = names_in(alloc, setting.peers)?;
+    let networks = configs_of(alloc, setting.networks)?;
+    let terms = terms_of(alloc, setting.peers)?;
+    let directory = directory_of(alloc)?;
+    Some(Station {
+        lobby: lobby.take()?,
+        cluster,
+        maximum: 100,
+        directory,
+        networks,
+        terms,
+        peers,
+        retain_days: 30,
+    })
+}
+
+// The post of `#a` of that number, at so many seconds.
+fn post(alloc: Global, number: u64) -> Option<Change> {
+    let message = Message {
+        kind: Kind::Privmsg,
+        source: b"bob!b@h",
+        target: b"#a",
+        body: b"hi",
+    };
+    let at = Moment::from_ms(number.saturating_mul(1000))?;
+    let name = format!(in alloc; "m{number}").ok()?;
+    let id = MsgId::new(alloc, name.as_bytes()).ok()?;
+    let buffer = Buffer::new(alloc, b"demo", b"net", b"#a").ok()?;
+    let record = Record::new(alloc, buffer, id, at, message).ok()?;
+    Some(Change::Post(record))
+}
+
+/// So many posts of `#a`: m0, m1 and so on, a second apart from the beginning of 1970.
+pub fn posts(alloc: Global, count: u64) -> Option<Vec<Change>> {
+    let mut changes = Vec::new(alloc);
+    for number in 0..count {
+        changes.push(post(alloc, number)?).ok()?;
+    }
+    Some(changes)
+}
