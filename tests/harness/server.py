@@ -1,0 +1,34 @@
+"""An IRC server with sessions of nodes (docs/PROTOCOL.md, "A session with a server")."""
+
+from harness.connection import Listener
+
+
+class Server(Listener):
+    """Where nodes find a network."""
+
+    def greeted(self, nick="al"):
+        """The next session, of which the first three lines were heard."""
+        session = self.accept("the server")
+        session.hear("CAP LS 302", f"NICK {nick}", f"USER {nick} 0 * :{nick}")
+        return session
+
+    def register(self, offers="", nick="al", channels=()):
+        """Takes in the next session, which asks for what the server offers. The network is up then, since the node has
+        answered what came after the welcome."""
+        session = self.greeted(nick)
+        session.say(f":irc.example CAP * LS :{offers}")
+        if offers:
+            session.hear(f"CAP REQ :{offers}")
+            session.say(f":irc.example CAP * ACK :{offers}")
+        session.hear("CAP END")
+        session.say(f":irc.example 001 {nick} :Welcome", "PING :up")
+        session.hear(*(f"JOIN {channel}" for channel in channels), "PONG :up")
+        for channel in channels:
+            session.say(f":{nick}!{nick}@host JOIN {channel}")
+        self.settled(session)
+        return session
+
+    def settled(self, session):
+        """Waits until the node has taken all that the server said."""
+        session.say("PING :settled")
+        session.hear("PONG :settled")

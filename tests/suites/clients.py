@@ -1,0 +1,226 @@
+"""Clients of a node (docs/PROTOCOL.md, "Capability negotiation" and "A client's session"; docs/OPERATING.md, "Clients")."""
+
+from harness.client import greeting
+from harness.connection import spelled
+from harness.node import Node
+from harness.registry import test
+from harness.server import Server
+
+NAMES = "batch draft/chathistory draft/message-redaction draft/read-marker echo-message message-tags server-time"
+TOO_LONG = ":bnc.example 417 al :Input line was too long"
+
+
+def node_and_server(fixture, channels=(), **limits):
+    """A node whose network is up, and its session with the server."""
+    server = Server(fixture)
+    node = Node(fixture, servers=[server.address], channels=channels, **limits).begin()
+    return node, server.register(channels=channels)
+
+
+@test
+def registration_word_for_word(fixture):
+    """CAP holds registration back, NAK and ACK tell the words as given, and PASS may come late as long as something holds it
+    back."""
+    node, _ = node_and_server(fixture)
+    client = node.client()
+    client.say("CAP LS 302", "NICK al", "USER demo/net 0 * :Al", "PASS s3cret")
+    client.hear(f":bnc.example CAP * LS :{NAMES}")
+    client.say("CAP REQ :batch nope", "CAP REQ :server-time batch", "CAP LIST", "CAP END")
+    client.hear(":bnc.example CAP * NAK :batch nope", ":bnc.example CAP * ACK :server-time batch")
+    client.hear(":bnc.example CAP * LIST :batch server-time", *greeting())
+    client.ping()
+
+
+@test
+def a_client_is_told_the_right_nick_and_the_channels(fixture):
+    """Any nick may be given. There is a JOIN for each channel, and its marker for those that know markers."""
+    server = Server(fixture)
+    node = Node(fixture, servers=[server.address], channels=["#a", "#b"], nick="carol").begin()
+    server.register(nick="carol", channels=["#a", "#b"])
+    client = node.client()
+    client.register("draft/read-marker", nick="carol", channels=["#a", "#b"])
+    node.client("another").register(nick="carol", channels=["#a", "#b"])
+
+
+@test
+def what_is_answered_before_registration(fixture):
+    """The rows of "Before registration", each with its answer."""
+    node = Node(fixture).begin()
+    client = node.client()
+    for line, answer in (
+        ("PRIVMSG #a :hi", "451 * :You have not registered"),
+        ("PASS", "461 * PASS :Not enough parameters"),
+        ("USER demo/net 0 *", "461 * USER :Not enough parameters"),
+        ("CAP", "461 * CAP :Not enough parameters"),
+        ("NICK", "431 * :No nickname given"),
+        ("NICK a,l", "432 * a,l :Erroneous nickname"),
+        ("CAP what", "410 * what :Invalid CAP command"),
+        ("PING here", "PONG bnc.example :here"),
+        (f"PING {'x' * 400}", f"PONG bnc.example :{'x' * 300}"),
+        ("PASS s3cret", None), ("PONG x", None), ("", None),
+        ("CHATHISTORY LATEST #a * 5", "451 * :You have not registered"),
+    ):
+        client.say(line)
+        if answer:
+            client.hear(f":bnc.example {answer}")
+    client.ping()
+
+
+@test
+def what_is_answered_after_registration(fixture):
+    """The rows of "After registration" that need no server."""
+    node = Node(fixture, servers=[("127.0.0.1", 1)]).begin()
+    client = node.client().register()
+    for line, answer in (
+        ("PASS x", "462 al :You may not reregister"),
+        ("USER demo/net 0 * :Al", "462 al :You may not reregister"),
+        ("CHATHISTORY LATEST #a * 5", "421 al CHATHISTORY :Unknown command"),
+        ("MARKREAD #a", "421 al MARKREAD :Unknown command"),
+        ("REDACT #a m1", "421 al REDACT :Unknown command"),
+        ("PRIVMSG #a :hi", "NOTICE al :Not connected to net"),
+        ("NICK other", "NOTICE al :Not connected to net"),
+        ("CAP REQ :draft/message-redaction", "CAP al ACK :draft/message-redaction"),
+        ("REDACT #a", "FAIL REDACT NEED_MORE_PARAMS :Missing parameters"),
+        ("REDACT a,b m1", "FAIL REDACT INVALID_TARGET :Invalid target"),
+        ("REDACT #a m1", "FAIL REDACT UNKNOWN_MSGID #a :No such message"),
+        ("TAGMSG #a", None), ("PONG x", None),
+    ):
+        client.say(line)
+        if answer:
+            client.hear(f":bnc.example {answer}")
+    client.ping()
+
+
+def refused(fixture, *lines):
+    """A client that doesn't get in: it is told so, and closed, and the operator is told who it was."""
+    node, _ = node_and_server(fixture)
+    client = node.client()
+    client.say(*lines)
+    client.hear(":bnc.example 464 * :Password incorrect", "ERROR :Closing link")
+    client.hear_end()
+    node.wait_for(f"client refused: {spelled(client.address)}: it ended as the protocol says")
+    node.client("the next client").register()
+
+
+@test
+def a_wrong_secret_lets_nobody_in(fixture):
+    refused(fixture, "PASS swordfish", "NICK al", "USER demo/net 0 * :Al")
+
+
+@test
+def the_beginning_of_a_secret_lets_nobody_in(fixture):
+    refused(fixture, "PASS s3cre", "NICK al", "USER demo/net 0 * :Al")
+
+
+@test
+def no_secret_lets_nobody_in(fixture):
+    """The secret is the empty one where no PASS came before the last of NICK and USER."""
+    refused(fixture, "NICK al", "USER demo/net 0 * :Al", "PASS s3cret")
+
+
+@test
+def an_account_that_is_not_there_lets_nobody_in(fixture):
+    refused(fixture, "PASS s3cret", "NICK al", "USER eve/net 0 * :Al")
+
+
+@test
+def a_network_that_is_not_there_lets_nobody_in(fixture):
+    refused(fixture, "PASS s3cret", "NICK al", "USER demo/other 0 * :Al")
+
+
+@test
+def the_place_of_a_client_that_left_is_given_to_the_next(fixture):
+    """There is one place. While a client has it, another is closed without a word, which is told to the operator."""
+    node, _ = node_and_server(fixture, places=1)
+    first = node.client("the first client").register()
+    other = node.client("the second client")
+    other.hear_end()
+    node.wait_for(f"client refused: {spelled(other.address)}: each place is taken")
+    first.ping()
+    first.close()
+    node.wait_for(f"client out: demo/net from {spelled(first.address)}: the other end closed it")
+    node.client("the next client").register()
+
+
+@test
+def quit_is_answered_and_closes(fixture):
+    """After QUIT nothing is answered."""
+    node, _ = node_and_server(fixture)
+    client = node.client().register()
+    client.say("QUIT :bye", "PING x")
+    client.hear("ERROR :Closing link")
+    client.hear_end()
+
+
+# A NUL, a source without a command, and an empty line.
+GARBAGE = b"\x00\xfe\x80 x\r\n:only.a.source\r\n\r\n"
+
+
+@test
+def a_client_that_sends_garbage_loses_nothing_else(fixture):
+    """Before it registers and after it; and a line that is too long, between whose halves another client registers."""
+    node, _ = node_and_server(fixture)
+    first = node.client("the first client")
+    first.send(GARBAGE)
+    first.hear(*2 * [":bnc.example 421 * * :Unknown command"])
+    first.register("server-time batch")
+    first.send(GARBAGE + b"a" * 600)
+    first.hear(*2 * [":bnc.example 421 al * :Unknown command"])
+    second = node.client("the second client").register()
+    first.send(b"a" * 600 + b"\r\n")
+    first.hear(TOO_LONG)
+    first.ping()
+    second.ping()
+
+
+@test
+def lines_that_are_too_long_are_told(fixture):
+    """A line has at most 512 bytes with its CR LF (RFC 1459), and 4,096 bytes of tags before it (message-tags)."""
+    node, _ = node_and_server(fixture)
+    client = node.client().register()
+    tags = b"@" + b"a" * 4094 + b" "
+    for line, answer in (
+        (b"PING " + b"a" * 505, f":bnc.example PONG bnc.example :{'a' * 300}"),
+        (b"PING " + b"a" * 506, TOO_LONG),
+        (tags + b"PING x", ":bnc.example PONG bnc.example :x"),
+        (b"@a" + tags[1:] + b"PING x", TOO_LONG),
+        (b"a" * 100000, TOO_LONG),
+    ):
+        client.send(line + b"\r\n")
+        client.hear(answer)
+    client.ping()
+
+
+@test
+def a_line_that_comes_in_parts_is_one_line(fixture):
+    """Each byte in a packet of its own, and many lines in one."""
+    node, _ = node_and_server(fixture)
+    client = node.client().register()
+    for byte in b"PING parts\r\n":
+        client.send(bytes([byte]))
+    client.hear(":bnc.example PONG bnc.example :parts")
+    client.say(*(f"PING {number}" for number in range(1000)))
+    client.hear(*(f":bnc.example PONG bnc.example :{number}" for number in range(1000)))
+
+
+@test
+def a_hundred_clients_that_leave_in_mid_line_harm_nobody(fixture):
+    """Registered or not, in mid-line and in a page; each place is free again."""
+    node, _ = node_and_server(fixture, places=4)
+    stays = node.client("the client that stays").register()
+    for number in range(100):
+        guest = node.client("a guest")
+        guest.send((b"PING half", b"PASS s3cret\r\nNICK al\r\nUSER demo/net", b"\r\n\r\n", b"QUIT\r\n")[number % 4])
+        guest.close()
+    stays.ping()
+    for number in range(3):
+        fixture.until("a place is free", lambda: comes_in(node))
+    stays.ping()
+
+
+def comes_in(node):
+    """Whether a client that connects now has a place, and keeps it."""
+    client = node.client("a client that looks for a place")
+    client.say("PING here")
+    answer = client.receive()
+    return answer == b":bnc.example PONG bnc.example :here\r\n"

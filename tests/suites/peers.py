@@ -1,0 +1,260 @@
+"""Connections between nodes, line by line (docs/PROTOCOL.md, "Between nodes")."""
+
+from harness.client import page
+from harness.connection import Listener, connect
+from harness.node import Node
+from harness.peer import Peer
+from harness.registry import add, test
+
+NOBODY = ("127.0.0.1", 1)
+POST_ONE = "C POST demo net #a z1 6000 N #a bob!b@h :one"
+POST_TWO = "C POST demo net #a z2 7000 P #A bob!b@h :two"
+PAST = "batch draft/chathistory message-tags server-time"
+ONE = "@msgid=z1;time=1970-01-01T00:00:06.000Z :bob!b@h NOTICE #a :one"
+TWO = "@msgid=z2;time=1970-01-01T00:00:07.000Z :bob!b@h PRIVMSG #A :two"
+
+
+def begun(fixture, **how):
+    """The node n1 of a cluster. Its peer n0, of a smaller name, connects to it."""
+    return Node(fixture, peers=[("n0", NOBODY)], servers=[NOBODY], **how).begin()
+
+
+def stranger(node):
+    """A connection that has said nothing yet."""
+    return Peer(node.fixture, connect(node.fixture, node.peers), "n0")
+
+
+@test
+def a_peer_is_greeted(fixture):
+    """The side that opened the connection says its word and its hello first."""
+    node = begun(fixture)
+    peer = stranger(node)
+    peer.say("W green")
+    peer.hear("W green")
+    peer.hear_hello()
+    peer.say("H 1 n0 5")
+    node.wait_for("peer greeted: n0")
+
+
+# What closes a connection before its hello, and how much of the node's word was told by then.
+CLOSING = (
+    ("a wrong word", ["W red"], False),
+    ("a wrong word and then the right one", ["W red", "W green"], False),
+    ("a part of the word", ["W gree"], False),
+    ("a word that goes on", ["W greens"], False),
+    ("the word in capitals", ["W GREEN"], False),
+    ("the word behind two spaces", ["W  green"], False),
+    ("an empty line", [""], False),
+    ("a line of a client", ["NICK al"], False),
+    ("a hello without a word", ["H 1 n0 5"], False),
+    ("a line that is too long", ["W " + "g" * 9000], False),
+    ("a node that is no peer", ["W green", "H 1 n9 5"], True),
+    ("the node's own name", ["W green", "H 1 n1 5"], True),
+    ("another version", ["W green", "H 2 n0 5"], True),
+    ("an incarnation with a leading zero", ["W green", "H 1 n0 05"], True),
+    ("a second word in place of a hello", ["W green", "W green"], True),
+    ("garbage in place of a hello", ["W green", "\x01\x02"], True),
+)
+
+
+def closes(lines, is_told):
+    """A test that the connection is closed by these lines. No stranger is told the word."""
+
+    def call(fixture):
+        node = begun(fixture)
+        peer = stranger(node)
+        peer.say(lines[0])
+        if is_told:
+            peer.hear("W green")
+            peer.hear_hello()
+        peer.say(*lines[1:])
+        peer.hear_end()
+        Peer.dial(node).greet().close()
+
+    return call
+
+
+for name, lines, is_told in CLOSING:
+    add(f"peers: closed by {name}", closes(lines, is_told))
+
+# What closes a connection after the hello.
+CLOSING_LATER = (
+    ("a second word", ["W green"]),
+    ("a hello of another node", ["H 1 n2 5"]),
+    ("a change without a packet", [POST_ONE]),
+    ("a line that can't be read", ["X"]),
+    ("a packet of no changes", ["D n0 5 n1 1 0 1 0"]),
+    ("a packet of 257 changes", ["D n0 5 n1 1 0 257 257"]),
+    ("a packet that doesn't rise", ["D n0 5 n1 1 1 1 1"]),
+    ("an acknowledgement with a sign", ["A n0 5 n1 1 +1"]),
+    ("a number beyond 64 bits", ["A n0 5 n1 1 18446744073709551616"]),
+    ("a change with a refused field", ["D n0 5 n1 1 0 1 1", "C POST Demo net #a z1 0 P #a bob :x"]),
+    ("another line within a packet", ["D n0 5 n1 1 0 2 2", POST_ONE, "A n0 5 n1 1 0"]),
+    ("a line that is too long", ["A " + "1" * 9000]),
+)
+
+
+def closes_later(lines):
+    """A test that these lines close the connection, and that no change of a packet that wasn't whole is taken."""
+
+    def call(fixture):
+        node = begun(fixture)
+        client = node.client().register(PAST)
+        peer = Peer.dial(node).greet()
+        peer.say(*lines)
+        peer.hear_end()
+        client.say("CHATHISTORY LATEST #a * 10")
+        client.hear(*page(1, "#a"))
+        Peer.dial(node).greet()
+
+    return call
+
+
+for name, lines in CLOSING_LATER:
+    add(f"peers: closed after the hello by {name}", closes_later(lines))
+
+
+@test
+def a_packet_is_taken_and_acknowledged(fixture):
+    """What a peer brings is in the pages, and goes on to it, as to any peer, until it is acknowledged."""
+    node = begun(fixture)
+    peer = Peer.dial(node).greet()
+    peer.give(0, POST_TWO, POST_ONE)
+    peer.hear_acknowledged(2)
+    peer.hear_packet(0, 2, POST_TWO, POST_ONE)
+    peer.acknowledge(2)
+    client = node.client().register(PAST)
+    client.say("CHATHISTORY LATEST #a * 10")
+    client.hear(*page(1, "#a", ONE, TWO))
+
+
+@test
+def a_packet_that_comes_twice_changes_nothing(fixture):
+    node = begun(fixture)
+    peer = Peer.dial(node).greet()
+    peer.give(0, POST_ONE)
+    peer.hear_acknowledged(1)
+    peer.hear_packet(0, 1, POST_ONE)
+    peer.acknowledge(1)
+    peer.give(0, POST_ONE)
+    peer.hear_acknowledged(1)
+    peer.give(1, POST_TWO)
+    peer.hear_acknowledged(2)
+    peer.hear_packet(1, 2, POST_TWO)
+    client = node.client().register(PAST)
+    client.say("CHATHISTORY LATEST #a * 10")
+    client.hear(*page(1, "#a", ONE, TWO))
+
+
+@test
+def one_packet_is_under_way(fixture):
+    """The next is made after the acknowledgement. It begins at the acknowledged number, and has what was published since."""
+    node = begun(fixture)
+    peer = Peer.dial(node).greet()
+    client = node.client().register("draft/read-marker")
+    for moment in (1, 2, 3):
+        client.say(f"MARKREAD #m{moment} timestamp=1970-01-01T00:00:0{moment}.000Z")
+        client.hear(f":bnc.example MARKREAD #m{moment} timestamp=1970-01-01T00:00:0{moment}.000Z")
+    peer.hear_packet(0, 1, "C MARK demo net #m1 1000")
+    client.ping()
+    peer.acknowledge(1)
+    peer.hear_packet(1, 3, "C MARK demo net #m2 2000", "C MARK demo net #m3 3000")
+    peer.acknowledge(3)
+    client.say("MARKREAD #m1 timestamp=1970-01-01T00:00:09.000Z")
+    peer.hear_packet(3, 4, "C MARK demo net #m1 9000")
+
+
+@test
+def a_packet_has_at_most_256_changes(fixture):
+    """The others come in the next one, after the acknowledgement."""
+    node = begun(fixture)
+    changes = [f"C MARK demo net #m{number} {number + 1}" for number in range(300)]
+    giver = Peer.dial(node, incarnation=5).greet()
+    giver.give(0, *changes[:256])
+    giver.hear_acknowledged(256)
+    giver.hear_packet(0, 256, *changes[:256])
+    giver.give(256, *changes[256:])
+    giver.hear_acknowledged(300)
+    giver.close()
+    node.wait_for("peer down: n0")
+    again = Peer.dial(node, incarnation=6).greet()
+    again.hear_packet(0, 256, *changes[:256])
+    again.acknowledge(256)
+    again.hear_packet(256, 300, *changes[256:])
+
+
+@test
+def a_peer_that_started_again_gets_all_of_it(fixture):
+    """A greater incarnation is known with both numbers 0; what a life acknowledged counts for that life alone."""
+    node = begun(fixture)
+    peer = Peer.dial(node, incarnation=5).greet()
+    peer.give(0, POST_ONE)
+    peer.hear_acknowledged(1)
+    peer.hear_packet(0, 1, POST_ONE)
+    peer.acknowledge(1)
+    peer.close()
+    node.wait_for("peer down: n0")
+    Peer.dial(node, incarnation=6).greet().hear_packet(0, 1, POST_ONE)
+
+
+@test
+def an_acknowledgement_of_what_was_not_sent_is_passed_over(fixture):
+    """And so is one between other lives."""
+    node = begun(fixture)
+    peer = Peer.dial(node).greet()
+    peer.acknowledge(7)
+    peer.say(f"A n0 4 {peer.other} 0", "A n0 5 n1 1 0")
+    peer.give(0, POST_ONE)
+    peer.hear_acknowledged(1)
+    peer.hear_packet(0, 1, POST_ONE)
+
+
+@test
+def a_packet_to_another_life_is_passed_over(fixture):
+    node = begun(fixture)
+    peer = Peer.dial(node).greet()
+    peer.say("D n0 5 n1 1 0 1 1", POST_ONE, "D n2 5 " + peer.other + " 0 1 1", POST_ONE)
+    peer.give(0, POST_TWO)
+    peer.hear_acknowledged(1)
+    peer.hear_packet(0, 1, POST_TWO)
+
+
+@test
+def a_marker_that_a_peer_brings_is_told(fixture):
+    """To the sessions that know markers, of both workers."""
+    node = begun(fixture)
+    clients = [node.client(f"client {number}").register("draft/read-marker") for number in range(2)]
+    peer = Peer.dial(node).greet()
+    peer.give(0, "C MARK demo net #a 5000")
+    peer.hear_acknowledged(1)
+    for client in clients:
+        client.hear(":bnc.example MARKREAD #a timestamp=1970-01-01T00:00:05.000Z")
+        client.ping()
+
+
+@test
+def redactions_and_floors_that_a_peer_brings_hold(fixture):
+    """Whenever they come: before the posts that they take away, or after them."""
+    node = begun(fixture)
+    peer = Peer.dial(node).greet()
+    low = ["C FLOOR demo net #b 10", "C POST demo net #b y 9 P #b bob :low"]
+    peer.give(0, "C REDACT demo net #a z1 *", POST_ONE, POST_TWO, *low)
+    peer.hear_acknowledged(5)
+    client = node.client().register(PAST)
+    client.say("CHATHISTORY LATEST #a * 10", "CHATHISTORY LATEST #b * 10")
+    client.hear(*page(1, "#a", TWO), *page(2, "#b"))
+
+
+@test
+def the_node_opens_the_connection_to_a_peer_of_a_greater_name(fixture):
+    """Of two nodes the one with the smaller name opens the connection, and says its word and its hello first."""
+    listener = Listener(fixture)
+    node = Node(fixture, name="n1", peers=[("n2", listener.address)]).begin()
+    peer = Peer(fixture, listener.accept("the peer n2").socket, "n2")
+    peer.hear("W green")
+    peer.hear_hello()
+    peer.say("W green", "H 1 n2 5")
+    node.wait_for("peer greeted: n2")
+    peer.give(0, POST_ONE)
+    peer.hear_acknowledged(1)
+    peer.hear_packet(0, 1, POST_ONE)

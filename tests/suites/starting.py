@@ -1,0 +1,117 @@
+"""How `bnc serve` begins and ends (docs/OPERATING.md, "Start and stop" and "What it tells")."""
+
+import re
+import signal
+import socket
+
+from harness.connection import spelled
+from harness.failure import Failed, expect
+from harness.node import Node
+from harness.registry import test
+from harness.server import Server
+
+FAILED = b"read or write failed\n"
+TIME = r"[0-9]{4}-[0-9]{2}-[0-9]{2}T[0-9]{2}:[0-9]{2}:[0-9]{2}\.[0-9]{3}Z"
+
+
+@test
+def a_file_that_is_not_there_is_told(fixture):
+    fixture.run("serve", "no/such.toml").expect(4, b"", FAILED + b"can't read no/such.toml: entity not found\n")
+
+
+@test
+def a_folder_is_no_configuration(fixture):
+    """The second line tells which file can't be read, and behind the colon the system's reason."""
+    ran = fixture.run("serve", fixture.folder)
+    start = FAILED + f"can't read {fixture.folder}: ".encode()
+    if ran.status != 4 or not ran.errors.startswith(start) or ran.errors.count(b"\n") != 2:
+        raise Failed(f"expected status 4 and {start}, came {ran.status} and {ran.errors}")
+
+
+def taken(fixture, which):
+    """A node one of whose addresses is somebody else's. That one is told."""
+    other = socket.socket()
+    fixture.at_end(other.close)
+    other.bind(("127.0.0.1", 0))
+    other.listen(1)
+    node = Node(fixture)
+    setattr(node, which, other.getsockname())
+    path = fixture.write("bnc.toml", node.text().encode())
+    words = f"can't listen at {spelled(other.getsockname())}: address in use\n"
+    fixture.run("serve", path).expect(4, b"", FAILED + words.encode())
+
+
+@test
+def an_address_for_clients_that_is_taken_is_told(fixture):
+    taken(fixture, "clients")
+
+
+@test
+def an_address_for_peers_that_is_taken_is_told(fixture):
+    taken(fixture, "peers")
+
+
+def fails(fixture, words, **how):
+    """A node that can't begin, which is told in these words, maybe after it has said that it listens."""
+    path = fixture.write("bnc.toml", Node(fixture).text().encode())
+    ran = fixture.run("serve", path, **how)
+    said = re.sub(f"^{TIME} listening: .*\n".encode(), b"", ran.errors)
+    if ran.status != 4 or ran.output or not re.fullmatch(FAILED + words.encode() + b"\n", said):
+        raise Failed(f"expected status 4 and '{words}', came {ran.status} and {ran.errors!r}")
+
+
+@test
+def too_few_descriptors_are_told(fixture):
+    """The system gives no socket: its reason stands behind the colon."""
+    fails(fixture, "no socket: .+", front=["sh", "-c", 'ulimit -n 5; exec "$@"', "sh"])
+
+
+@test
+def a_system_without_threads_is_told(fixture):
+    fails(fixture, "no thread", env={"LD_PRELOAD": fixture.shims.path("devices"), "NO_THREAD": "1"})
+
+
+@test
+def a_system_without_a_clock_is_told(fixture):
+    fails(fixture, "the clock can't be read", env={"LD_PRELOAD": fixture.shims.path("devices"), "NO_CLOCK": "1"})
+
+
+@test
+def what_is_told_of_a_day(fixture):
+    """Each event is a line on standard error with the time in UTC, in the words of docs/OPERATING.md. Nothing goes to standard
+    output, and no line has a secret, the shared word or a message."""
+    server = Server(fixture)
+    node = Node(fixture, servers=[server.address]).begin()
+    session = server.register()
+    node.wait_for("upstream up: demo/net as al")
+    client = node.client().register()
+    at = spelled(client.address)
+    node.wait_for(f"client in: demo/net from {at}")
+    client.close()
+    node.wait_for(f"client out: demo/net from {at}: the other end closed it")
+    session.say("ERROR :bye")
+    node.wait_for("upstream down: demo/net: it ended as the protocol says")
+    for line in node.log():
+        if not re.fullmatch(f"{TIME} [^ ].*", line) or "s3cret" in line or "green" in line:
+            raise Failed(f"a line that is not as the operator's lines are: {line}")
+    with open(fixture.path("n1.out"), "rb") as output:
+        expect("standard output", b"", output.read())
+
+
+def ended_by(fixture, number):
+    """A node ends at once at a signal, with the system's own status, and writes nothing on the way."""
+    node = Node(fixture).begin()
+    before = node.log()
+    node.process.send_signal(number)
+    expect("status", -number, node.process.wait(fixture.patience()))
+    expect("what is told", before, node.log())
+
+
+@test
+def sigterm_ends_a_node(fixture):
+    ended_by(fixture, signal.SIGTERM)
+
+
+@test
+def sigint_ends_a_node(fixture):
+    ended_by(fixture, signal.SIGINT)
