@@ -16,7 +16,7 @@ pub struct Latch<R> {
     pub come: [AtomicU64; 2],
 }
 
-impl<R: Clock + Sync> Latch<R> {
+impl<R: Clock> Latch<R> {
     // Whether the other worker comes to the gate before long.
     fn both_come(&self, worker: usize) -> bool {
         let mine = worker % 2;
