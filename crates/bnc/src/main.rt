@@ -216,7 +216,7 @@ fn main(rt: HostRuntime) -> ExitCode {
         Ok(None) => return ExitCode::from(0),
         Err(end) => return exit(&rt, Err(end)),
     };
-    let Prepared { front, posts } = match prepare(&rt, &config) {
+    let Prepared { intake, posts } = match prepare(&rt, &config) {
         Ok(prepared) => prepared,
         Err(fault) => return exit(&rt, Err(End::from(fault))),
     };
@@ -232,6 +232,6 @@ fn main(rt: HostRuntime) -> ExitCode {
         }
     };
     let name = Unnamed::new(config.limits.workers);
-    let run = run_node::<Brand, _, _, _, _>(&rt, front, posts, name, boxed);
+    let run = run_node::<Brand, _, _, _, _>(&rt, intake, posts, name, boxed);
     exit(&rt, end_of_run(run))
 }

@@ -3,7 +3,7 @@ use crate::fault::ServeFault;
 use crate::stations::station_of;
 use attach::{Attachment, Hall};
 use bnc_ports::{Arrival, Lobby};
-use bnc_sockets::{Addresses, Door, Parcel, Slot, SocketPort, waker_of};
+use bnc_sockets::{Addresses, Door, Mailbox, Parcel, SocketPort, waker_of};
 use bnc_work::Station;
 use crossbeam_channel::{Receiver, Sender, unbounded};
 use mio::Poll;
@@ -25,46 +25,46 @@ pub(crate) struct Crew<R: Wait + Drop, X: Drop> {
 
 // Where a worker waits.
 #[derive(Drop)]
-struct Place {
+struct WorkerSeat {
     poll: Poll,
     parcels: Receiver<Parcel>,
-    slot: Slot,
+    mailbox: Mailbox,
 }
 
-fn place_of<R: Net + AllocGlobal>(rt: &R) -> Result<Place, ServeFault> {
+fn seat_of<R: Net + AllocGlobal>(rt: &R) -> Result<WorkerSeat, ServeFault> {
     let poll = Poll::new(rt)?;
     let (sender, parcels) = unbounded(rt.alloc())?;
     let waker = waker_of(rt, &poll)?;
-    let slot = Slot::new(sender, waker);
-    Ok(Place {
+    let mailbox = Mailbox::new(sender, waker);
+    Ok(WorkerSeat {
         poll,
         parcels,
-        slot,
+        mailbox,
     })
 }
 
-fn places_of<R: Net + AllocGlobal>(rt: &R, count: usize) -> Result<Vec<Place>, ServeFault> {
-    let mut places = Vec::new(rt.alloc());
+fn seats_of<R: Net + AllocGlobal>(rt: &R, count: usize) -> Result<Vec<WorkerSeat>, ServeFault> {
+    let mut seats = Vec::new(rt.alloc());
     for _ in 0..count {
-        let place = place_of(rt)?;
-        places.push(place).map_err(AllocError::from)?;
+        let seat = seat_of(rt)?;
+        seats.push(seat).map_err(AllocError::from)?;
     }
-    Ok(places)
+    Ok(seats)
 }
 
-fn slots_of(alloc: Global, places: &[Place]) -> Result<Vec<Slot>, AllocError> {
-    let mut slots = Vec::new(alloc);
-    for place in places {
-        let slot = place.slot.try_clone()?;
-        slots.push(slot)?;
+fn mailboxes_of(alloc: Global, seats: &[WorkerSeat]) -> Result<Vec<Mailbox>, AllocError> {
+    let mut mailboxes = Vec::new(alloc);
+    for seat in seats {
+        let mailbox = seat.mailbox.try_clone()?;
+        mailboxes.push(mailbox)?;
     }
-    Ok(slots)
+    Ok(mailboxes)
 }
 
-fn copies_of(alloc: Global, slots: &[Slot]) -> Result<Vec<Slot>, AllocError> {
+fn copies_of(alloc: Global, mailboxes: &[Mailbox]) -> Result<Vec<Mailbox>, AllocError> {
     let mut copies = Vec::new(alloc);
-    for slot in slots {
-        let copy = slot.try_clone()?;
+    for mailbox in mailboxes {
+        let copy = mailbox.try_clone()?;
         copies.push(copy)?;
     }
     Ok(copies)
@@ -82,17 +82,17 @@ fn addresses_of(alloc: Global, config: &Config) -> Result<Addresses, AllocError>
     Ok(Addresses { networks, peers })
 }
 
-// The port of a worker that waits there, beside the workers of these slots.
+// The port of a worker that waits there, beside the workers of these mailboxes.
 fn port_of<R: Net + Wait + Clock + Eprint + AllocGlobal + Copy + Drop>(
     rt: &R,
     addresses: &Addresses,
-    slots: &[Slot],
+    mailboxes: &[Mailbox],
     poll: Poll,
     parcels: Receiver<Parcel>,
 ) -> Result<SocketPort<R>, AllocError> {
-    let slots = copies_of(rt.alloc(), slots)?;
+    let mailboxes = copies_of(rt.alloc(), mailboxes)?;
     let addresses = addresses.try_clone()?;
-    SocketPort::new(*rt, poll, parcels, slots, addresses)
+    SocketPort::new(*rt, poll, parcels, mailboxes, addresses)
 }
 
 // A lobby for a worker's clients, and where their attachments are sent.
@@ -106,14 +106,14 @@ impl<R: Net + Wait + Clock + Eprint + AllocGlobal + Copy + Drop, X: Attachment> 
     pub(crate) fn new(rt: &R, config: &Config, incarnation: u64) -> Result<Crew<R, X>, ServeFault> {
         let alloc = rt.alloc();
         let addresses = addresses_of(alloc, config)?;
-        let places = places_of(rt, config.limits.workers)?;
-        let slots = slots_of(alloc, &places)?;
+        let seats = seats_of(rt, config.limits.workers)?;
+        let mailboxes = mailboxes_of(alloc, &seats)?;
         let mut crew = Crew {
             posts: Vec::new(alloc),
             doors: Vec::new(alloc),
         };
-        for place in places {
-            crew.add(rt, config, incarnation, &addresses, &slots, place)?;
+        for seat in seats {
+            crew.add(rt, config, incarnation, &addresses, &mailboxes, seat)?;
         }
         Ok(crew)
     }
@@ -125,17 +125,17 @@ impl<R: Net + Wait + Clock + Eprint + AllocGlobal + Copy + Drop, X: Attachment> 
         config: &Config,
         incarnation: u64,
         addresses: &Addresses,
-        slots: &[Slot],
-        place: Place,
+        mailboxes: &[Mailbox],
+        seat: WorkerSeat,
     ) -> Result<(), ServeFault> {
-        let Place {
+        let WorkerSeat {
             poll,
             parcels,
-            slot,
-        } = place;
-        let port = port_of(rt, addresses, slots, poll, parcels)?;
+            mailbox,
+        } = seat;
+        let port = port_of(rt, addresses, mailboxes, poll, parcels)?;
         let (arrivals, lobby) = lobby_of(rt.alloc())?;
-        let door = Door::new(slot, arrivals);
+        let door = Door::new(mailbox, arrivals);
         self.doors.push(door).map_err(AllocError::from)?;
         let station = station_of(rt.alloc(), config, incarnation, lobby)?;
         self.posts.push((station, port)).map_err(AllocError::from)?;

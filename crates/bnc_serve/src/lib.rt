@@ -15,5 +15,5 @@ mod stations;
 
 pub use bnc_work::WorkEnd;
 pub use fault::ServeFault;
-pub use node::{Front, Prepared, prepare, run_node};
+pub use node::{Intake, Prepared, prepare, run_node};
 pub use shared_node::Unnamed;

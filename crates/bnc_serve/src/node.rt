@@ -21,7 +21,7 @@ use std::time::Clock;
 
 /// Where connections come in, and where they are handed to the workers.
 #[derive(Drop)]
-pub struct Front<X = Boxed> {
+pub struct Intake<X = Boxed> {
     listeners: Listeners,
     doors: Vec<Door<X>>,
     // How many clients may be there at once.
@@ -34,7 +34,7 @@ pub struct Front<X = Boxed> {
 #[derive(Drop)]
 pub struct Prepared<R: Wait + Drop, X: Drop = Boxed> {
     /// Where connections come in.
-    pub front: Front<X>,
+    pub intake: Intake<X>,
     /// What each worker begins with, but for its pass.
     pub posts: Vec<(Station<X>, SocketPort<R>)>,
 }
@@ -50,13 +50,13 @@ pub fn prepare<R: Net + Wait + Clock + Eprint + AllocGlobal + Copy + Drop, X: At
         return Err(ServeFault::NoClock);
     };
     let Crew { posts, doors } = Crew::new(rt, config, incarnation)?;
-    let front = Front {
+    let intake = Intake {
         listeners,
         doors,
         places: config.limits.places,
         bound: config.limits.bound,
     };
-    Ok(Prepared { front, posts })
+    Ok(Prepared { intake, posts })
 }
 
 // A gate that is always open.
@@ -91,7 +91,7 @@ fn jobs_of<J: Naming, X: Attachment, P: Port>(
 /// `boxed` makes of a client what the workers' halls keep; none where there is no memory.
 pub fn run_node<J, R, X, P, F>(
     rt: &R,
-    front: Front<X>,
+    intake: Intake<X>,
     posts: Vec<(Station<X>, P)>,
     name: Unnamed,
     boxed: F,
@@ -108,25 +108,25 @@ where
     let alloc = rt.alloc();
     let (node, passes) = SharedNode::<J, &R>::new(alloc, rt, name)?;
     let jobs = jobs_of(alloc, passes, posts)?;
-    begin_reception(rt, front, boxed)?;
+    begin_reception(rt, intake, boxed)?;
     let ends = work_all(rt, &node, jobs, &Open)?;
     Ok(ends)
 }
 
 // Takes connections in from now on.
-fn begin_reception<R, X, F>(rt: &R, front: Front<X>, boxed: F) -> Result<(), ServeFault>
+fn begin_reception<R, X, F>(rt: &R, intake: Intake<X>, boxed: F) -> Result<(), ServeFault>
 where
     R: Threads + Wait + Clock + Eprint + AllocGlobal + Copy + Send + Drop + 'static,
     X: Attachment + Send + 'static,
     F: Fn(RingClient) -> Option<X> + Send + Drop + 'static,
     requires { F.IsAlwaysCallable boxed }
 {
-    let Front {
+    let Intake {
         listeners,
         doors,
         places,
         bound,
-    } = front;
+    } = intake;
     let clerk = Places::new(rt.alloc(), places)?;
     listeners.tell(rt);
     let reception = Reception::new(listeners, clerk, bound, doors);

@@ -38,20 +38,20 @@ fn sent<T: Drop>(taken: Result<(), SendError<T>>) -> Result<(), PortFault> {
 
 /// Where parcels for one worker are handed in.
 #[derive(Drop)]
-pub struct Slot {
+pub struct Mailbox {
     parcels: Sender<Parcel>,
     waker: Arc<Waker>,
 }
 
-impl Slot {
-    /// A slot at that channel, to whose other end the waker wakes.
-    pub fn new(parcels: Sender<Parcel>, waker: Arc<Waker>) -> Slot {
-        Slot { parcels, waker }
+impl Mailbox {
+    /// A mailbox at that channel, to whose other end the waker wakes.
+    pub fn new(parcels: Sender<Parcel>, waker: Arc<Waker>) -> Mailbox {
+        Mailbox { parcels, waker }
     }
 
-    /// Another owner of the same slot.
-    pub fn try_clone(&self) -> Result<Slot, AllocError> {
-        Ok(Slot {
+    /// Another owner of the same mailbox.
+    pub fn try_clone(&self) -> Result<Mailbox, AllocError> {
+        Ok(Mailbox {
             parcels: self.parcels.clone()?,
             waker: self.waker.clone()?,
         })
@@ -69,16 +69,16 @@ impl Slot {
 /// Where clients for one worker are handed in.
 #[derive(Drop)]
 pub struct Door<X = Boxed> {
-    slot: Slot,
+    mailbox: Mailbox,
     arrivals: Sender<Arrival<X>>,
     ticket: u64,
 }
 
 impl<X: Attachment> Door<X> {
-    /// A door to the worker of that slot, whose lobby is at the other end of the channel.
-    pub fn new(slot: Slot, arrivals: Sender<Arrival<X>>) -> Door<X> {
+    /// A door to the worker of that mailbox, whose lobby is at the other end of the channel.
+    pub fn new(mailbox: Mailbox, arrivals: Sender<Arrival<X>>) -> Door<X> {
         Door {
-            slot,
+            mailbox,
             arrivals,
             ticket: 0,
         }
@@ -95,7 +95,7 @@ impl<X: Attachment> Door<X> {
         self.ticket = self.ticket.wrapping_add(1);
         let ticket = self.ticket;
         sent(self.arrivals.send(rt, Arrival { ticket, attachment }))?;
-        self.slot.hand(
+        self.mailbox.hand(
             rt,
             Parcel::Client {
                 stream,
@@ -112,11 +112,11 @@ impl<X: Attachment> Door<X> {
         stream: TcpStream,
         address: SocketAddr,
     ) -> Result<(), PortFault> {
-        self.slot.hand(rt, Parcel::Peer { stream, address })
+        self.mailbox.hand(rt, Parcel::Peer { stream, address })
     }
 
     /// Tells the worker to end.
     pub fn stop<R: Wait>(&self, rt: &R) {
-        let _ = self.slot.hand(rt, Parcel::Stop);
+        let _ = self.mailbox.hand(rt, Parcel::Stop);
     }
 }

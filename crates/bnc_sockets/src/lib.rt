@@ -1,13 +1,13 @@
 //! The connections of a worker, over sockets.
 //!
-//! A [`SocketPort`] is the port of one worker: it waits for its sockets, and for what other threads hand in. A [`Slot`] is
+//! A [`SocketPort`] is the port of one worker: it waits for its sockets, and for what other threads hand in. A [`Mailbox`] is
 //! where parcels for a worker are handed in, and a [`Door`] is where clients are. A port that ends stops all workers whose
-//! slots it has: a node whose worker ended ends.
+//! mailboxes it has: a node whose worker ended ends.
 #![tactic(auto)]
 
 mod handing;
 mod line;
 mod socket_port;
 
-pub use handing::{Door, Parcel, Slot};
+pub use handing::{Door, Mailbox, Parcel};
 pub use socket_port::{Addresses, SocketPort, now_ms, report, waker_of};

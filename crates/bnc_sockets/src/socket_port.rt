@@ -1,7 +1,7 @@
 //! The port of a worker over sockets.
 ghost use Rattle.std.specs.Prelude.{◌≤◌, length, IfOk};
 
-use crate::handing::{Parcel, Slot};
+use crate::handing::{Mailbox, Parcel};
 use crate::line::{Line, Outcome, Stage, halt_of};
 use bnc_ports::{Dial, Event, EventLine, Halt, Happening, Mail, Port, PortFault};
 use crossbeam_channel::Receiver;
@@ -53,7 +53,7 @@ impl Addresses {
     }
 }
 
-/// The connections of one worker, over sockets. As it is dropped, the workers of all its slots are told to end.
+/// The connections of one worker, over sockets. As it is dropped, the workers of all its mailboxes are told to end.
 pub struct SocketPort<R: Wait + Drop> {
     rt: R,
     poll: Poll,
@@ -67,7 +67,7 @@ pub struct SocketPort<R: Wait + Drop> {
     // Whether an event is looked at before the next parcel, so that neither keeps the other waiting.
     is_turn_of_events: bool,
     parcels: Receiver<Parcel>,
-    slots: Vec<Slot>,
+    mailboxes: Vec<Mailbox>,
     lines: Slab<Line>,
     addresses: Addresses,
 }
@@ -84,7 +84,7 @@ impl<R: Wait + Drop> Drop for SocketPort<R> {
             parcels_taken: _,
             is_turn_of_events: _,
             parcels: _,
-            slots: _,
+            mailboxes: _,
             lines: _,
             addresses: _,
         } = self;
@@ -94,20 +94,20 @@ impl<R: Wait + Drop> Drop for SocketPort<R> {
 impl<R: Wait + Drop> SocketPort<R> {
     // Tells all workers to end.
     fn stop_all(&self) {
-        for slot in self.slots.iter() {
-            let _ = slot.hand(&self.rt, Parcel::Stop);
+        for mailbox in self.mailboxes.iter() {
+            let _ = mailbox.hand(&self.rt, Parcel::Stop);
         }
     }
 }
 
 impl<R: Net + Wait + Clock + Eprint + AllocGlobal + Drop> SocketPort<R> {
-    /// The port of the worker whose parcels come over that channel, and whose poll has the waker of [`waker_of`]. `slots`
+    /// The port of the worker whose parcels come over that channel, and whose poll has the waker of [`waker_of`]. `mailboxes`
     /// are those of all workers, in their order.
     pub fn new(
         rt: R,
         poll: Poll,
         parcels: Receiver<Parcel>,
-        slots: Vec<Slot>,
+        mailboxes: Vec<Mailbox>,
         addresses: Addresses,
     ) -> Result<SocketPort<R>, AllocError> {
         let events = Events::with_capacity(rt.alloc(), EVENTS)?;
@@ -121,7 +121,7 @@ impl<R: Net + Wait + Clock + Eprint + AllocGlobal + Drop> SocketPort<R> {
             parcels_taken: 0,
             is_turn_of_events: false,
             parcels,
-            slots,
+            mailboxes,
             lines,
             addresses,
         })
@@ -326,15 +326,15 @@ impl<R: Net + Wait + Clock + Eprint + AllocGlobal + Drop> Port for SocketPort<R>
     }
 
     fn post(&mut self, worker: usize, mail: Mail) -> Result<(), PortFault> {
-        let Some(slot) = self.slots.get(worker) else {
+        let Some(mailbox) = self.mailboxes.get(worker) else {
             drop(mail);
             return Err(PortFault);
         };
-        slot.hand(&self.rt, Parcel::Mail(mail))
+        mailbox.hand(&self.rt, Parcel::Mail(mail))
     }
 
     fn workers(&self) -> usize {
-        self.slots.len()
+        self.mailboxes.len()
     }
 
     fn now_ms(&mut self) -> Result<u64, PortFault> {

@@ -7,7 +7,7 @@ use bnc_ports::{Mail, Port, Reason};
 use chat_change::Change;
 use client_session::Effect;
 use std::slice;
-use work_clients::Step;
+use work_clients::ClientStep;
 
 /// So many steps a client has before the others have their turn.
 const STEPS: usize = 64;
@@ -33,18 +33,18 @@ impl<N: Node, X: Attachment, P: Port> Worker<N, X, P> {
             ..
         } = self;
         match clients.step(desk, node.pass(), line) {
-            Step::Do(effects) => {
+            ClientStep::Do(effects) => {
                 self.do_client(line, effects)?;
                 return Ok(true);
             }
-            Step::Again => return Ok(true),
-            Step::End(reason) => {
+            ClientStep::Again => return Ok(true),
+            ClientStep::End(reason) => {
                 clients.end(desk, line, reason);
                 return Ok(true);
             }
-            Step::Wait => clients.finish(desk, line, true),
-            Step::Rest => clients.finish(desk, line, false),
-            Step::Over(reason) => clients.close(desk, line, reason),
+            ClientStep::Wait => clients.finish(desk, line, true),
+            ClientStep::Rest => clients.finish(desk, line, false),
+            ClientStep::Over(reason) => clients.close(desk, line, reason),
         }
         Ok(false)
     }

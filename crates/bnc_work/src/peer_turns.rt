@@ -7,7 +7,7 @@ use bnc_ports::{Mail, Port, Reason};
 use byte_text::NoMemory;
 use chat_change::Change;
 use peer_session::{Arrived, Outcome, changes_of};
-use work_peers::Step;
+use work_peers::PeerStep;
 
 /// So many lines of a peer are taken before the others have their turn.
 const STEPS: usize = 64;
@@ -34,16 +34,16 @@ impl<N: Node, X: Attachment, P: Port> Worker<N, X, P> {
     // One step of a peer's turn. False where the turn ends with it.
     fn step_peer(&mut self, line: usize) -> Result<bool, WorkEnd> {
         match self.peers.step(&mut self.desk, line) {
-            Step::Take(place, arrived) => {
+            PeerStep::Take(place, arrived) => {
                 self.take_message(line, place, &arrived)?;
                 Ok(true)
             }
-            Step::Again => Ok(true),
-            Step::Rest => {
+            PeerStep::Again => Ok(true),
+            PeerStep::Rest => {
                 self.peers.finish(&mut self.desk, line);
                 Ok(false)
             }
-            Step::Over(reason) => {
+            PeerStep::Over(reason) => {
                 self.peers.close(&mut self.desk, line, reason);
                 Ok(false)
             }

@@ -9,7 +9,7 @@ use chat_change::{Change, Record};
 use shared_node::PutFault;
 use std::slice;
 use upstream_session::{Recipients, UpEffect, is_from};
-use work_servers::{Said, Step};
+use work_servers::{Said, ServerStep};
 
 /// So many lines of a server are taken before the others have their turn: about as many as one read brings, so that what
 /// they come to is written to each client at once.
@@ -31,16 +31,16 @@ impl<N: Node, X: Attachment, P: Port> Worker<N, X, P> {
     // One step of a server's turn. False where the turn ends with it.
     fn step_server(&mut self, line: usize) -> Result<bool, WorkEnd> {
         match self.servers.step(&mut self.desk, line) {
-            Step::Do(effects) => {
+            ServerStep::Do(effects) => {
                 self.do_server(line, effects)?;
                 Ok(true)
             }
-            Step::Again => Ok(true),
-            Step::Rest => {
+            ServerStep::Again => Ok(true),
+            ServerStep::Rest => {
                 self.finish_server(line);
                 Ok(false)
             }
-            Step::Over(reason) => {
+            ServerStep::Over(reason) => {
                 self.close_server(line, reason);
                 Ok(false)
             }

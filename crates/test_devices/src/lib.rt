@@ -6,6 +6,6 @@ mod log;
 mod sink;
 mod source;
 
-pub use log::{Event, Log};
+pub use log::{DeviceCall, Log};
 pub use sink::Sink;
 pub use source::Source;

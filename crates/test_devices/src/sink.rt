@@ -1,5 +1,5 @@
 //! A writer that keeps what it takes.
-use crate::log::{Event, Log};
+use crate::log::{DeviceCall, Log};
 use std::alloc::Global;
 use std::io;
 use std::io::{ErrorKind, Write};
@@ -73,9 +73,9 @@ impl<'a> Sink<'a> {
         self.bytes.as_slice()
     }
 
-    fn note(&self, event: Event) -> io::Result<()> {
+    fn note(&self, call: DeviceCall) -> io::Result<()> {
         match self.log {
-            Some(log) => log.note(event),
+            Some(log) => log.note(call),
             None => Ok(()),
         }
     }
@@ -89,11 +89,11 @@ impl<'a> Write for Sink<'a> {
         }
         self.interrupts_next = self.is_interrupted;
         if self.writes_left == 0 {
-            self.note(Event::FailedWrite)?;
+            self.note(DeviceCall::FailedWrite)?;
             return Err(io::Error::from(ErrorKind::BrokenPipe));
         }
         let n = buf.len().min(self.most);
-        self.note(Event::Write(n))?;
+        self.note(DeviceCall::Write(n))?;
         match self.bytes.extend_from_slice(&buf[..n]) {
             Ok(()) => {
                 self.writes_left -= 1;
@@ -105,10 +105,10 @@ impl<'a> Write for Sink<'a> {
 
     fn flush(&mut self) -> io::Result<()> {
         if self.flushes_left == 0 {
-            self.note(Event::FailedFlush)?;
+            self.note(DeviceCall::FailedFlush)?;
             return Err(io::Error::from(ErrorKind::BrokenPipe));
         }
-        self.note(Event::Flush)?;
+        self.note(DeviceCall::Flush)?;
         self.flushes_left -= 1;
         Ok(())
     }

@@ -1,5 +1,5 @@
 //! A reader of given bytes.
-use crate::log::{Event, Log};
+use crate::log::{DeviceCall, Log};
 use std::io;
 use std::io::{ErrorKind, Read};
 
@@ -60,9 +60,9 @@ impl<'a> Source<'a> {
         }
     }
 
-    fn note(&self, event: Event) -> io::Result<()> {
+    fn note(&self, call: DeviceCall) -> io::Result<()> {
         match self.log {
-            Some(log) => log.note(event),
+            Some(log) => log.note(call),
             None => Ok(()),
         }
     }
@@ -76,12 +76,12 @@ impl<'a> Read for Source<'a> {
         }
         self.interrupts_next = self.is_interrupted;
         if self.reads_left == 0 {
-            self.note(Event::FailedRead)?;
+            self.note(DeviceCall::FailedRead)?;
             return Err(io::Error::from(ErrorKind::BrokenPipe));
         }
         let all = self.rest;
         let n = all.len().min(self.most).min(buf.len());
-        self.note(Event::Read(n))?;
+        self.note(DeviceCall::Read(n))?;
         buf[..n].copy_from_slice(&all[..n]);
         self.rest = &all[n..];
         self.reads_left -= 1;

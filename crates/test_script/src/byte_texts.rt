@@ -3,7 +3,7 @@ use byte_text::{NoMemory, find_byte, put};
 use std::alloc::{AllocError, Global};
 use std::io::ErrorKind;
 use std::test::Fail;
-use test_devices::{Event, Log, Sink};
+use test_devices::{DeviceCall, Log, Sink};
 
 const TEXT: &[u8] = b"PING :x\r\n";
 
@@ -41,7 +41,7 @@ fn writes_what_is_left(rt: HostRuntime) {
     let mut writer = Sink::new(rt.alloc()).at_most(7).logged(&log);
     assert!(rt; put(&mut writer, b"").is_ok() && log.is(&[]));
     assert!(rt; put(&mut writer, TEXT).is_ok());
-    assert!(rt; log.is(&[Event::Write(7), Event::Write(2)]));
+    assert!(rt; log.is(&[DeviceCall::Write(7), DeviceCall::Write(2)]));
 }
 
 #[test]

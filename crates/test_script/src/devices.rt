@@ -1,16 +1,16 @@
 //! A reader and a writer that are interrupted and fail, and share a log.
 use std::io::{Read, Write};
-use test_devices::{Event, Log, Sink, Source};
+use test_devices::{DeviceCall, Log, Sink, Source};
 
-const CALLS: [Event; 8] = [
-    Event::Read(3),
-    Event::Read(2),
-    Event::FailedRead,
-    Event::Write(2),
-    Event::Write(2),
-    Event::FailedWrite,
-    Event::Flush,
-    Event::FailedFlush,
+const CALLS: [DeviceCall; 8] = [
+    DeviceCall::Read(3),
+    DeviceCall::Read(2),
+    DeviceCall::FailedRead,
+    DeviceCall::Write(2),
+    DeviceCall::Write(2),
+    DeviceCall::FailedWrite,
+    DeviceCall::Flush,
+    DeviceCall::FailedFlush,
 ];
 
 #[test]

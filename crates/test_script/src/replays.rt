@@ -1,7 +1,7 @@
 //! Scripts over readers and writers that interrupt, fail or note their calls.
 use bnc_server::{ReplayFault, replay};
 use std::alloc::Global;
-use test_devices::{Event, Log, Sink, Source};
+use test_devices::{DeviceCall, Log, Sink, Source};
 
 /// Runs a script of the account demo on the network net, whose nick is al.
 fn run(alloc: Global, mut reader: Source<'_>, writer: &mut Sink<'_>) -> Result<(), ReplayFault> {
@@ -42,15 +42,15 @@ fn neither_cutting_nor_an_interruption_shows(rt: HostRuntime) {
 const THREE_NOTICES: &[u8] =
     b":bnc.example NOTICE al :Not connected to net\r\n:bnc.example NOTICE al :Not connected to net\r\n:bnc.example NOTICE al :Not connected to net\r\n";
 
-const THREE_TURNS: [Event; 8] = [
-    Event::Read(4),
-    Event::Write(46),
-    Event::Write(46),
-    Event::Flush,
-    Event::Read(2),
-    Event::Write(46),
-    Event::Flush,
-    Event::Read(0),
+const THREE_TURNS: [DeviceCall; 8] = [
+    DeviceCall::Read(4),
+    DeviceCall::Write(46),
+    DeviceCall::Write(46),
+    DeviceCall::Flush,
+    DeviceCall::Read(2),
+    DeviceCall::Write(46),
+    DeviceCall::Flush,
+    DeviceCall::Read(0),
 ];
 
 // Whoever asked sees the answers before more is read.

@@ -90,7 +90,7 @@ fn one_after_another<R: Net<Stream = TcpStream> + Clock>(
 fn the_next_client_has_the_place_of_one_that_left(rt: HostRuntime) {
     let (listener, network) = listener(&rt);
     let is_over = Arc::new(rt.alloc(), AtomicBool::new(false)).expect(&rt, "memory");
-    let (Prepared { front, posts }, address) = node(&rt, network);
+    let (Prepared { intake, posts }, address) = node(&rt, network);
     let posts = until_told(&rt, posts, &is_over);
     let talk = move || {
         let talked = one_after_another(&rt, &listener, address);
@@ -99,9 +99,13 @@ fn the_next_client_has_the_place_of_one_that_left(rt: HostRuntime) {
     };
     let talking = thread::spawn(&rt, talk).expect(&rt, "a thread");
     let name = Unnamed::new(1);
-    let ends = run_node::<Brand, _, _, _, _>(&rt, front, posts, name, |client| Some(client)).expect(
-        &rt, "a node",
-    );
+    let ends = run_node::<Brand, _, _, _, _>(
+        &rt,
+        intake,
+        posts,
+        name,
+        |client| Some(client),
+    ).expect(&rt, "a node");
     talking.join(&rt).expect(&rt, "the talk");
     assert!(rt; ends.as_slice() == [WorkEnd::Ended].as_slice());
 }

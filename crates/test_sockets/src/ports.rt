@@ -2,7 +2,7 @@
 use crate::node::Machine;
 use attach::RingClient;
 use bnc_ports::{Happening, Port};
-use bnc_sockets::{Addresses, Door, Parcel, Slot, SocketPort, waker_of};
+use bnc_sockets::{Addresses, Door, Mailbox, Parcel, SocketPort, waker_of};
 use crossbeam_channel::{Receiver, unbounded};
 use mio::Poll;
 use std::net::SocketAddr;
@@ -12,43 +12,51 @@ const TURNS: usize = 1000;
 
 // Where a worker waits.
 #[derive(Drop)]
-struct Place {
+struct WorkerSeat {
     poll: Poll,
     parcels: Receiver<Parcel>,
-    slot: Slot,
+    mailbox: Mailbox,
 }
 
-fn place_of<R: Machine>(rt: &R) -> Place {
+fn seat_of<R: Machine>(rt: &R) -> WorkerSeat {
     let poll = Poll::new(rt).expect(rt, "a poll");
     let (sender, parcels) = unbounded(rt.alloc()).expect(rt, "memory");
     let waker = waker_of(rt, &poll).expect(rt, "a waker");
-    let slot = Slot::new(sender, waker);
-    Place {
+    let mailbox = Mailbox::new(sender, waker);
+    WorkerSeat {
         poll,
         parcels,
-        slot,
+        mailbox,
     }
 }
 
-fn slots_of<R: Machine>(rt: &R, first: &Slot, second: &Slot) -> Vec<Slot> {
-    let mut slots = Vec::new(rt.alloc());
-    assert!(rt; slots.push(first.try_clone().expect(rt, "memory")).is_ok());
-    assert!(rt; slots.push(second.try_clone().expect(rt, "memory")).is_ok());
-    slots
+fn mailboxes_of<R: Machine>(rt: &R, first: &Mailbox, second: &Mailbox) -> Vec<Mailbox> {
+    let mut mailboxes = Vec::new(rt.alloc());
+    assert!(rt;
+        mailboxes
+            .push(first.try_clone().expect(rt, "memory"))
+            .is_ok()
+    );
+    assert!(rt;
+        mailboxes
+            .push(second.try_clone().expect(rt, "memory"))
+            .is_ok()
+    );
+    mailboxes
 }
 
 fn port_of<R: Machine>(
     rt: &R,
     poll: Poll,
     parcels: Receiver<Parcel>,
-    slots: Vec<Slot>,
+    mailboxes: Vec<Mailbox>,
     peer: SocketAddr,
 ) -> SocketPort<R> {
     let networks = Vec::new(rt.alloc());
     let mut peers = Vec::new(rt.alloc());
     peers.push(peer).expect(rt, "memory");
     let addresses = Addresses { networks, peers };
-    SocketPort::new(*rt, poll, parcels, slots, addresses).expect(rt, "memory")
+    SocketPort::new(*rt, poll, parcels, mailboxes, addresses).expect(rt, "memory")
 }
 
 // The ports of two workers, whose peer is at that address, and the door to the second worker.
@@ -60,14 +68,14 @@ pub(crate) struct TwoPorts<R: Machine> {
 }
 
 pub(crate) fn two_ports<R: Machine>(rt: &R, peer: SocketAddr) -> TwoPorts<R> {
-    let one = place_of(rt);
-    let other = place_of(rt);
-    let slots = slots_of(rt, &one.slot, &other.slot);
-    let copies = slots_of(rt, &one.slot, &other.slot);
-    let first = port_of(rt, one.poll, one.parcels, slots, peer);
+    let one = seat_of(rt);
+    let other = seat_of(rt);
+    let mailboxes = mailboxes_of(rt, &one.mailbox, &other.mailbox);
+    let copies = mailboxes_of(rt, &one.mailbox, &other.mailbox);
+    let first = port_of(rt, one.poll, one.parcels, mailboxes, peer);
     let second = port_of(rt, other.poll, other.parcels, copies, peer);
     let (sender, _) = unbounded(rt.alloc()).expect(rt, "memory");
-    let door = Door::new(other.slot, sender);
+    let door = Door::new(other.mailbox, sender);
     TwoPorts {
         first,
         second,

@@ -1,7 +1,7 @@
 //! A worker's clients: how they come and go, what each does next, what it is answered, and what all sessions of a network
 //! are told.
 //!
-//! A turn of a client is a few [`Step`]s, each of which its caller carries out ([`Clients::step`]), and then
+//! A turn of a client is a few [`ClientStep`]s, each of which its caller carries out ([`Clients::step`]), and then
 //! [`Clients::finish`], which writes what the client is owed.
 #![tactic(auto)]
 
@@ -14,4 +14,4 @@ mod telling;
 mod turns;
 
 pub use clients::Clients;
-pub use turns::Step;
+pub use turns::ClientStep;

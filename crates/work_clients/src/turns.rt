@@ -14,7 +14,7 @@ const WRITES: usize = 4;
 
 /// What a step of a client comes to.
 #[derive(Drop)]
-pub enum Step {
+pub enum ClientStep {
     /// This is to be done, in this order.
     Do(Vec<Effect>),
     /// There is more to do at once.
@@ -37,22 +37,24 @@ fn reason_of(fault: StepFault) -> Reason {
 }
 
 // What a client does next that is closed once it has read what it is owed.
-fn last_step(pumped: Pumped, reason: Reason) -> Step {
+fn last_step(pumped: Pumped, reason: Reason) -> ClientStep {
     match pumped {
-        Pumped::Some => Step::Again,
-        Pumped::Blocked => Step::Rest,
-        Pumped::All | Pumped::Closed | Pumped::Overrun | Pumped::NoMemory => Step::Over(reason),
+        Pumped::Some => ClientStep::Again,
+        Pumped::Blocked => ClientStep::Rest,
+        Pumped::All | Pumped::Closed | Pumped::Overrun | Pumped::NoMemory => ClientStep::Over(
+            reason,
+        ),
     }
 }
 
 // What a client does next that asked for more bytes.
-fn step_after(filled: Filled) -> Step {
+fn step_after(filled: Filled) -> ClientStep {
     match filled {
-        Filled::More => Step::Again,
-        Filled::Nothing => Step::Rest,
+        Filled::More => ClientStep::Again,
+        Filled::Nothing => ClientStep::Rest,
         // Its other half may be open, and what it is owed may be read.
-        Filled::Closed => Step::End(Reason::Closed),
-        Filled::NoMemory => Step::Over(Reason::NoMemory),
+        Filled::Closed => ClientStep::End(Reason::Closed),
+        Filled::NoMemory => ClientStep::Over(Reason::NoMemory),
     }
 }
 
@@ -63,24 +65,24 @@ impl Client {
         hall: &mut Hall<X>,
         desk: &mut Desk<P>,
         peek: &mut K,
-    ) -> Step {
+    ) -> ClientStep {
         if let Fate::Lost(reason) = self.fate {
-            return Step::Over(reason);
+            return ClientStep::Over(reason);
         }
         if !self.guest.offer_waiting(hall) {
-            return Step::Over(Reason::Overrun);
+            return ClientStep::Over(Reason::Overrun);
         }
         if let Fate::Ends(reason) = self.fate {
             return last_step(self.pump(hall, desk), reason);
         }
         if self.guest.waits() {
-            return Step::Wait;
+            return ClientStep::Wait;
         }
         self.hear(desk, peek)
     }
 
     // The client's next line, or more bytes for it.
-    fn hear<K: Peek, P: Port>(&mut self, desk: &mut Desk<P>, peek: &mut K) -> Step {
+    fn hear<K: Peek, P: Port>(&mut self, desk: &mut Desk<P>, peek: &mut K) -> ClientStep {
         let Client { guest, session, .. } = self;
         let Desk {
             site,
@@ -91,12 +93,12 @@ impl Client {
         } = desk;
         match guest.next_line() {
             Next::Line(bytes) => match session.step(site.alloc, bytes, &site.directory, peek) {
-                Ok(effects) => Step::Do(effects),
-                Err(fault) => Step::Over(reason_of(fault)),
+                Ok(effects) => ClientStep::Do(effects),
+                Err(fault) => ClientStep::Over(reason_of(fault)),
             },
             Next::TooLong => match session.too_long(site.alloc, &site.directory) {
-                Ok(effects) => Step::Do(effects),
-                Err(_) => Step::Over(Reason::NoMemory),
+                Ok(effects) => ClientStep::Do(effects),
+                Err(_) => ClientStep::Over(Reason::NoMemory),
             },
             Next::More => step_after(guest.fill(port, chunk, feeders)),
         }
@@ -131,11 +133,11 @@ impl<X: Attachment> Clients<X> {
         desk: &mut Desk<P>,
         peek: &mut K,
         line: usize,
-    ) -> Step {
+    ) -> ClientStep {
         let Clients { all, lobby, .. } = self;
         match all.get_mut(&line) {
             Some(client) => client.step(lobby.hall(), desk, peek),
-            None => Step::Rest,
+            None => ClientStep::Rest,
         }
     }
 

@@ -17,4 +17,4 @@ mod peers;
 mod turns;
 
 pub use peers::Peers;
-pub use turns::Step;
+pub use turns::PeerStep;

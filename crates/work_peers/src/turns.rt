@@ -11,7 +11,7 @@ use work_lines::{Filled, Pumped};
 
 /// What a step of a peer comes to.
 #[derive(Drop)]
-pub enum Step {
+pub enum PeerStep {
     /// A message of the peer at that place is to be carried out.
     Take(usize, Arrived),
     /// A further step can be made.
@@ -31,29 +31,29 @@ fn reason_of(place: Option<usize>, bytes: &[u8]) -> Reason {
     }
 }
 
-fn step_of(heard: Result<Heard, NoMemory>, reason: Reason) -> Step {
+fn step_of(heard: Result<Heard, NoMemory>, reason: Reason) -> PeerStep {
     match heard {
-        Ok(Heard::Nothing) => Step::Again,
-        Ok(Heard::Message(place, arrived)) => Step::Take(place, arrived),
-        Ok(Heard::Close) => Step::Over(reason),
-        Err(NoMemory) => Step::Over(Reason::NoMemory),
+        Ok(Heard::Nothing) => PeerStep::Again,
+        Ok(Heard::Message(place, arrived)) => PeerStep::Take(place, arrived),
+        Ok(Heard::Close) => PeerStep::Over(reason),
+        Err(NoMemory) => PeerStep::Over(Reason::NoMemory),
     }
 }
 
-fn step_of_fill(filled: Filled) -> Step {
+fn step_of_fill(filled: Filled) -> PeerStep {
     match filled {
-        Filled::More => Step::Again,
-        Filled::Nothing => Step::Rest,
-        Filled::Closed => Step::Over(Reason::Closed),
-        Filled::NoMemory => Step::Over(Reason::NoMemory),
+        Filled::More => PeerStep::Again,
+        Filled::Nothing => PeerStep::Rest,
+        Filled::Closed => PeerStep::Over(Reason::Closed),
+        Filled::NoMemory => PeerStep::Over(Reason::NoMemory),
     }
 }
 
 impl Peer {
     // The next line, or more bytes for it. What is to be sent because of it is appended.
-    fn step<P: Port>(&mut self, desk: &mut Desk<P>, out: &mut Vec<u8>) -> Step {
+    fn step<P: Port>(&mut self, desk: &mut Desk<P>, out: &mut Vec<u8>) -> PeerStep {
         if let Some(reason) = self.lost {
-            return Step::Over(reason);
+            return PeerStep::Over(reason);
         }
         let Desk {
             site,
@@ -86,10 +86,10 @@ impl Peer {
 impl Peers {
     /// Takes the next line that came over a connection, or more bytes for it. What is to be sent because of the line waits
     /// for the peer.
-    pub fn step<P: Port>(&mut self, desk: &mut Desk<P>, line: usize) -> Step {
+    pub fn step<P: Port>(&mut self, desk: &mut Desk<P>, line: usize) -> PeerStep {
         let Peers { all, out, .. } = self;
         let Some(peer) = all.get_mut(&line) else {
-            return Step::Rest;
+            return PeerStep::Rest;
         };
         out.clear();
         let step = peer.step(desk, out);

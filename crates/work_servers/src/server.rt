@@ -15,7 +15,7 @@ const MOST_OWED: usize = 65_536;
 
 /// What a step of a server comes to.
 #[derive(Drop)]
-pub enum Step {
+pub enum ServerStep {
     /// A line came, and this is to be done.
     Do(Vec<UpEffect>),
     /// There may be more: the next step tells.
@@ -103,24 +103,24 @@ impl Server {
     }
 
     /// What the next line comes to, or more bytes where there is none.
-    pub(crate) fn step<P: Port>(&mut self, desk: &mut Desk<P>) -> Step {
+    pub(crate) fn step<P: Port>(&mut self, desk: &mut Desk<P>) -> ServerStep {
         if self.fate != Fate::Stays {
-            return Step::Rest;
+            return ServerStep::Rest;
         }
         match self.pipe.next_line() {
             Next::Line(bytes) => {
                 match self.session.step(desk.site.alloc, bytes, desk.site.moment) {
-                    Ok(effects) => Step::Do(effects),
-                    Err(_) => Step::Over(Reason::NoMemory),
+                    Ok(effects) => ServerStep::Do(effects),
+                    Err(_) => ServerStep::Over(Reason::NoMemory),
                 }
             }
-            Next::TooLong => Step::Again,
+            Next::TooLong => ServerStep::Again,
             Next::More => self.fill(desk),
         }
     }
 
     // Takes in more bytes.
-    fn fill<P: Port>(&mut self, desk: &mut Desk<P>) -> Step {
+    fn fill<P: Port>(&mut self, desk: &mut Desk<P>) -> ServerStep {
         let Desk {
             site,
             port,
@@ -131,11 +131,11 @@ impl Server {
         match self.pipe.fill(port, chunk, feeders) {
             Filled::More => {
                 self.heard_at = site.now;
-                Step::Again
+                ServerStep::Again
             }
-            Filled::Nothing => Step::Rest,
-            Filled::Closed => Step::Over(Reason::Closed),
-            Filled::NoMemory => Step::Over(Reason::NoMemory),
+            Filled::Nothing => ServerStep::Rest,
+            Filled::Closed => ServerStep::Over(Reason::Closed),
+            Filled::NoMemory => ServerStep::Over(Reason::NoMemory),
         }
     }
 }

@@ -14,7 +14,7 @@ const FIRST_SERIAL: u64 = 1_000_000_000_000;
 
 /// Where a network's session is taken up.
 #[derive(Clone, Copy)]
-struct Slot {
+struct NetworkLine {
     // the connection, or the one that is being made
     line: Option<usize>,
     // the serial number of the next id that is made
@@ -26,43 +26,43 @@ struct Slot {
 pub struct Servers {
     pub(crate) all: BTreeMap<usize, Server>,
     // of all networks; those of other workers stay empty
-    slots: Vec<Slot>,
+    networks: Vec<NetworkLine>,
     busy: VecDeque<usize>,
 }
 
 impl Servers {
     /// No servers yet, of so many networks.
     pub fn new(alloc: Global, networks: usize) -> Result<Servers, NoMemory> {
-        let slot = Slot {
+        let network_line = NetworkLine {
             line: None,
             serial: FIRST_SERIAL,
         };
-        let Ok(slots) = vec![in alloc; slot; networks] else {
+        let Ok(networks) = vec![in alloc; network_line; networks] else {
             return Err(NoMemory);
         };
         Ok(Servers {
             all: BTreeMap::new(alloc),
-            slots,
+            networks,
             busy: VecDeque::new(alloc),
         })
     }
 
     /// The connection of a network is that, or there is none.
     pub(crate) fn set_line(&mut self, network: usize, line: Option<usize>) {
-        if let Some(slot) = self.slots.get_mut(network) {
-            slot.line = line;
+        if let Some(network_line) = self.networks.get_mut(network) {
+            network_line.line = line;
         }
     }
 
     /// The connection with the network's server, or the one that is being made.
     pub(crate) fn line_of(&self, network: usize) -> Option<usize> {
-        self.slots.get(network)?.line
+        self.networks.get(network)?.line
     }
 
     /// The serial number from which the network's next session goes on.
     pub(crate) fn serial_of(&self, network: usize) -> u64 {
-        match self.slots.get(network) {
-            Some(slot) => slot.serial,
+        match self.networks.get(network) {
+            Some(network_line) => network_line.serial,
             None => FIRST_SERIAL,
         }
     }
@@ -91,9 +91,9 @@ impl Servers {
             entry,
             ..
         } = self.all.remove(&line)?;
-        if let Some(slot) = self.slots.get_mut(network) {
-            slot.line = None;
-            slot.serial = session.serial();
+        if let Some(network_line) = self.networks.get_mut(network) {
+            network_line.line = None;
+            network_line.serial = session.serial();
         }
         drop(session);
         Some(Standing { network, entry })

@@ -1,5 +1,5 @@
 //! The turns of networks' servers: their lines, lines for them, and what is written to them.
-use crate::server::Step;
+use crate::server::ServerStep;
 use crate::servers::Servers;
 use crate::standing::Standing;
 use bnc_ports::{Event, Port, Reason};
@@ -29,10 +29,10 @@ fn report_up<P: Port>(port: &mut P, site: &Site, network: usize, nick: &[u8]) {
 
 impl Servers {
     /// What the server's next line comes to, or more bytes of it. A server whose connection is to be closed has no next line.
-    pub fn step<P: Port>(&mut self, desk: &mut Desk<P>, line: usize) -> Step {
+    pub fn step<P: Port>(&mut self, desk: &mut Desk<P>, line: usize) -> ServerStep {
         match self.all.get_mut(&line) {
             Some(server) => server.step(desk),
-            None => Step::Rest,
+            None => ServerStep::Rest,
         }
     }
 
