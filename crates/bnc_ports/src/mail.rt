@@ -2,8 +2,8 @@
 use byte_text::Text;
 use chat_change::Record;
 use client_directory::Entry;
+use irc_caps::Recipients;
 use shared_lines::SharedLine;
-use upstream_session::Recipients;
 
 /// What a worker tells another. Networks are those of the configuration, counted from 0.
 #[derive(Drop)]

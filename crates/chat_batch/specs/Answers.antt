@@ -10,6 +10,7 @@ use Rattle.chat_change.specs.Buffer.{buffer_of}
 use Rattle.chat_change.specs.declared.change.Change.{Change}
 use Rattle.chat_history.specs.History.{mark}
 use Rattle.chat_page.specs.Scope as scope
+use Rattle.chat_change.specs.Buffers as buffers
 use Rattle.chat_page.specs.Parameters.{read_query, moment_of}
 use Rattle.chat_page.specs.Page.{Page, page}
 use Rattle.chat_page.specs.declared.query.Query.{Query}
@@ -41,11 +42,11 @@ fail facts command code context reason = plain (fail_text facts.cluster command 
 
 -- a session whose account or network is no name has no buffers
 abbrev pub has_buffers : Facts → Bool
-has_buffers facts = scope.has_buffers facts.account facts.network
+has_buffers facts = buffers.has_buffers facts.account facts.network
 
 -- a target has a buffer of the session
 abbrev pub has_buffer : Facts → List ℕ → Bool
-has_buffer facts target = scope.has_buffer facts.account facts.network target
+has_buffer facts target = buffers.has_buffer facts.account facts.network target
 
 abbrev pub scope_of : Facts → scope.Scope
 scope_of facts = record {

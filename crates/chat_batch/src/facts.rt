@@ -4,8 +4,7 @@ ghost use Rattle.chat_change.specs.Buffer.{buffer_of};
 ghost use Rattle.chat_batch.specs.Answers as spec;
 
 use byte_text::{NoMemory, Text};
-use chat_change::Buffer;
-use chat_page::{has_buffer, lawful_buffer};
+use chat_change::{Buffer, has_buffer, lawful_buffer};
 use irc_caps::CapSet;
 use std::alloc::Global;
 
@@ -73,12 +72,9 @@ impl Facts {
         ensures { IfOk result (λ buffer. buffer
             ≡ buffer_of self.now.account self.now.network target.now) }
     {
-        lawful_buffer(
-            alloc,
-            self.account.as_bytes(),
-            self.network.as_bytes(),
-            target,
-        )
+        let (account, network) = (self.account.as_bytes(), self.network.as_bytes());
+        let buffer = lawful_buffer(alloc, account, network, target)?;
+        Ok(buffer)
     }
 }
 

@@ -2,6 +2,7 @@
 -- lawful changes
 pub mod Words
 pub mod Buffer
+pub mod Buffers
 pub mod Message
 pub mod Record
 pub mod Order

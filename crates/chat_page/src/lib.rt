@@ -7,7 +7,6 @@
 #![tactic(auto)]
 
 mod answer;
-mod lawful;
 pub mod laws;
 mod limit;
 mod listed_buffer;
@@ -19,7 +18,6 @@ mod scope;
 mod walk;
 
 pub use answer::page;
-pub use lawful::{has_buffer, lawful_buffer, lawful_id};
 pub use listed_buffer::ListedBuffer;
 pub use pages::{Page, PageFault};
 pub use parameters::{QueryFault, read_moment, read_query};

@@ -1,7 +1,9 @@
 //! What holds of every list of lines, each with the directory of its moment, and of the lines that were too long and the
 //! answers between them.
-ghost use Rattle.std.specs.Prelude.{◌≡◌, ◌++◌, ◌∷◌, [], List, ℕ, Some};
+ghost use Rattle.std.specs.Prelude.{◌≡◌, ◌++◌, ◌∷◌, [], List, ℕ, Some, true, false};
 ghost use Rattle.std.specs.List.{AllByRecursion};
+ghost use Rattle.chat_change.specs.Record.{Record};
+ghost use Rattle.client_session.specs.Hearers.{hears_message};
 ghost use Rattle.client_session.specs.Session.{new};
 ghost use Rattle.client_session.specs.Lookup.{MessageName, name_sought};
 ghost use Rattle.client_session.specs.Events.{ClientEvent, run, after, effects_of, WasLetIn, IsRegistered, IsAnswer, IsGreeting, IsOwnEffect, IsOfSame, HasClose};
@@ -37,7 +39,8 @@ pub fn each_reaches_its_own_past_alone()
     ensures looks { (f : Facts) (bytes : List ℕ) (place : MessageName)
         → name_sought (Registered f) bytes ≡ Some place
         → (place.buffer.account ≡ f.account) × (place.buffer.network ≡ f.network) }
-    ensures same { (f : Facts) (events : List ClientEvent) → IsOfSame f (run (Registered f) events) }
+    ensures same { (f : Facts) (events : List ClientEvent)
+        → IsOfSame f (run (Registered f) events) }
 {}
 
 /// After Close there are no effects, and nothing changes.
@@ -46,4 +49,10 @@ pub fn nothing_follows_close()
         → HasClose (effects_of session event) → after session event ≡ Closed }
     ensures stays { (events : List ClientEvent) → run Closed events ≡ Closed }
     ensures silent { (event : ClientEvent) → effects_of Closed event ≡ [] }
+{}
+
+/// A session without `echo-message` hears nothing of its own, which is what comes from the present nick.
+pub fn own_messages_need_echo()
+    ensures { (message : Record) (facts : Facts)
+        → facts.caps.echo_message ≡ false → hears_message true message facts ≡ false }
 {}

@@ -3,11 +3,13 @@
 //! `client_directory`, the capabilities of `irc_caps` and the answers of `chat_batch`. A [`Session`] is a value and reads
 //! nothing. Read [`step`](Session::step) first: it takes a line and the directory of that moment, and gives the [`Effect`]s
 //! that its caller carries out in their order. [`laws`] says that nobody gets in without the account's secret, nobody
-//! inside reaches another account's past, and after [`Effect::Close`] there is nothing more.
+//! inside reaches another account's past, and after [`Effect::Close`] there is nothing more. Who hears what comes from a
+//! server is told by [`hears_message`] and [`hears_line`].
 #![tactic(auto)]
 
 mod command;
 mod effect;
+mod hearers;
 pub mod laws;
 mod lookup;
 mod markread;
@@ -23,4 +25,5 @@ pub use byte_text::{NoMemory, Text};
 pub use chat_batch::{Answered, Facts};
 pub use client_directory::{Account, Directory, Entry, Network};
 pub use effect::Effect;
+pub use hearers::{hears_line, hears_message};
 pub use session::{Session, StepFault};

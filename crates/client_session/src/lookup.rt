@@ -11,9 +11,9 @@ ghost use Rattle.client_session.specs.declared.session.StepFault.TheVariants as 
 
 use crate::command::{ClientCommand, command_of};
 use crate::session::StepFault;
+use byte_text::NoMemory;
 use chat_batch::Facts;
-use chat_change::is_id;
-use chat_page::lawful_id;
+use chat_change::{is_id, lawful_id};
 use chat_state::Peek;
 use irc_line::{TagLimit, read_line};
 use std::alloc::Global;
@@ -32,7 +32,7 @@ fn look_at<P: Peek>(
     ensures err { OnErr result (peek.new ≡ peek.old) }
 {
     let buffer = facts.buffer(alloc, target)?;
-    let id = lawful_id(alloc, id)?;
+    let id = lawful_id(alloc, id).map_err(NoMemory::from)?;
     match peek.shown(&buffer, &id) {
         Err(_) => Err(StepFault::NoEntry),
         Ok(shown) => Ok(shown),

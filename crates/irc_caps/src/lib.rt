@@ -10,6 +10,7 @@ mod capability;
 pub mod laws;
 mod negotiation;
 mod offers;
+mod recipients;
 mod registration;
 mod words;
 
@@ -17,6 +18,7 @@ pub use byte_text::{NoMemory, Text};
 pub use capability::Capability;
 pub use negotiation::{CapReply, Negotiation};
 pub use offers::{request, with_acknowledged, with_offers};
+pub use recipients::Recipients;
 pub use registration::Registration;
 
 /// A set of capabilities: for each of the seven names whether it is held. The fields stand in the byte order of the

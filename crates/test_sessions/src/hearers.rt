@@ -7,9 +7,10 @@
 //! of a line for all or for those that hold a capability, and a session of `demo` that holds `echo-message`.
 use crate::facts::{facts_of, record_of};
 use anyhow::Error;
+use client_session::{hears_line, hears_message};
 use irc_caps::{CapSet, Capability};
 use std::alloc::Global;
-use upstream_session::{Recipients, hears_line, hears_message, is_from};
+use upstream_session::{Recipients, is_from};
 
 fn hears_of_message(alloc: Global, source: &str, account: &str, held: &str) -> Result<bool, Error> {
     let caps = match Capability::named(held.as_bytes()) {

@@ -24,7 +24,7 @@ use Rattle.upstream_session.specs.declared.connection.Home.{Home}
 use Rattle.upstream_session.specs.declared.connection.Connection.{Connection}
 use Rattle.upstream_session.specs.declared.effect.UpEffect.{UpEffect}
 use Rattle.upstream_session.specs.declared.effect.UpEffect.TheVariants.{Send, Put, Relay, Close}
-use Rattle.upstream_session.specs.declared.effect.Recipients.TheVariants.{Holding}
+use Rattle.irc_caps.specs.declared.recipients.Recipients.TheVariants.{Holding}
 use Rattle.upstream_session.specs.Step.{ServerStep, stays, closes}
 use Rattle.upstream_session.specs.Messages.{is_same_nick, has_buffer, conversation, source_of, can_be_kept, stamp_of, made_text, made_id, post}
 use Rattle.upstream_session.specs.Rows.{relay_to_all, pass_on, ls, ack, cap, first_target, with_nick, joins, welcome, try_again, nick_in_use, ping, join_if, leave, put_out, is_up_and_own, keep_by_id, keep_made, keep_stamped, keep, message_from, message, redaction, redact, serve}

@@ -1,12 +1,11 @@
 -- what a reader must believe: the commands of a server, what a session keeps, what it makes of a
--- message, what each line and each saying comes to, who hears of it, and lists of these
+-- message, what each line and each saying comes to, and lists of these
 pub mod Command
 pub mod Step
 pub mod Messages
 pub mod Rows
 pub mod Sayings
 pub mod Session
-pub mod Hearers
 pub mod Events
 -- what only the proofs use of the code: how a session goes on
 pub mod MessageOutcome

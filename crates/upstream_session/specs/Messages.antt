@@ -7,10 +7,11 @@ use Rattle.irc_tags.specs.TagList.{Tag, tag_list, value_at}
 use Rattle.irc_time.specs.Reading.{time_of}
 use Rattle.chat_change.specs.Words.{is_id}
 use Rattle.chat_change.specs.Buffer.{buffer_of}
+use Rattle.chat_change.specs.Buffers as buffers
 use Rattle.chat_change.specs.Message.{Message}
+use Rattle.chat_change.specs.Record.{Record}
 use Rattle.chat_change.specs.Faults.{is_message}
 use Rattle.chat_change.specs.declared.change.Change.TheVariants.{Post}
-use Rattle.chat_page.specs.Scope as scope
 use Rattle.upstream_session.specs.declared.connection.Home.{Home}
 use Rattle.upstream_session.specs.declared.connection.Connection.{Connection}
 use Rattle.upstream_session.specs.declared.messages.Stamp.{Stamp}
@@ -27,6 +28,10 @@ nick_of source = before_first (λ b. b == 33) source
 abbrev pub is_same_nick : List ℕ → List ℕ → Bool
 is_same_nick nick other = str_eq_ignore_ascii_case nick other
 
+-- the message is from that nick
+abbrev pub is_from : List ℕ → Record → Bool
+is_from nick r = is_same_nick (nick_of r.message.source) nick
+
 -- the source is the session itself, by its present nick
 abbrev pub is_own : Connection → List ℕ → Bool
 is_own u source = is_same_nick (nick_of source) u.entry.nick
@@ -41,7 +46,7 @@ conversation u source target = if is_same_nick target u.entry.nick then nick_of 
 
 -- the conversation has a buffer
 abbrev pub has_buffer : Home → List ℕ → Bool
-has_buffer home target = scope.has_buffer home.account home.network target
+has_buffer home target = buffers.has_buffer home.account home.network target
 
 -- the message is one that can be kept
 abbrev pub can_be_kept : Connection → Message → Bool

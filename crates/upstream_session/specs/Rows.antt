@@ -19,7 +19,7 @@ use Rattle.upstream_session.specs.declared.connection.TheConstants.{LAST_SERIAL,
 use Rattle.upstream_session.specs.declared.connection.Connection.{Connection}
 use Rattle.upstream_session.specs.declared.effect.UpEffect.{UpEffect}
 use Rattle.upstream_session.specs.declared.effect.UpEffect.TheVariants.{Send, Put, Relay}
-use Rattle.upstream_session.specs.declared.effect.Recipients.TheVariants.{All, Holding}
+use Rattle.irc_caps.specs.declared.recipients.Recipients.TheVariants.{All, Holding}
 use Rattle.upstream_session.specs.Step.{ServerStep, stays, closes}
 use Rattle.irc_reply.specs.ToServer.{nick_line, pong_line, cap_end, join_line, with_underscores}
 use Rattle.irc_reply.specs.ToClient.{relayed_line}

@@ -5,8 +5,7 @@ ghost use Rattle.upstream_session.specs.Messages.{has_buffer};
 
 use crate::connection::Home;
 use byte_text::NoMemory;
-use chat_change::Buffer;
-use chat_page::lawful_buffer;
+use chat_change::{Buffer, lawful_buffer};
 use std::alloc::{AllocError, Global};
 use std::array;
 

@@ -1,16 +1,7 @@
 //! What a session with a server asks its caller to do.
 use byte_text::Text;
 use chat_change::Change;
-use irc_caps::Capability;
-
-/// Which sessions of the account and the network a line is passed on to.
-#[derive(Clone, Copy)]
-pub enum Recipients {
-    /// All of them.
-    All,
-    /// Those that hold the capability.
-    Holding(Capability),
-}
+use irc_caps::Recipients;
 
 /// What the caller does for a session with a server, in the order of the list.
 #[derive(Drop)]

@@ -2,9 +2,6 @@
 ghost use Rattle.std.specs.Prelude.{◌≡◌, ◌≤◌, ◌+◌, ◌⊎◌, [], List, ℕ, true, false};
 ghost use Rattle.std.specs.List.{AllByRecursion, IsDistinct};
 ghost use Rattle.std.specs.Str.{bytes_eq};
-ghost use Rattle.chat_batch.specs.declared.facts.Facts.{Facts};
-ghost use Rattle.chat_change.specs.Record.{Record};
-ghost use Rattle.upstream_session.specs.Hearers.{is_from, hears_message};
 ghost use Rattle.upstream_session.specs.Messages.{made_text};
 ghost use Rattle.upstream_session.specs.Step.{new};
 ghost use Rattle.upstream_session.specs.Session.{start};
@@ -38,8 +35,8 @@ pub fn ids_are_made_once()
 
 /// Until the server has welcomed a new session (001), nothing is put and nothing is passed on.
 pub fn nothing_is_heard_before_the_welcome()
-    ensures { (config : Config) (node : List ℕ) (incarnation first_serial : ℕ) (events : List ServerEvent)
-        → AllByRecursion (λ e. ¬ IsWelcome e) events
+    ensures { (config : Config) (node : List ℕ) (incarnation first_serial : ℕ)
+        (events : List ServerEvent) → AllByRecursion (λ e. ¬ IsWelcome e) events
         → AllByRecursion IsUnheard (all_effects (new config node incarnation first_serial) events) }
 {}
 
@@ -52,11 +49,4 @@ pub fn nothing_follows_close()
     ensures silent { (u : Connection) (events : List ServerEvent)
         → u.is_closed ≡ true → all_effects u events ≡ [] }
     ensures start { (u : Connection) → u.is_closed ≡ true → start u ≡ [] }
-{}
-
-/// A session without `echo-message` hears nothing that comes from the present nick.
-pub fn own_messages_need_echo()
-    ensures { (nick : List ℕ) (message : Record) (facts : Facts)
-        → is_from nick message ≡ true → facts.caps.echo_message ≡ false
-        → hears_message (is_from nick message) message facts ≡ false }
 {}

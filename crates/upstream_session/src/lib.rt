@@ -3,7 +3,7 @@
 //! draft/message-redaction). It stands on the lines of `irc_reply`, the capabilities of `irc_caps` and the changes of
 //! `chat_change`. An [`Upstream`] is a value and reads nothing. Read [`step`](Upstream::step) first: it takes a line of the
 //! server and the moment, and gives the [`UpEffect`]s that its caller carries out in their order; [`say`](Upstream::say)
-//! takes a line of a client. Who of the clients hears what is told by [`hears_message`] and [`hears_line`].
+//! takes a line of a client.
 #![tactic(auto)]
 
 mod buffers;
@@ -12,7 +12,6 @@ mod config;
 mod connection;
 mod effect;
 mod effects;
-mod hearers;
 pub mod laws;
 mod messages;
 mod rows;
@@ -21,10 +20,9 @@ mod scratch;
 mod upstream;
 
 pub use byte_text::{NoMemory, Text};
-pub use chat_batch::Facts;
 pub use client_directory::Entry;
 pub use config::{Channels, Config};
-pub use effect::{Recipients, UpEffect};
-pub use hearers::{hears_line, hears_message, is_from};
-pub use irc_caps::Capability;
+pub use effect::UpEffect;
+pub use irc_caps::{Capability, Recipients};
+pub use messages::is_from;
 pub use upstream::Upstream;

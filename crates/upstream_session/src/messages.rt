@@ -11,8 +11,7 @@ use crate::effect::UpEffect;
 use crate::scratch::Scratch;
 use arrayvec::{ArrayVec, CapacityError};
 use byte_text::{NoMemory, find_byte};
-use chat_change::{Change, ID_LIMIT, Message, Moment, MsgId, Record, is_id, is_message};
-use chat_page::lawful_id;
+use chat_change::{Change, ID_LIMIT, Message, Moment, MsgId, Record, is_id, is_message, lawful_id};
 use irc_tags::find_tag;
 use irc_time::read_time;
 use std::alloc::Global;
@@ -137,7 +136,14 @@ pub(crate) fn made_id(alloc: Global, home: &Home, serial: u64) -> Result<Option<
 pub(crate) fn has_buffer(home: &Home, target: &[u8]) -> bool
     ensures { result ≡ spec.has_buffer home.now target.now }
 {
-    chat_page::has_buffer(home.account.as_bytes(), home.network.as_bytes(), target)
+    chat_change::has_buffer(home.account.as_bytes(), home.network.as_bytes(), target)
+}
+
+/// Whether a message is from that nick, which is compared without regard to case.
+pub fn is_from(nick: &[u8], message: &Record) -> bool
+    ensures { result ≡ spec.is_from nick.now message.now }
+{
+    is_same_nick(nick_of(message.source()), nick)
 }
 
 impl Connection {

@@ -13,14 +13,13 @@ ghost use Rattle.upstream_session.specs.declared.effect.UpEffect.TheVariants as 
 
 use crate::command::{ServerCommand, command_of};
 use crate::connection::{Connection, LAST_SERIAL, MOST_TRIES, MessageOutcome};
-use crate::effect::{Recipients, UpEffect};
+use crate::effect::UpEffect;
 use crate::effects::{one, push, send};
 use crate::messages::{Stamp, has_buffer, is_same_nick, made_id, stamp_of};
 use crate::scratch::Scratch;
 use byte_text::{NoMemory, Text};
-use chat_change::{Change, Kind, Message, Moment, is_id, is_target};
-use chat_page::lawful_id;
-use irc_caps::{Capability, request, with_acknowledged, with_offers};
+use chat_change::{Change, Kind, Message, Moment, is_id, is_target, lawful_id};
+use irc_caps::{Capability, Recipients, request, with_acknowledged, with_offers};
 use irc_line::Line;
 use irc_reply::to_client::relayed_line;
 use irc_reply::to_server::{cap_end, join_line, nick_line, pong_line, with_underscores};

@@ -3,11 +3,10 @@ use attach::{Attachment, Hall};
 use bnc_ports::{Admitted, Port, Reason};
 use byte_text::{NoMemory, Text};
 use chat_change::Record;
-use client_session::Session;
-use irc_caps::CapSet;
+use client_session::{Session, hears_line, hears_message};
+use irc_caps::{CapSet, Recipients};
 use std::alloc::Global;
 use std::collections::VecDeque;
-use upstream_session::{Recipients, hears_line, hears_message};
 use work_desk::{Desk, Fate, Site};
 use work_lines::Guest;
 

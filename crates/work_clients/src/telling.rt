@@ -5,7 +5,7 @@ use attach::{Attachment, Hall};
 use bnc_ports::{Port, Reason};
 use byte_text::{NoMemory, Text};
 use chat_change::Record;
-use upstream_session::Recipients;
+use irc_caps::Recipients;
 use work_desk::Desk;
 
 impl Client {

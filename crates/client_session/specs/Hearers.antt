@@ -4,17 +4,12 @@ use Rattle.std.specs.Str.{bytes_eq}
 use Rattle.irc_caps.specs.CapSet.{holds}
 use Rattle.chat_change.specs.Record.{Record}
 use Rattle.chat_batch.specs.declared.facts.Facts.{Facts}
-use Rattle.upstream_session.specs.declared.effect.Recipients.{Recipients}
-use Rattle.upstream_session.specs.declared.effect.Recipients.TheVariants.{All, Holding}
-use Rattle.upstream_session.specs.Messages.{nick_of, is_same_nick}
+use Rattle.irc_caps.specs.declared.recipients.Recipients.{Recipients}
+use Rattle.irc_caps.specs.declared.recipients.Recipients.TheVariants.{All, Holding}
 
 -- a session of that account on that network
 abbrev pub is_of : List ℕ → List ℕ → Facts → Bool
 is_of account network f = bytes_eq f.account account && bytes_eq f.network network
-
--- the message is from that nick
-abbrev pub is_from : List ℕ → Record → Bool
-is_from nick r = is_same_nick (nick_of r.message.source) nick
 
 -- A session without `echo-message` doesn't hear its own messages, which are those from the present nick.
 abbrev pub hears_message : Bool → Record → Facts → Bool

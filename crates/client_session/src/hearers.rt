@@ -1,11 +1,10 @@
 //! Which sessions of clients hear of what comes from a server.
 ghost use Rattle.std.specs.Prelude.{◌≡◌};
-ghost use Rattle.upstream_session.specs.Hearers as spec;
+ghost use Rattle.client_session.specs.Hearers as spec;
 
-use crate::effect::Recipients;
-use crate::messages::{is_same_nick, nick_of};
 use chat_batch::Facts;
 use chat_change::Record;
+use irc_caps::Recipients;
 
 fn is_of(account: &[u8], network: &[u8], facts: &Facts) -> bool
     ensures { result ≡ spec.is_of account.now network.now facts.now }
@@ -13,15 +12,8 @@ fn is_of(account: &[u8], network: &[u8], facts: &Facts) -> bool
     facts.account.as_bytes() == account && facts.network.as_bytes() == network
 }
 
-/// Whether a message is from that nick, which is compared without regard to case.
-pub fn is_from(nick: &[u8], message: &Record) -> bool
-    ensures { result ≡ spec.is_from nick.now message.now }
-{
-    is_same_nick(nick_of(message.source()), nick)
-}
-
 /// Whether a session hears a message as it comes: it is of the account and the network, and, unless it holds
-/// `echo-message` (IRCv3 echo-message), the message isn't its own, which is one [from](is_from) the present nick.
+/// `echo-message` (IRCv3 echo-message), the message isn't its own, which is one from the present nick.
 pub fn hears_message(is_own: bool, message: &Record, facts: &Facts) -> bool
     ensures { result ≡ spec.hears_message is_own message.now facts.now }
 {
