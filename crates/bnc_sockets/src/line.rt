@@ -1,9 +1,14 @@
 //! One connection.
+ghost use Rattle.std.specs.Prelude.{◌≤◌, length, IfOk};
+
 use bnc_ports::{Dial, Halt};
 use mio::net::TcpStream;
 use std::io;
-use std::io::ErrorKind;
+use std::io::{ErrorKind, Read, Write};
 use std::net::SocketAddr;
+
+// So often is a read or a write made again that a signal interrupted, before the connection is given up.
+const TRIES: usize = 1_000;
 
 // How far a connection has come.
 #[derive(Clone, Copy, PartialEq, Eq)]
@@ -41,12 +46,43 @@ impl Line {
             Err(_) => Outcome::Failed,
         }
     }
+
+    // Moves bytes that came to the start of the buffer. A read that a signal interrupted is made again, since no event would
+    // tell of the bytes once more.
+    pub(crate) fn receive(&mut self, buffer: &mut [u8]) -> Result<usize, Halt>
+        ensures { IfOk result (λ n. n ≤ length buffer.new) }
+    {
+        for _ in 0..TRIES {
+            match self.stream.read(buffer) {
+                Ok(0) => return Err(Halt::Closed),
+                Ok(count) => return Ok(count),
+                Err(error) if error.kind() == ErrorKind::Interrupted => {}
+                Err(error) => return Err(halt_of(error)),
+            }
+        }
+        Err(Halt::Closed)
+    }
+
+    // Sends the first of these bytes. A write that a signal interrupted is made again, since no event would tell of the room
+    // once more.
+    pub(crate) fn send(&mut self, bytes: &[u8]) -> Result<usize, Halt>
+        ensures { IfOk result (λ n. n ≤ length bytes.now) }
+    {
+        for _ in 0..TRIES {
+            match self.stream.write(bytes) {
+                Ok(count) => return Ok(count),
+                Err(error) if error.kind() == ErrorKind::Interrupted => {}
+                Err(error) => return Err(halt_of(error)),
+            }
+        }
+        Err(Halt::Closed)
+    }
 }
 
 // Why no byte moved, as the system says.
-pub(crate) fn halt_of(error: io::Error) -> Halt {
+fn halt_of(error: io::Error) -> Halt {
     match error.kind() {
-        ErrorKind::WouldBlock | ErrorKind::Interrupted => Halt::Blocked,
+        ErrorKind::WouldBlock => Halt::Blocked,
         _ => Halt::Closed,
     }
 }

@@ -2,7 +2,7 @@
 ghost use Rattle.std.specs.Prelude.{◌≤◌, length, IfOk};
 
 use crate::handing::{Mailbox, Parcel};
-use crate::line::{Line, Outcome, Stage, halt_of};
+use crate::line::{Line, Outcome, Stage};
 use bnc_ports::{Dial, Event, EventLine, Halt, Happening, Mail, Port, PortFault};
 use crossbeam_channel::Receiver;
 use irc_time::Moment;
@@ -12,7 +12,7 @@ use mio::{Events, Interest, Poll, Token, Waker};
 use slab::Slab;
 use std::alloc::AllocError;
 use std::io;
-use std::io::{Eprint, Read, Write};
+use std::io::Eprint;
 use std::net::{Net, SocketAddr};
 use std::sync::{Arc, Wait};
 use std::time::{Clock, Duration};
@@ -284,21 +284,14 @@ impl<R: Net + Wait + Clock + Eprint + AllocGlobal + Drop> Port for SocketPort<R>
         let Some(kept) = self.lines.get_mut(line) else {
             return Err(Halt::Closed);
         };
-        match kept.stream.read(buffer) {
-            Ok(0) => Err(Halt::Closed),
-            Ok(count) => Ok(count),
-            Err(error) => Err(halt_of(error)),
-        }
+        kept.receive(buffer)
     }
 
     fn send(&mut self, line: usize, bytes: &[u8]) -> Result<usize, Halt> {
         let Some(kept) = self.lines.get_mut(line) else {
             return Err(Halt::Closed);
         };
-        match kept.stream.write(bytes) {
-            Ok(count) => Ok(count),
-            Err(error) => Err(halt_of(error)),
-        }
+        kept.send(bytes)
     }
 
     fn close(&mut self, line: usize) {
