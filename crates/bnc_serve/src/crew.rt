@@ -1,4 +1,6 @@
 //! The workers of a node, before they begin, and the doors to them.
+ghost use Rattle.std.specs.Prelude.{◌≡◌, IfOk, map};
+
 use crate::fault::ServeFault;
 use crate::stations::station_of;
 use attach::{Attachment, Hall};
@@ -7,10 +9,10 @@ use bnc_sockets::{Addresses, Door, Mailbox, Parcel, SocketPort, waker_of};
 use bnc_work::Station;
 use crossbeam_channel::{Receiver, Sender, unbounded};
 use mio::Poll;
-use node_config::Config;
+use node_config::{Config, Network, Peer};
 use std::alloc::{AllocError, Global};
 use std::io::Eprint;
-use std::net::Net;
+use std::net::{Net, SocketAddr};
 use std::sync::Wait;
 use std::time::Clock;
 
@@ -70,15 +72,35 @@ fn copies_of(alloc: Global, mailboxes: &[Mailbox]) -> Result<Vec<Mailbox>, Alloc
     Ok(copies)
 }
 
-fn addresses_of(alloc: Global, config: &Config) -> Result<Addresses, AllocError> {
-    let mut networks = Vec::new(alloc);
-    for network in &config.networks {
-        networks.push(network.address)?;
+fn networks_of(alloc: Global, networks: &[Network]) -> Result<Vec<SocketAddr>, AllocError>
+    ensures { IfOk result (λ made. made.items ≡ map (λ n. n.address) networks.now) }
+{
+    let mut addresses = Vec::new(alloc);
+    for network in networks {
+        addresses.push(network.address)?;
     }
-    let mut peers = Vec::new(alloc);
-    for peer in &config.peers {
-        peers.push(peer.address)?;
+    Ok(addresses)
+}
+
+fn peers_of(alloc: Global, peers: &[Peer]) -> Result<Vec<SocketAddr>, AllocError>
+    ensures { IfOk result (λ made. made.items ≡ map (λ p. p.address) peers.now) }
+{
+    let mut addresses = Vec::new(alloc);
+    for peer in peers {
+        addresses.push(peer.address)?;
     }
+    Ok(addresses)
+}
+
+// Where the networks' servers and the peers listen, in the order of the configuration.
+fn addresses_of(alloc: Global, config: &Config) -> Result<Addresses, AllocError>
+    ensures networks { IfOk result (λ made. made.networks.items
+        ≡ map (λ n. n.address) config.now.networks.items) }
+    ensures peers { IfOk result (λ made. made.peers.items
+        ≡ map (λ p. p.address) config.now.peers.items) }
+{
+    let networks = networks_of(alloc, &config.networks)?;
+    let peers = peers_of(alloc, &config.peers)?;
     Ok(Addresses { networks, peers })
 }
 

@@ -1,4 +1,8 @@
 //! What each worker begins with.
+ghost use Rattle.std.specs.Prelude.{◌≡◌, IfOk};
+ghost use Rattle.bnc_serve.specs.Stations as spec;
+ghost use Rattle.node_config.specs.Beginnings.{directory_of, names_of};
+
 use attach::Attachment;
 use bnc_ports::Lobby;
 use bnc_work::Station;
@@ -13,23 +17,27 @@ use upstream_session::Channels;
 // The most records or buffers of an answer.
 const MAXIMUM: u32 = 100;
 
-fn channels_of(alloc: Global, names: &[Text]) -> Result<Channels, NoMemory> {
+fn copies_of(alloc: Global, texts: &[Text]) -> Result<Vec<Text>, NoMemory>
+    ensures { IfOk result (λ copies. copies.items ≡ texts.now) }
+{
     let mut copies = Vec::new(alloc);
-    for name in names {
-        let copy = name.try_clone(alloc)?;
+    for text in texts {
+        let copy = text.try_clone(alloc)?;
         if copies.push(copy).is_err() {
             return Err(NoMemory);
         }
     }
-    Ok(Channels::of(copies))
+    Ok(copies)
 }
 
-fn session_of(alloc: Global, network: &Network) -> Result<upstream::Config, NoMemory> {
+fn session_of(alloc: Global, network: &Network) -> Result<upstream::Config, NoMemory>
+    ensures { IfOk result (λ session. session ≡ spec.session_of network.now) }
+{
     let account = network.account.try_clone(alloc)?;
     let name = network.name.try_clone(alloc)?;
     let nick = network.nick.try_clone(alloc)?;
     let user = network.user.try_clone(alloc)?;
-    let channels = channels_of(alloc, &network.channels)?;
+    let channels = Channels::of(copies_of(alloc, &network.channels)?);
     Ok(upstream::Config {
         account,
         network: name,
@@ -39,7 +47,9 @@ fn session_of(alloc: Global, network: &Network) -> Result<upstream::Config, NoMe
     })
 }
 
-fn sessions_of(alloc: Global, networks: &[Network]) -> Result<Vec<upstream::Config>, NoMemory> {
+fn sessions_of(alloc: Global, networks: &[Network]) -> Result<Vec<upstream::Config>, NoMemory>
+    ensures { IfOk result (λ sessions. sessions.items ≡ spec.sessions_of networks.now) }
+{
     let mut sessions = Vec::new(alloc);
     for network in networks {
         let session = session_of(alloc, network)?;
@@ -50,27 +60,44 @@ fn sessions_of(alloc: Global, networks: &[Network]) -> Result<Vec<upstream::Conf
     Ok(sessions)
 }
 
-fn word_of(alloc: Global, word: &SharedWord) -> Result<SharedWord, NoMemory> {
+fn word_of(alloc: Global, word: &SharedWord) -> Result<SharedWord, NoMemory>
+    ensures { IfOk result (λ copy. copy ≡ word.now) }
+{
     match SharedWord::new(alloc, word.as_bytes()) {
         Ok(word) => Ok(word),
         Err(_) => Err(NoMemory),
     }
 }
 
-fn terms_of(alloc: Global, config: &Config, incarnation: u64) -> Result<Terms, NoMemory> {
+fn terms_of(alloc: Global, config: &Config, incarnation: u64) -> Result<Terms, NoMemory>
+    ensures { IfOk result (λ terms. terms ≡ spec.terms_of config.now incarnation) }
+{
     let word = word_of(alloc, &config.peer_word)?;
     let me = Life::new(config.node.try_clone(alloc)?, incarnation);
     let peers = config.peer_names(alloc)?;
     Ok(Terms::new(word, me, peers))
 }
 
-// The station of a worker whose clients come in at that lobby.
+// The station of a worker whose clients come in at that lobby: all else is what the configuration says.
 pub(crate) fn station_of<X: Attachment>(
     alloc: Global,
     config: &Config,
     incarnation: u64,
     lobby: Lobby<X>,
-) -> Result<Station<X>, NoMemory> {
+) -> Result<Station<X>, NoMemory>
+    ensures lobby { IfOk result (λ station. station.lobby ≡ lobby) }
+    ensures cluster { IfOk result (λ station. station.cluster ≡ config.now.name) }
+    ensures maximum { IfOk result (λ station. station.maximum ≡ MAXIMUM) }
+    ensures directory { IfOk result (λ station. station.directory
+        ≡ directory_of config.now.accounts.items config.now.networks.items) }
+    ensures networks { IfOk result (λ station. station.networks.items
+        ≡ spec.sessions_of config.now.networks.items) }
+    ensures terms { IfOk result (λ station. station.terms ≡ spec.terms_of config.now incarnation) }
+    ensures peers { IfOk result (λ station. station.peers.items
+        ≡ names_of config.now.peers.items) }
+    ensures retain_days { IfOk result (λ station. station.retain_days
+        ≡ config.now.limits.retain_days) }
+{
     let cluster = config.name.try_clone(alloc)?;
     let directory = config.directory(alloc)?;
     let networks = sessions_of(alloc, &config.networks)?;

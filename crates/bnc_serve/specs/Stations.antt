@@ -1,0 +1,29 @@
+-- What the workers of a node begin with: what its configuration says.
+use Rattle.std.specs.Prelude.{ℕ, List, map}
+use Rattle.gossip_link.specs.Handshake.{Terms}
+use Rattle.node_config.specs.Beginnings.{names_of}
+use Rattle.node_config.specs.declared.config.Config.{Config}
+use Rattle.node_config.specs.declared.entries.Network.{Network}
+use Rattle.upstream_session.specs.declared.config.Config as session
+
+-- the session with a network's server: with its account, its names and its channels
+abbrev pub session_of : Network → session.Config
+session_of n = record {
+  account = n.account;
+  network = n.name;
+  nick = n.nick;
+  user = n.user;
+  channels = n.channels.items;
+}
+
+-- one for each network, in their order
+abbrev pub sessions_of : List Network → List session.Config
+sessions_of networks = map session_of networks
+
+-- the shared word, the node in this incarnation, and its peers in their order
+abbrev pub terms_of : Config → ℕ → Terms
+terms_of config incarnation = record {
+  word = config.peer_word;
+  me = record { node = config.node; incarnation = incarnation };
+  peers = names_of config.peers.items;
+}
