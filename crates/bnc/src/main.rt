@@ -3,11 +3,12 @@
 //!
 //! The program reads its words, hands the devices to `bnc_server` or `bnc_serve`, and says by its status how it ended: 0
 //! once all is done, 2 for its words, 3 for want of memory, 4 for a device or a file, 5 for the configuration. The whole of
-//! a refusal stands on standard error. Read `main` first.
+//! a refusal stands on standard error. Read `main` first; `exit` says which status each end has.
 #![tactic(auto)]
 
 ghost use Rattle.std.specs.Prelude.{◌≡◌, ◌≢◌, ◌↔◌, ◌⊎◌, None, Ok, Err, IfOk, IfErr, IsTrue};
 ghost use Rattle.chat_change.specs.Faults.{buffer_fault};
+ghost use Rattle.std.specs.Process.{exit_status};
 ghost use Rattle.bnc.specs.Status.{status_of};
 
 use attach::{Boxed, RingClient};
@@ -197,13 +198,18 @@ fn command<'a>(rt: &HostRuntime, words: &'a [String]) -> Result<Option<Config>, 
     }
 }
 
-/// Tells why the program ends.
-fn exit(rt: &HostRuntime, done: Result<(), End<'_>>) -> ExitCode {
-    let Err(end) = done else {
-        return ExitCode::from(0);
-    };
-    let _ = rt.eprintln(end);
-    ExitCode::from(end.status())
+/// Ends the program: with 0 exactly where its work is done. Else standard error is told why.
+fn exit(rt: &HostRuntime, done: Result<(), End<'_>>) -> ExitCode
+    ensures success { (exit_status result ≡ 0) ↔ (done.entry ≡ Ok tt) }
+    ensures failure { IfErr done.entry (λ end. exit_status result ≡ status_of end) }
+{
+    match done {
+        Ok(()) => ExitCode::from(0),
+        Err(end) => {
+            let _ = rt.eprintln(end);
+            ExitCode::from(end.status())
+        }
+    }
 }
 
 fn main(rt: HostRuntime) -> ExitCode {
@@ -213,7 +219,7 @@ fn main(rt: HostRuntime) -> ExitCode {
     };
     let config = match command(&rt, &words) {
         Ok(Some(config)) => config,
-        Ok(None) => return ExitCode::from(0),
+        Ok(None) => return exit(&rt, Ok(())),
         Err(end) => return exit(&rt, Err(end)),
     };
     let Prepared { intake, posts } = match prepare(&rt, &config) {
