@@ -1,7 +1,7 @@
 -- Cutting a list at the first element that passes a test.
-use Rattle.std.proofs.Common.{◌≡◌, ℕ, ◌+◌, ◌<◌, ◌≤◌, Bool, false, nat_lt, List, [], ◌∷◌, length, take, drop, None, Some, position, sym, ap, ◌∙◌, subst, arith, inl, inr}
+use Rattle.std.proofs.Common.{◌≡◌, ℕ, ◌+◌, ◌<◌, ◌≤◌, Bool, false, nat_lt, List, [], ◌∷◌, length, take, drop, length-take, None, Some, position, sym, ap, ◌∙◌, subst, arith, inl, inr}
 use Rattle.std.specs.List.{slice_split, position_or_len, before_first, after_first, All}
-use Rattle.std.proofs.lemmas.List.{take_all, drop_all}
+use Rattle.std.proofs.lemmas.List.{take_all, drop_all, get_or-take}
 use Rattle.std.proofs.lemmas.List.Splits.{slice_split_first, slice_split_none}
 use Rattle.std.proofs.lemmas.List.Sums.{fails_before_first}
 use Rattle.std.proofs.lemmas.Option.{cond_some}
@@ -33,6 +33,13 @@ module _ (p : ℕ → Bool) where
       let at = first_place xs n e in
       slice_split_first p xs 0 (subst (λ k. k < length xs) (sym at.place) at.within)
       ∙ ap (λ k. take k xs ∷ slice_split p (drop (k + 1) xs)) at.place
+
+  -- no element of the first passes
+  pub part_whole : (xs : List ℕ) (n : ℕ) → position p xs ≡ Some n → All (λ b. p b ≡ false) (take n xs)
+  part_whole xs n e k d h =
+      let short = length-take n xs in
+      let within : k < n = omega arith in
+      ap p (get_or-take n xs k d within) ∙ fails_before_first p xs k d (subst (λ m. k < m) (sym (first_place xs n e).place) within)
 
   -- and where none does
   pub one_part : (xs : List ℕ) → position p xs ≡ None → slice_split p xs ≡ xs ∷ []

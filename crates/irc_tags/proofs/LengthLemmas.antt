@@ -1,5 +1,5 @@
 -- What is written of tag data is no longer than the data.
-use Rattle.std.proofs.Common.{◌≡◌, ℕ, ◌+◌, ◌-◌, ◌≤◌, Bool, true, false, cond, List, [], ◌∷◌, ◌++◌, length, map, take, drop, get_or, refl, ap, ◌∙◌, arith, length-append, length-take, length-drop, inl, inr, ◌==◌}
+use Rattle.std.proofs.Common.{◌≡◌, ℕ, ◌+◌, ◌-◌, ◌≤◌, Bool, true, false, cond, List, [], ◌∷◌, ◌++◌, length, map, filter, take, drop, get_or, refl, ap, ◌∙◌, arith, length-append, length-take, length-drop, inl, inr, ◌==◌}
 use Rattle.std.specs.List.{All, AllByRecursion, slice_split, onto_first, position_or_len}
 use Rattle.std.proofs.lemmas.Bool.{or_parts, cases_lt}
 use Rattle.std.proofs.lemmas.List.{drop_all}
@@ -163,12 +163,33 @@ plain_parts (part ∷ parts) whole line =
     (here k d h, last.1, (or_parts (get_or part k d == 13) _ other).0, last.0)) in
     All-cons (All is_plain) part parts plain (plain_parts parts whole.1 line.1)
 
-pub text_is_no_longer : (bytes : List ℕ) → All (λ b. ends_tag_data b ≡ false) bytes → length (tags_text (tag_list bytes)) ≤ length bytes
-text_is_no_longer bytes all =
+-- some of the tags have no more
+kept_total : (test : List ℕ → Bool) (ts : List Tag) → total (filter (λ t. test t.0) ts) ≤ total ts
+kept_total test [] = omega arith
+kept_total test (t ∷ ts) = go (test t.0) (kept_total test ts) where
+  go : (b : Bool) → total (filter (λ t. test t.0) ts) ≤ total ts → total (cond b (t ∷ filter (λ t. test t.0) ts) (filter (λ t. test t.0) ts)) ≤ total (t ∷ ts)
+  go true rest = omega arith
+  go false rest = omega arith
+
+tags_total : (bytes : List ℕ) → All (λ b. ends_tag_data b ≡ false) bytes → total (tag_list bytes) ≤ length bytes + 1
+tags_total bytes all =
     let parts = slice_split is_semicolon bytes in
     let plain = plain_parts parts (parts_fail is_semicolon bytes) (parts_all (λ b. ends_tag_data b ≡ false) is_semicolon bytes (recursion_from_All (λ b. ends_tag_data b ≡ false) bytes all)) in
     let put_in = with_tags_total [] parts plain in
     let size = parts_total bytes in
     let same : total (with_tags [] (map tag_of parts)) ≡ total (tag_list bytes) = ap total (with_tags-all bytes) in
+    omega arith
+
+pub text_is_no_longer : (bytes : List ℕ) → All (λ b. ends_tag_data b ≡ false) bytes → length (tags_text (tag_list bytes)) ≤ length bytes
+text_is_no_longer bytes all =
+    let size = tags_total bytes all in
     let text = text_total (tag_list bytes) in
+    omega arith
+
+pub kept_text_is_no_longer : (test : List ℕ → Bool) (bytes : List ℕ) → All (λ b. ends_tag_data b ≡ false) bytes
+    → length (tags_text (filter (λ t. test t.0) (tag_list bytes))) ≤ length bytes
+kept_text_is_no_longer test bytes all =
+    let size = tags_total bytes all in
+    let kept = kept_total test (tag_list bytes) in
+    let text = text_total (filter (λ t. test t.0) (tag_list bytes)) in
     omega arith

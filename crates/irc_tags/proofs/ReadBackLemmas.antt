@@ -38,7 +38,7 @@ key_without_semicolon : (key : List ℕ) → All (λ b. ends_key b ≡ false) ke
 key_without_semicolon key all = All-weaker (λ b. ends_key b ≡ false) (λ b. is_semicolon b ≡ false) (λ b e. (or_parts (is_semicolon b) (is_equals b) e).0) key all
 
 -- a tag is read back
-tag_of-tag_text : (key value : List ℕ) → All (λ b. ends_key b ≡ false) key → tag_of (key ++ value_part value) ≡ (key, value)
+pub tag_of-tag_text : (key value : List ℕ) → All (λ b. ends_key b ≡ false) key → tag_of (key ++ value_part value) ≡ (key, value)
 tag_of-tag_text key [] all =
     (λ i. (before_first-behind is_equals key [] (key_without key all) refl i, value_in (after_first-behind is_equals key [] (key_without key all) refl i)))
     ∙ ap (λ v. (key, v)) value_in-nil
@@ -94,7 +94,7 @@ text_whole tag key =
     (All-value_part (λ b. is_semicolon b ≡ false) (λ _. Unit {0}) refl refl refl refl refl (λ b q e1 e2 e3 e4. e1) refl tag.1 (λ k d h. tt))
 
 -- the text of some tags is cut into their texts
-parts_of_text : (t : Tag) (ts : List Tag) → All (λ tag. IsKey tag.0) (t ∷ ts) → slice_split is_semicolon (tags_text (t ∷ ts)) ≡ map tag_text (t ∷ ts)
+pub parts_of_text : (t : Tag) (ts : List Tag) → All (λ tag. IsKey tag.0) (t ∷ ts) → slice_split is_semicolon (tags_text (t ∷ ts)) ≡ map tag_text (t ∷ ts)
 parts_of_text t [] all = slice_split_none is_semicolon (tag_text t) (text_whole t (All-head (λ tag. IsKey tag.0) t [] all))
 parts_of_text t (u ∷ ts) all =
     slice_split_at is_semicolon (tag_text t) semicolon (tags_text (u ∷ ts)) (text_whole t (All-head (λ tag. IsKey tag.0) t (u ∷ ts) all)) refl
@@ -126,7 +126,7 @@ without-absent : (key : List ℕ) (ts : List Tag) → AllByRecursion (λ y. same
 without-absent key [] all = refl
 without-absent key (t ∷ ts) all = ap (λ b. cond (not b) (t ∷ without key ts) (without key ts)) all.0 ∙ ap (λ l. t ∷ l) (without-absent key ts all.1)
 
-tags_by_key-distinct : (ts : List Tag) → IsDistinct same_bytes (map (λ t. t.0) ts) → tags_by_key ts ≡ ts
+pub tags_by_key-distinct : (ts : List Tag) → IsDistinct same_bytes (map (λ t. t.0) ts) → tags_by_key ts ≡ ts
 unfolding IsDistinct
 tags_by_key-distinct [] all = tags_by_key-nil
 tags_by_key-distinct (t ∷ ts) all =

@@ -1,14 +1,20 @@
 -- Texts of tags, one after another.
-use Rattle.std.proofs.Common.{◌≡◌, ℕ, ◌+◌, ◌<◌, List, [], ◌∷◌, ◌++◌, Option, Some, length, take, drop, get_or, slice_get, refl, sym, ap, subst, ◌∙◌, append_assoc, append-nil, arith}
+use Rattle.std.proofs.Common.{◌≡◌, ℕ, ◌+◌, ◌<◌, false, List, [], ◌∷◌, ◌++◌, Option, Some, length, take, drop, get_or, slice_get, refl, sym, ap, subst, ◌∙◌, append_assoc, append-nil, arith}
 use Rattle.byte_text.specs.Writes.{AppendsPrefix}
 use Rattle.std.specs.Io.KnownBytes.{Appends}
 use Rattle.std.proofs.KnownBytes.{Appends-trans}
 use Rattle.byte_text.proofs.CallerLemmas.{prefix_same, prefix_of_first, prefix_of_second}
 use Rattle.std.proofs.lemmas.List.{take-append-drop, take_more, length-take-le}
 use Rattle.std.proofs.lemmas.Option.{slice_get_within, slice_get-get_or, get_or_from_slice_get}
-use Rattle.irc_tags.specs.Value.{semicolon}
-use Rattle.irc_tags.specs.TagList.{Tag}
-use Rattle.irc_tags.specs.Text.{tag_text, separator, tags_text}
+use Rattle.std.specs.Prelude.{◌==◌}
+use Rattle.irc_tags.specs.Value.{semicolon, value_text}
+use Rattle.irc_tags.specs.TagList.{Tag, equals_sign}
+use Rattle.irc_tags.specs.Text.{value_part, tag_text, separator, tags_text}
+
+-- what stands behind a key where the value isn't empty
+pub some_value : (value : List ℕ) → (length value == 0) ≡ false → (equals_sign ∷ []) ++ value_text value ≡ value_part value
+some_value [] e = cc
+some_value (b ∷ value) e = refl
 
 -- the text of one more tag
 pub tags_text-push : (tags : List Tag) (tag : Tag) → tags_text (tags ++ tag ∷ []) ≡ tags_text tags ++ (separator (length tags) ++ tag_text tag)
@@ -32,7 +38,7 @@ tags_text-more tags i tag e =
     ∙ ap (λ n. tags_text (take i tags) ++ (separator n ++ tag_text tag)) (length-take-le i tags (omega arith))
 
 -- the first tags' text stands first
-tags_text-prefix : (xs ys : List Tag) → (rest : List ℕ) × (tags_text (xs ++ ys) ≡ tags_text xs ++ rest)
+pub tags_text-prefix : (xs ys : List Tag) → (rest : List ℕ) × (tags_text (xs ++ ys) ≡ tags_text xs ++ rest)
 tags_text-prefix [] ys = (tags_text ys, refl)
 tags_text-prefix (x ∷ []) [] = ([], sym (append-nil (tag_text x)))
 tags_text-prefix (x ∷ []) (y ∷ ys) = (semicolon ∷ tags_text (y ∷ ys), refl)

@@ -87,7 +87,8 @@ value_in-none bytes e =
     cuts_at_first bytes ∙ (λ i. take_all n bytes past i ++ value_in (drop_all n bytes past i)) ∙ ap (λ l. bytes ++ l) value_in-nil ∙ append-nil bytes
 
 module _ (bytes : List ℕ) (n : ℕ) (place : position is_backslash bytes ≡ Some n) where
-  from_first : (value_in bytes ≡ take n bytes ++ value_in (backslash ∷ drop (n + 1) bytes))
+  -- a backslash
+  pub from_first : (value_in bytes ≡ take n bytes ++ value_in (backslash ∷ drop (n + 1) bytes))
   from_first =
       let at = first_place is_backslash bytes n place in
       let within = at.within in

@@ -26,7 +26,7 @@ fn found_in<'a>(tag: &'a [u8], key: &[u8], found: Option<&'a [u8]>) -> Option<&'
 }
 
 /// The value of a key as it is spelled. Of equal keys the last counts.
-fn find_spelled<'a>(bytes: &'a [u8], key: &[u8]) -> Option<&'a [u8]>
+pub(crate) fn find_spelled<'a>(bytes: &'a [u8], key: &[u8]) -> Option<&'a [u8]>
     ensures { option_map value_in (option_copied result)
         ≡ value_at key.now (tag_list bytes.now) }
 {

@@ -95,7 +95,7 @@ impl Tags {
 }
 
 /// Whether a key begins with `+`.
-fn is_client_only(key: &[u8]) -> bool
+pub(crate) fn is_client_only(key: &[u8]) -> bool
     ensures { result ≡ is_client_only key.now }
 {
     match key {

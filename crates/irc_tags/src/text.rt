@@ -31,7 +31,7 @@ pub fn write_tag<W: Write>(key: &[u8], value: &[u8], writer: &mut W) -> io::Resu
 }
 
 /// Writes what stands between the tag at an index and the one before it.
-fn put_separator<W: Write>(index: usize, writer: &mut W) -> io::Result<()>
+pub(crate) fn put_separator<W: Write>(index: usize, writer: &mut W) -> io::Result<()>
     ensures { Writes W.contents writer.old writer.new result (separator index) }
 {
     if index == 0 {

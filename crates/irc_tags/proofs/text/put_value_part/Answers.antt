@@ -1,15 +1,8 @@
-use Rattle.std.proofs.Common.{◌≡◌, ℕ, false, List, [], ◌∷◌, ◌++◌, length, refl, sym, ◌∙◌}
-use Rattle.std.specs.Prelude.{◌==◌}
+use Rattle.std.proofs.Common.{sym, ◌∙◌}
 use Rattle.byte_text.proofs.CallerLemmas.{prefix_of_first, writes_second, writes_failed, writes_same, prefix_same}
 use Rattle.irc_tags.specs.Value.{value_text}
-use Rattle.irc_tags.specs.TagList.{equals_sign}
-use Rattle.irc_tags.specs.Text.{value_part}
+use Rattle.irc_tags.proofs.TextLemmas.{some_value}
 use Rattle.irc_tags.proofs.text.put_value_part.Goals as goal
-
--- what stands behind a key where the value isn't empty
-some_value : (value : List ℕ) → (length value == 0) ≡ false → (equals_sign ∷ []) ++ value_text value ≡ value_part value
-some_value [] e = cc
-some_value (b ∷ value) e = refl
 
 pub returns-in_err-put : goal.returns-in_err-put
 returns-in_err-put g c =
