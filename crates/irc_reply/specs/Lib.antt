@@ -3,5 +3,6 @@
 pub mod Reply
 pub mod Standing
 pub mod Echo
+pub mod Tagged
 pub mod ToClient
 pub mod ToServer

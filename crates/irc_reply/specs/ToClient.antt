@@ -5,6 +5,7 @@ use Rattle.irc_line.specs.Text.{line_text, source_text, line_ending}
 use Rattle.irc_line.specs.Read.{text_in}
 use Rattle.irc_reply.specs.Reply.{reply, fail_text, plain_line}
 use Rattle.irc_reply.specs.Echo.{echoed}
+use Rattle.irc_reply.specs.Tagged.{tag_part, client_tags}
 
 -- the nick of a session before registration
 abbrev pub no_nick : List ℕ
@@ -110,3 +111,7 @@ marker_question channel = codes "MARKREAD " ++ channel
 -- a server's line as it is passed on: its source, if it has one, and its text, without its tags
 abbrev pub relayed_line : Option (List ℕ) → List ℕ → List ℕ
 relayed_line source bytes = source_text source ++ (text_in bytes ++ line_ending)
+
+-- the same with its client-only tags in front, of the tag data that it has
+abbrev pub tagged_line : Option (List ℕ) → Option (List ℕ) → List ℕ → List ℕ
+tagged_line tags source bytes = tag_part (client_tags tags) ++ relayed_line source bytes

@@ -3,6 +3,7 @@ use Rattle.std.specs.Prelude.{ℕ, List, [], ◌∷◌, ◌++◌, codes, take, O
 use Rattle.irc_line.specs.Text.{line_ending}
 use Rattle.irc_line.specs.Read.{text_in}
 use Rattle.irc_reply.specs.Reply.{plain_line}
+use Rattle.irc_reply.specs.Tagged.{tag_part, client_tags}
 
 abbrev pub ls_line : List ℕ
 ls_line = plain_line (codes "CAP") (codes "LS" ∷ codes "302" ∷ []) None
@@ -32,3 +33,7 @@ with_underscores nick count = nick ++ take count (codes "___")
 -- a client's line as it goes to the server: without its tags and its source
 abbrev pub passed_line : List ℕ → List ℕ
 passed_line bytes = text_in bytes ++ line_ending
+
+-- the same with its client-only tags in front, of the tag data that it has
+abbrev pub tagged_line : Option (List ℕ) → List ℕ → List ℕ
+tagged_line tags bytes = tag_part (client_tags tags) ++ passed_line bytes

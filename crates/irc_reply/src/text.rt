@@ -2,10 +2,13 @@
 ghost use Rattle.std.specs.Prelude.{◌≡◌, ◌++◌, map, IfOk};
 ghost use Rattle.std.specs.Option.{option_copied};
 ghost use Rattle.irc_line.specs.Text.{line_ending};
+ghost use Rattle.irc_tags.specs.ClientOnly.{client_only_text};
+ghost use Rattle.irc_reply.specs.Tagged.{tag_part, client_tags};
 ghost use Rattle.irc_reply.specs.Reply as spec;
 
 use byte_text::{NoMemory, Text};
 use irc_line::{OutLine, line_text};
+use irc_tags::write_client_only;
 use std::alloc::{AllocError, Global};
 
 /// A line of that source, which is mostly the cluster, with its ending.
@@ -84,5 +87,35 @@ pub(crate) fn put_with_ending(line: &mut Vec<u8>, text: &[u8]) -> Result<(), All
 {
     line.extend_from_slice(text)?;
     line.extend_from_slice(b"\r\n")?;
+    Ok(())
+}
+
+/// Puts the client-only tags of a line's tag data, as they are written, with `@` in front and a space behind them; nothing
+/// where there are none.
+pub(crate) fn put_client_tags(line: &mut Vec<u8>, tags: Option<&[u8]>) -> Result<(), NoMemory>
+    ensures { IfOk result (λ _. line.new.items
+        ≡ line.old.items ++ tag_part (client_tags (option_copied tags.entry))) }
+{
+    match tags {
+        None => Ok(()),
+        Some(tags) => put_tag_part(line, tags),
+    }
+}
+
+fn put_tag_part(line: &mut Vec<u8>, tags: &[u8]) -> Result<(), NoMemory>
+    ensures { IfOk result (λ _. line.new.items
+        ≡ line.old.items ++ tag_part (client_only_text tags.now)) }
+{
+    line.extend_from_slice(b"@")?;
+    let start = line.len();
+    // A `Vec` refuses bytes only where memory runs out.
+    if write_client_only(tags, line).is_err() {
+        return Err(NoMemory);
+    }
+    if line.len() == start {
+        line.truncate(start - 1);
+    } else {
+        line.extend_from_slice(b" ")?;
+    }
     Ok(())
 }

@@ -8,7 +8,7 @@ ghost use Rattle.irc_reply.specs.Reply.{unknown_text, too_long_text, fail_text};
 ghost use Rattle.irc_reply.specs.ToClient as spec;
 
 use crate::echo::echoed;
-use crate::text::{followed_by, plain_line, put_with_ending, reply_text};
+use crate::text::{followed_by, plain_line, put_client_tags, put_with_ending, reply_text};
 use byte_text::{NoMemory, Text};
 use irc_line::text_of;
 use std::alloc::{AllocError, Global};
@@ -288,6 +288,25 @@ pub fn relayed_line(room: Vec<u8>, source: Option<&[u8]>, bytes: &[u8]) -> Resul
     let mut line = room;
     line.clear();
     line.reserve(MOST_BYTES)?;
+    put_source(&mut line, source)?;
+    put_with_ending(&mut line, text_of(bytes))?;
+    Ok(Text::of(line))
+}
+
+/// The same with its client-only tags in front, of the tag data that it has (IRCv3 message-tags, "Client-only tags").
+pub fn tagged_line(
+    room: Vec<u8>,
+    tags: Option<&[u8]>,
+    source: Option<&[u8]>,
+    bytes: &[u8],
+) -> Result<Text, NoMemory>
+    ensures { IfOk result (λ text. text
+        ≡ spec.tagged_line (option_copied tags.entry) (option_copied source.entry) bytes.now) }
+{
+    let mut line = room;
+    line.clear();
+    line.reserve(bytes.len() + MOST_BYTES)?;
+    put_client_tags(&mut line, tags)?;
     put_source(&mut line, source)?;
     put_with_ending(&mut line, text_of(bytes))?;
     Ok(Text::of(line))

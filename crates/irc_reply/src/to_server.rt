@@ -4,7 +4,7 @@ ghost use Rattle.std.specs.Prelude.{◌≡◌, ◌≤◌, IfOk};
 ghost use Rattle.std.specs.Option.{option_copied};
 ghost use Rattle.irc_reply.specs.ToServer as spec;
 
-use crate::text::{followed_by, plain_line, put_with_ending};
+use crate::text::{followed_by, plain_line, put_client_tags, put_with_ending};
 use byte_text::{NoMemory, Text};
 use irc_line::text_of;
 use std::alloc::Global;
@@ -82,5 +82,18 @@ pub fn passed_line(room: Vec<u8>, bytes: &[u8]) -> Result<Text, NoMemory>
     line.clear();
     line.reserve(text.len() + 2)?;
     put_with_ending(&mut line, text)?;
+    Ok(Text::of(line))
+}
+
+/// The same with its client-only tags in front, of the tag data that it has (IRCv3 message-tags, "Client-only tags").
+pub fn tagged_line(room: Vec<u8>, tags: Option<&[u8]>, bytes: &[u8]) -> Result<Text, NoMemory>
+    ensures { IfOk result (λ text. text
+        ≡ spec.tagged_line (option_copied tags.entry) bytes.now) }
+{
+    let mut line = room;
+    line.clear();
+    line.reserve(bytes.len() + 2)?;
+    put_client_tags(&mut line, tags)?;
+    put_with_ending(&mut line, text_of(bytes))?;
     Ok(Text::of(line))
 }
