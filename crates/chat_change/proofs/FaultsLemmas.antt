@@ -2,13 +2,13 @@
 use Rattle.std.proofs.Common.{◌≡◌, ◌≤◌, ℕ, Bool, true, false, ◌&&◌, nat_le, List, length, Option, None, Some, ◌↔◌, IsTrue, refl, ap, ◌∙◌, arith, ◌<◌}
 use Rattle.std.specs.Prelude.{is_none}
 use Rattle.std.proofs.lemmas.Bool.Decides.{nat_tests}
-use Rattle.chat_change.specs.Words.{is_name, is_target, is_id, is_source, is_body}
+use Rattle.chat_change.specs.Words.{is_name, is_target, is_id, is_source, is_body, is_tags}
 use Rattle.chat_change.specs.declared.message.TheConstants.{LINE_LIMIT}
 use Rattle.chat_change.specs.Message.{Message, line_of, IsLawfulMessage}
 use Rattle.chat_change.specs.Buffer.{IsLawfulBuffer, buffer_of}
-use Rattle.chat_change.specs.Faults.{unless_lawful, buffer_fault, id_fault, record_fault, is_message, fits_line}
+use Rattle.chat_change.specs.Faults.{unless_lawful, buffer_fault, id_fault, record_fault, first_fault, tagged_fault, is_message, fits_line}
 use Rattle.chat_change.specs.declared.faults.ChangeFault.{ChangeFault}
-use Rattle.chat_change.specs.declared.faults.ChangeFault.TheVariants.{BadName, BadTarget, BadId, BadSource, BadBody, LineTooLong}
+use Rattle.chat_change.specs.declared.faults.ChangeFault.TheVariants.{BadName, BadTarget, BadId, BadSource, BadBody, LineTooLong, BadTags}
 use Rattle.chat_change.proofs.WordsLemmas.{lower_case_of-twice, is_target-lower_case_of}
 
 pub unless_none : (lawful : Bool) (fault : ChangeFault) (more : Option ChangeFault) → unless_lawful lawful fault more ≡ None → (lawful ≡ true) × (more ≡ None)
@@ -39,6 +39,21 @@ message_lawful m h =
 
 pub record_fault-lawful : (m : Message) → (record_fault m ≡ None) ↔ IsLawfulMessage m
 record_fault-lawful m = (lawful_message m, message_lawful m)
+
+-- ---- messages with tags
+
+no_fault : (first : Option ChangeFault) (lawful : Bool) → first_fault first (unless_lawful lawful BadTags None) ≡ None → (first ≡ None) × (lawful ≡ true)
+no_fault None lawful e = (refl, (unless_none lawful BadTags None e).0)
+no_fault (Some fault) lawful e = cc
+
+pub tagged_none : (m : Message) (tags : List ℕ) → tagged_fault m tags ≡ None → (record_fault m ≡ None) × (is_tags tags ≡ true)
+tagged_none m tags e = no_fault (record_fault m) (is_tags tags) e
+
+pub tagged_fault-lawful : (m : Message) (tags : List ℕ) → (tagged_fault m tags ≡ None) ↔ (IsLawfulMessage m × (is_tags tags ≡ true))
+tagged_fault-lawful m tags = (
+  λ e. let h = tagged_none m tags e in (lawful_message m h.0, h.1),
+  λ h. λ i. first_fault (message_lawful m h.0 i) (unless_lawful (h.1 i) BadTags None),
+)
 
 none_from : (fault : Option ChangeFault) → is_none fault ≡ true → fault ≡ None
 none_from None e = refl
@@ -151,3 +166,23 @@ line_too_long-told m =
     let h = line_told (is_target m.target) (is_source m.source) (is_body m.body) (fits_line m) in
     let beyond = above (length (line_of m)) in
     (λ e. let k = h.0 e in (k.0, k.1, k.2, beyond.0 k.3), λ k. h.1 (k.0, k.1, k.2, beyond.1 k.3))
+
+-- tags are told last
+tags_told : (first : Option ChangeFault) (lawful : Bool) → (first ≡ Some BadTags → ⊥) → (first_fault first (unless_lawful lawful BadTags None) ≡ Some BadTags) ↔ ((first ≡ None) × (lawful ≡ false))
+tags_told None true n = (λ e. cc, λ h. cc)
+tags_told None false n = (λ e. (refl, refl), λ h. refl)
+tags_told (Some fault) lawful n = (λ e. absurd (n e), λ h. cc)
+
+never_tags : (t s b l : Bool) → told_of t s b l ≡ Some BadTags → ⊥
+unfolding told_of
+never_tags false s b l e = cc
+never_tags true false b l e = cc
+never_tags true true false l e = cc
+never_tags true true true false e = cc
+never_tags true true true true e = cc
+
+pub bad_tags-told : (m : Message) (tags : List ℕ) → (tagged_fault m tags ≡ Some BadTags) ↔ (IsLawfulMessage m × (is_tags tags ≡ false))
+unfolding told_of
+bad_tags-told m tags =
+    let h = tags_told (record_fault m) (is_tags tags) (never_tags (is_target m.target) (is_source m.source) (is_body m.body) (fits_line m)) in
+    (λ e. let k = h.0 e in (lawful_message m k.0, k.1), λ k. h.1 (message_lawful m k.0, k.1))

@@ -1,4 +1,5 @@
 mod WordsLemmas
+mod TagsLemmas
 mod TextsLemmas
 mod OrderLemmas
 mod KeyLemmas

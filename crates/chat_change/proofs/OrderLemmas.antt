@@ -1,6 +1,6 @@
 -- The orders of texts, buffers, messages and records are total, and only equal values tie. Which of two records of one
 -- message goes before the other is decided, and always in the same way.
-use Rattle.std.proofs.Common.{◌≡◌, ◌∷◌, refl, sym, ◌∙◌, ap, arith, ◌<◌, ℕ, ◌⊎◌, ◌↔◌, inl, inr, IsTrue}
+use Rattle.std.proofs.Common.{◌≡◌, List, ◌∷◌, refl, sym, subst, ◌∙◌, ap, arith, ◌<◌, ℕ, ◌⊎◌, ◌↔◌, inl, inr, IsTrue}
 use Rattle.std.specs.declared.cmp.Ordering.{Ordering}
 use Rattle.std.specs.declared.cmp.Ordering.TheVariants.{Less, Equal, Greater}
 use Rattle.std.specs.Ordering.{on, nat_cmp, ordering_then, ordering_reverse, MatchOrdering, eq_by_cmp, is_eq}
@@ -13,7 +13,7 @@ use Rattle.chat_change.specs.Message.{Message, kind_letter, message_texts}
 use Rattle.chat_change.specs.Record.{Record}
 use Rattle.chat_change.specs.declared.message.Kind.{Kind}
 use Rattle.chat_change.specs.declared.message.Kind.TheVariants.{Privmsg, Notice}
-use Rattle.chat_change.specs.Order.{text_cmp, id_cmp, texts_cmp, buffer_cmp, message_cmp, record_texts, latest_first, record_cmp, GoesBefore}
+use Rattle.chat_change.specs.Order.{text_cmp, id_cmp, texts_cmp, buffer_cmp, message_cmp, record_texts, latest_first, greatest_tags_first, tie_cmp, record_cmp, WinsTie, GoesBefore}
 use Rattle.std.proofs.lemmas.Map.Views.{tells_apart}
 
 pub on_exact : {K J : Type 0} (f : K → J) {R : J → J → Ordering} → ((x y : K) → f x ≡ f y → x ≡ y) → CmpEqualImpliesEq R → CmpEqualImpliesEq (on f R)
@@ -58,16 +58,19 @@ message_total = on_total message_texts texts_total
 pub message_apart : (m n : Message) → m.kind ≡ n.kind → m.source ≡ n.source → m.target ≡ n.target → m.body ≡ n.body → m ≡ n
 message_apart m n p q r s = λ i. record { kind = p i; source = q i; target = r i; body = s i }
 
-pub record_apart : (r s : Record) → r.at ≡ s.at → record_texts r ≡ record_texts s → r ≡ s
-record_apart r s t e =
+pub record_apart : (r s : Record) → r.at ≡ s.at → r.tags ≡ s.tags → record_texts r ≡ record_texts s → r ≡ s
+record_apart r s t g e =
     let b : r.buffer ≡ s.buffer = buffer_apart r.buffer s.buffer (cc e) (cc e) (cc e) in
     let k : r.message.kind ≡ s.message.kind = letters_apart r.message.kind s.message.kind (cc e) in
     let m : r.message ≡ s.message = message_apart r.message s.message k (cc e) (cc e) (cc e) in
     let d : r.id ≡ s.id = cc e in
-    λ i. record { buffer = b i; id = d i; at = t i; message = m i }
+    λ i. record { buffer = b i; id = d i; at = t i; tags = g i; message = m i }
+
+pub tie_total : IsTotalOrder tie_cmp
+tie_total = then_total (back_total (on_total (λ (r : Record). r.tags) text_total)) (on_total record_texts texts_total)
 
 pub record_total : IsTotalOrder record_cmp
-record_total = then_total (back_total (on_total (λ (r : Record). r.at) nat_cmp_total)) (on_total record_texts texts_total)
+record_total = then_total (back_total (on_total (λ (r : Record). r.at) nat_cmp_total)) tie_total
 
 both_equal : (a b : Ordering) → ordering_then a b ≡ Equal → (a ≡ Equal) × (b ≡ Equal)
 both_equal Less b e = cc
@@ -76,8 +79,9 @@ both_equal Greater b e = cc
 
 pub record_exact : CmpEqualImpliesEq record_cmp
 record_exact r s e =
-    let h = both_equal (nat_cmp s.at r.at) (texts_cmp (record_texts r) (record_texts s)) e in
-    record_apart r s (sym (exact_unsigned s.at r.at h.0)) (texts_exact _ _ h.1)
+    let h = both_equal (nat_cmp s.at r.at) (tie_cmp r s) e in
+    let k = both_equal (text_cmp s.tags r.tags) (texts_cmp (record_texts r) (record_texts s)) h.1 in
+    record_apart r s (sym (exact_unsigned s.at r.at h.0)) (sym (text_exact s.tags r.tags k.0)) (texts_exact _ _ k.1)
 
 pub then_equal : (o : Ordering) → ordering_then o Equal ≡ o
 then_equal Less = refl
@@ -85,10 +89,10 @@ then_equal Equal = refl
 then_equal Greater = refl
 
 -- of two records of one message the id and the buffer decide nothing
-pub record_cmp-parts : (r s : Record) → r.buffer ≡ s.buffer → r.id ≡ s.id → record_cmp r s ≡ ordering_then (latest_first r s) (message_cmp r.message s.message)
+pub record_cmp-parts : (r s : Record) → r.buffer ≡ s.buffer → r.id ≡ s.id → record_cmp r s ≡ ordering_then (latest_first r s) (ordering_then (greatest_tags_first r s) (message_cmp r.message s.message))
 record_cmp-parts r s p q =
     let rest : texts_cmp (r.id ∷ buffer_texts r.buffer) (s.id ∷ buffer_texts s.buffer) ≡ Equal = (λ i. texts_cmp (q i ∷ buffer_texts (p i)) (s.id ∷ buffer_texts s.buffer)) ∙ tied_itself texts_total (s.id ∷ buffer_texts s.buffer) in
-    ap (λ o. ordering_then (latest_first r s) (ordering_then (ordering_then (nat_cmp (kind_letter r.message.kind) (kind_letter s.message.kind)) Equal) (ordering_then (text_cmp r.message.source s.message.source) (ordering_then (text_cmp r.message.target s.message.target) (ordering_then (text_cmp r.message.body s.message.body) o))))) rest
+    ap (λ o. ordering_then (latest_first r s) (ordering_then (greatest_tags_first r s) (ordering_then (ordering_then (nat_cmp (kind_letter r.message.kind) (kind_letter s.message.kind)) Equal) (ordering_then (text_cmp r.message.source s.message.source) (ordering_then (text_cmp r.message.target s.message.target) (ordering_then (text_cmp r.message.body s.message.body) o)))))) rest
 
 -- messages are compared by their letters, sources, targets and bodies
 pub message_cmp-parts : (m n : Message) → message_cmp m n ≡ ordering_then (nat_cmp (kind_letter m.kind) (kind_letter n.kind)) (ordering_then (text_cmp m.source n.source) (ordering_then (text_cmp m.target n.target) (text_cmp m.body n.body)))
@@ -104,19 +108,50 @@ greater_first m n Less more h = (λ e. inl h, λ k. refl)
 greater_first m n Equal more h = (λ e. inr (sym h, e), λ k. elim k [ inl l ↦ absurd (omega arith) | inr w ↦ w.1 ])
 greater_first m n Greater more h = (λ e. cc, λ k. elim k [ inl l ↦ absurd (omega arith) | inr w ↦ absurd (omega arith) ])
 
-pub record_cmp-goes_before : (r s : Record) → r.buffer ≡ s.buffer → r.id ≡ s.id → (record_cmp r s ≡ Less) ↔ GoesBefore r s
-record_cmp-goes_before r s p q =
-    let e : record_cmp r s ≡ ordering_then (latest_first r s) (message_cmp r.message s.message) = record_cmp-parts r s p q in
-    let h = greater_first r.at s.at (nat_cmp s.at r.at) (message_cmp r.message s.message) (ranked s.at r.at (nat_cmp s.at r.at) refl) in
-    (λ l. h.0 (sym e ∙ l), λ k. e ∙ h.1 k)
-
 not_tied : (o : Ordering) → o ≡ Equal → o ≡ Less → ⊥
 not_tied o e l = cc
 
-pub goes_before-irreflexive : (r : Record) → GoesBefore r r → ⊥
-goes_before-irreflexive r h = elim h [
-  | inl l ↦ omega arith
+-- the greater text goes first, and of equal texts what else there is decides
+greater_text_first : (s t : List ℕ) (o more : Ordering) → text_cmp t s ≡ o → (ordering_then o more ≡ Less) ↔ ((text_cmp t s ≡ Less) ⊎ ((s ≡ t) × (more ≡ Less)))
+greater_text_first s t Less more h = (λ e. inl h, λ k. refl)
+greater_text_first s t Equal more h = (λ e. inr (sym (text_exact t s h), e), λ k. elim k [ inl l ↦ absurd (not_tied (text_cmp t s) h l) | inr w ↦ w.1 ])
+greater_text_first s t Greater more h = (λ e. cc, λ k. elim k [ inl l ↦ sym h ∙ l | inr w ↦ absurd (unequal h w.0) ])
+  where
+    unequal : text_cmp t s ≡ Greater → s ≡ t → ⊥
+    unequal g e = let tied : text_cmp t s ≡ Equal = (λ i. text_cmp t (e i)) ∙ tied_itself text_total t in cc
+
+tie-wins : (r s : Record) → (ordering_then (greatest_tags_first r s) (message_cmp r.message s.message) ≡ Less) ↔ WinsTie r s
+tie-wins r s = greater_text_first r.tags s.tags (text_cmp s.tags r.tags) (message_cmp r.message s.message) refl
+
+pub record_cmp-goes_before : (r s : Record) → r.buffer ≡ s.buffer → r.id ≡ s.id → (record_cmp r s ≡ Less) ↔ GoesBefore r s
+record_cmp-goes_before r s p q =
+    let rest = ordering_then (greatest_tags_first r s) (message_cmp r.message s.message) in
+    let e : record_cmp r s ≡ ordering_then (latest_first r s) rest = record_cmp-parts r s p q in
+    let h = greater_first r.at s.at (nat_cmp s.at r.at) rest (ranked s.at r.at (nat_cmp s.at r.at) refl) in
+    let w = tie-wins r s in (
+      λ l. elim (h.0 (sym e ∙ l)) [ inl a ↦ inl a | inr b ↦ inr (b.0, w.0 b.1) ],
+      λ k. e ∙ h.1 (elim k [ inl a ↦ inl a | inr b ↦ inr (b.0, w.1 b.1) ]),
+    )
+
+tie-irreflexive : (r : Record) → WinsTie r r → ⊥
+tie-irreflexive r h = elim h [
+  | inl l ↦ not_tied (text_cmp r.tags r.tags) (tied_itself text_total r.tags) l
   | inr w ↦ not_tied (message_cmp r.message r.message) (tied_itself message_total r.message) w.1
+]
+
+pub goes_before-irreflexive : (r : Record) → GoesBefore r r → ⊥
+goes_before-irreflexive r h = elim h [ inl l ↦ omega arith | inr w ↦ tie-irreflexive r w.1 ]
+
+tie-transitive : (r s t : Record) → WinsTie r s → WinsTie s t → WinsTie r t
+tie-transitive r s t h k = elim h [
+  | inl a ↦ elim k [
+    | inl b ↦ inl (text_total.trans t.tags s.tags r.tags b a)
+    | inr b ↦ inl (subst (λ x. text_cmp x r.tags ≡ Less) b.0 a)
+  ]
+  | inr a ↦ elim k [
+    | inl b ↦ inl (subst (λ x. text_cmp t.tags x ≡ Less) (sym a.0) b)
+    | inr b ↦ inr (a.0 ∙ b.0, message_total.trans r.message s.message t.message a.1 b.1)
+  ]
 ]
 
 pub goes_before-transitive : (r s t : Record) → GoesBefore r s → GoesBefore s t → GoesBefore r t
@@ -124,7 +159,7 @@ goes_before-transitive r s t h k = elim h [
   | inl a ↦ elim k [ inl b ↦ inl (omega arith) | inr b ↦ inl (omega arith) ]
   | inr a ↦ elim k [
     | inl b ↦ inl (omega arith)
-    | inr b ↦ inr (a.0 ∙ b.0, message_total.trans r.message s.message t.message a.1 b.1)
+    | inr b ↦ inr (a.0 ∙ b.0, tie-transitive r s t a.1 b.1)
   ]
 ]
 

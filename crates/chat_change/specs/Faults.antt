@@ -1,10 +1,10 @@
 -- Which parts the makers of buffers, ids and records refuse, and why: of several faults the first is told.
 use Rattle.std.specs.Prelude.{ℕ, Bool, ◌&&◌, nat_le, List, length, Option, None, Some, is_none, unwrap_or, if◌then◌else◌}
-use Rattle.chat_change.specs.Words.{is_name, is_target, is_id, is_source, is_body}
+use Rattle.chat_change.specs.Words.{is_name, is_target, is_id, is_source, is_body, is_tags}
 use Rattle.chat_change.specs.Message.{Message, line_of}
 use Rattle.chat_change.specs.declared.message.TheConstants.{LINE_LIMIT}
 use Rattle.chat_change.specs.declared.faults.ChangeFault.{ChangeFault}
-use Rattle.chat_change.specs.declared.faults.ChangeFault.TheVariants.{BadName, BadTarget, BadId, BadSource, BadBody, LineTooLong, NoMemory}
+use Rattle.chat_change.specs.declared.faults.ChangeFault.TheVariants.{BadName, BadTarget, BadId, BadSource, BadBody, LineTooLong, NoMemory, BadTags}
 
 -- the fault, unless the text is as it should be; then what else there is
 abbrev pub unless_lawful : Bool → ChangeFault → Option ChangeFault → Option ChangeFault
@@ -28,6 +28,15 @@ record_fault m =
     (unless_lawful (is_source m.source) BadSource
     (unless_lawful (is_body m.body) BadBody
     (unless_lawful (fits_line m) LineTooLong None)))
+
+-- the first of two faults
+abbrev pub first_fault : Option ChangeFault → Option ChangeFault → Option ChangeFault
+first_fault None more = more
+first_fault (Some fault) more = Some fault
+
+-- of a message with tags
+abbrev pub tagged_fault : Message → List ℕ → Option ChangeFault
+tagged_fault m tags = first_fault (record_fault m) (unless_lawful (is_tags tags) BadTags None)
 
 -- the maker of records finds no fault in the message
 abbrev pub is_message : Message → Bool

@@ -1,7 +1,7 @@
 -- Lawful records and changes: those whose parts the makers of parts don't refuse.
 use Rattle.std.specs.Prelude.{◌≡◌, ◌≤◌, true, IfSome}
 use Rattle.irc_time.specs.Time.{greatest}
-use Rattle.chat_change.specs.Words.{is_id}
+use Rattle.chat_change.specs.Words.{is_id, MayBeTags}
 use Rattle.chat_change.specs.Buffer.{IsLawfulBuffer}
 use Rattle.chat_change.specs.Message.{IsLawfulMessage}
 use Rattle.chat_change.specs.Record.{Record}
@@ -12,6 +12,7 @@ pub record IsLawfulRecord (r : Record) : Type 0 where
   pub buffer : IsLawfulBuffer r.buffer
   pub id : is_id r.id ≡ true
   pub at : r.at ≤ greatest
+  pub tags : MayBeTags r.tags
   pub message : IsLawfulMessage r.message
 
 abbrev pub IsLawfulChange : Change → Type 0

@@ -1,6 +1,7 @@
 -- ---- what a reader must believe: texts and their limits, buffers, messages, records, keys, orders, refusals and
 -- lawful changes
 pub mod Words
+pub mod Tags
 pub mod Buffer
 pub mod Buffers
 pub mod Message
@@ -11,5 +12,6 @@ pub mod Faults
 pub mod Lawful
 -- ---- what only the proofs use of the code: how texts lie in memory
 pub mod Texts
+pub mod MessageTexts
 pub mod IdText
 pub mod ShortText

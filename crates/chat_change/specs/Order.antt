@@ -26,10 +26,17 @@ buffer_cmp = on buffer_texts texts_cmp
 abbrev pub message_cmp : Message → Message → Ordering
 message_cmp = on message_texts texts_cmp
 
--- which of two records of one message is kept: the first, where it is later, or where both are of one moment and its
--- letter, source, target and body are the smaller ones, compared in this order
+-- of two records of one moment: the first has the greater tags, or both have the same and its letter, source, target
+-- and body are the smaller ones, compared in this order
+abbrev pub WinsTie : Record → Record → Type 0
+WinsTie r s =
+    (text_cmp s.tags r.tags ≡ Less)
+    ⊎ ((r.tags ≡ s.tags) × (message_cmp r.message s.message ≡ Less))
+
+-- which of two records of one message is kept: the first, where it is later, or where both are of one moment and it
+-- wins that tie
 abbrev pub GoesBefore : Record → Record → Type 0
-GoesBefore r s = (s.at < r.at) ⊎ ((r.at ≡ s.at) × (message_cmp r.message s.message ≡ Less))
+GoesBefore r s = (s.at < r.at) ⊎ ((r.at ≡ s.at) × WinsTie r s)
 
 -- ---- the same as one comparison, in parts: `Less` where the first goes before the second
 
@@ -37,7 +44,12 @@ GoesBefore r s = (s.at < r.at) ⊎ ((r.at ≡ s.at) × (message_cmp r.message s.
 abbrev pub latest_first : Record → Record → Ordering
 latest_first = flip_args (on (λ (r : Record). r.at) nat_cmp)
 
--- the texts of a record: those of its message, and last its id and buffer, so that only equal records tie
+-- the greater tags go first
+abbrev pub greatest_tags_first : Record → Record → Ordering
+greatest_tags_first = flip_args (on (λ (r : Record). r.tags) text_cmp)
+
+-- the texts of a record but for its tags: those of its message, and last its id and buffer, so that only equal records
+-- tie
 abbrev pub record_texts : Record → List (List ℕ)
 record_texts r = message_texts r.message ++ r.id ∷ buffer_texts r.buffer
 
@@ -45,6 +57,10 @@ record_texts r = message_texts r.message ++ r.id ∷ buffer_texts r.buffer
 abbrev pub smallest_first : Record → Record → Ordering
 smallest_first = on record_texts texts_cmp
 
--- by moment, then by texts
+-- records of one moment, by their tags, then by their texts
+abbrev pub tie_cmp : Record → Record → Ordering
+tie_cmp = then_cmp greatest_tags_first smallest_first
+
+-- by moment, then by tags, then by texts
 abbrev pub record_cmp : Record → Record → Ordering
-record_cmp = then_cmp latest_first smallest_first
+record_cmp = then_cmp latest_first tie_cmp

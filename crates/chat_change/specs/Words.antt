@@ -1,9 +1,10 @@
 -- The words that changes are made of: names of accounts and networks, targets, message ids, sources and bodies
 -- (RFC 1459 and RFC 2812, section 2.3; IRCv3 message-ids), and how letters are folded.
-use Rattle.std.specs.Prelude.{ℕ, Bool, false, not, ◌&&◌, ◌||◌, ◌==◌, nat_lt, nat_le, List, [], ◌∷◌, length, map}
+use Rattle.std.specs.Prelude.{ℕ, ◌≡◌, ◌⊎◌, Bool, true, false, not, ◌&&◌, ◌||◌, ◌==◌, nat_lt, nat_le, List, [], ◌∷◌, length, map}
 use Rattle.std.specs.List.{list_any, list_all}
 use Rattle.std.specs.Char.{to_ascii_lowercase}
-use Rattle.chat_change.specs.declared.words.TheConstants.{NAME_LIMIT, TARGET_LIMIT, ID_LIMIT}
+use Rattle.irc_tags.specs.ClientOnly.{is_client_only_text}
+use Rattle.chat_change.specs.declared.words.TheConstants.{NAME_LIMIT, TARGET_LIMIT, ID_LIMIT, TAGS_LIMIT}
 
 -- the text has at least one byte and at most so many
 abbrev pub has_length_to : ℕ → List ℕ → Bool
@@ -59,6 +60,16 @@ is_source = is_id
 -- what a message says, which may be nothing
 abbrev pub is_body : List ℕ → Bool
 is_body text = not (list_any ends_line text)
+
+-- the tags of a message: client-only tags as they are written, at least one, which may stand in a client's line
+-- (IRCv3 message-tags, "Client-only tags" and "Size limit")
+abbrev pub is_tags : List ℕ → Bool
+is_tags text =
+    has_length_to TAGS_LIMIT text && not (list_any ends_word text) && is_client_only_text text
+
+-- what a record has for tags: none, or such
+abbrev pub MayBeTags : List ℕ → Type 0
+MayBeTags text = (text ≡ []) ⊎ (is_tags text ≡ true)
 
 -- ---- folding
 

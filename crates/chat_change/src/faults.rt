@@ -6,7 +6,8 @@ ghost use Rattle.std.specs.Prelude.{◌≡◌, ◌↔◌, IsTrue};
 
 use thiserror::Error;
 
-/// Why a part of a change is refused. Of several faults the first of this list is answered.
+/// Why a part of a change is refused. Of several faults the first of this list is answered, and [`BadTags`](Self::BadTags)
+/// before want of memory.
 #[derive(Clone, Copy, Debug, PartialEq, Eq, Error)]
 pub enum ChangeFault {
     /// An account or a network has 1 to 32 bytes of `a-z`, `0-9`, `-` and `_`.
@@ -30,6 +31,9 @@ pub enum ChangeFault {
     /// There was no memory.
     #[error("no memory")]
     NoMemory,
+    /// The tags of a message are client-only tags as they are written, in 1 to 4094 bytes (IRCv3 message-tags).
+    #[error("not client-only tags")]
+    BadTags,
 }
 
 impl ChangeFault {

@@ -1,24 +1,30 @@
 //! Laws of the definitions. Their contracts are the laws, and their bodies are empty.
-ghost use Rattle.std.specs.Prelude.{◌≡◌, ◌<◌, ◌↔◌, ◌⊎◌, ◌&&◌, IsTrue, true, false};
+ghost use Rattle.std.specs.List.{list_any};
+ghost use Rattle.std.specs.Prelude.{◌≡◌, ◌<◌, ◌≤◌, ◌↔◌, ◌⊎◌, ◌&&◌, IsTrue, true, false};
 ghost use Rattle.std.specs.Prelude.{ℕ, List, length, None, Some};
 ghost use Rattle.std.specs.declared.cmp.Ordering.TheVariants.{Less, Equal};
 ghost use Rattle.std.specs.Ordering.{ordering_then, eq_by_cmp};
 ghost use Rattle.std.specs.Cmp.{IsTotalOrder};
-ghost use Rattle.chat_change.specs.Words.{is_name, is_target, is_id, is_source, is_body};
-ghost use Rattle.chat_change.specs.Words.{lower_case_of};
+ghost use Rattle.chat_change.specs.Words.{is_name, is_target, is_id, is_source, is_body, is_tags};
+ghost use Rattle.chat_change.specs.Words.{lower_case_of, ends_word};
+ghost use Rattle.chat_change.specs.Tags.{Spells};
+ghost use Rattle.irc_tags.specs.TagList.{Tag};
+ghost use Rattle.irc_tags.specs.Text.{tags_text};
 ghost use Rattle.chat_change.specs.Buffer.{Buffer, buffer_of, IsLawfulBuffer};
 ghost use Rattle.chat_change.specs.Message.{Message, line_of, IsLawfulMessage};
 ghost use Rattle.chat_change.specs.Record.{Record};
-ghost use Rattle.chat_change.specs.Faults.{buffer_fault, id_fault, record_fault};
+ghost use Rattle.chat_change.specs.Faults.{buffer_fault, id_fault, record_fault, tagged_fault};
 ghost use Rattle.chat_change.specs.Order.{text_cmp, id_cmp, buffer_cmp, record_cmp, GoesBefore};
 ghost use Rattle.chat_change.specs.declared.faults.ChangeFault.TheVariants as fault;
 
 use crate::message::LINE_LIMIT;
+use crate::words::TAGS_LIMIT;
 
 /// Of the records of one message one is kept, whatever the order in which they are compared.
 ///
-/// One record of a message goes before another where it is later, or where both are of one moment and its (kind letter,
-/// source, target, body) is the smaller one, compared in this order by bytes. No record goes before itself, and of two
+/// One record of a message goes before another where it is later; where both are of one moment and its tags are greater,
+/// compared by bytes; or where both are of one moment, with the same tags, and its (kind letter, source, target, body) is
+/// the smaller one, compared in this order by bytes. No record goes before itself, and of two
 /// different records of one message one goes before the other.
 pub fn records_of_a_message_are_ordered()
     ensures comparison { (r s : Record) → r.buffer ≡ s.buffer → r.id ≡ s.id →
@@ -57,6 +63,8 @@ pub fn makers_give_lawful_fields()
         IsLawfulBuffer (buffer_of account network target) }
     ensures ids { (text : List ℕ) → (id_fault text ≡ None) ↔ (is_id text ≡ true) }
     ensures messages { (m : Message) → (record_fault m ≡ None) ↔ IsLawfulMessage m }
+    ensures tagged { (m : Message) (tags : List ℕ) →
+        (tagged_fault m tags ≡ None) ↔ (IsLawfulMessage m × (is_tags tags ≡ true)) }
 {}
 
 /// Why the makers of buffers and ids refuse: of a buffer a bad name is told before a bad target.
@@ -70,7 +78,7 @@ pub fn makers_of_keys_tell_the_first_fault()
     ensures bad_id { (text : List ℕ) → (id_fault text ≡ Some fault.BadId) ↔ (is_id text ≡ false) }
 {}
 
-/// Why the maker of records refuses: its faults are told in the order target, source, body, line.
+/// Why the makers of records refuse: their faults are told in the order target, source, body, line, tags.
 pub fn maker_of_records_tells_the_first_fault()
     ensures bad_target { (m : Message) → (record_fault m ≡ Some fault.BadTarget)
         ↔ (is_target m.target ≡ false) }
@@ -81,6 +89,18 @@ pub fn maker_of_records_tells_the_first_fault()
     ensures line_too_long { (m : Message) → (record_fault m ≡ Some fault.LineTooLong)
         ↔ ((is_target m.target ≡ true) × (is_source m.source ≡ true)
         × (is_body m.body ≡ true) × (LINE_LIMIT < length (line_of m))) }
+    ensures bad_tags { (m : Message) (tags : List ℕ) →
+        (tagged_fault m tags ≡ Some fault.BadTags)
+        ↔ (IsLawfulMessage m × (is_tags tags ≡ false)) }
+{}
+
+/// The tags of a record are what is written of client-only tags with distinct keys (IRCv3 message-tags, "Client-only
+/// tags"), and all of these are such that have 1 to 4094 bytes and none of NUL, CR, LF and space.
+pub fn tags_are_written_of_client_only_tags()
+    ensures spell { (text : List ℕ) → is_tags text ≡ true → (tags : List Tag) × Spells text tags }
+    ensures all { (tags : List Tag) → Spells (tags_text tags) tags
+        → 0 < length (tags_text tags) → length (tags_text tags) ≤ TAGS_LIMIT
+        → list_any ends_word (tags_text tags) ≡ false → is_tags (tags_text tags) ≡ true }
 {}
 
 /// Folding changes nothing that is folded. What is folded is a target exactly where the text was one.

@@ -4,8 +4,8 @@
 //! kept. What it speaks of is its [`Key`]: the floor or the marker of a [`Buffer`], the conversation of an account on a
 //! network with a target, or one message of a buffer. [`goes_before`] says which of two records of one message is kept.
 //!
-//! The makers [`Buffer::new`], [`MsgId::new`] and [`Record::new`] refuse what can't stand in a line (RFC 1459 and RFC
-//! 2812, section 2.3), each with the first [`ChangeFault`] that there is, so that every value of these types has lawful
+//! The makers [`Buffer::new`], [`MsgId::new`], [`Record::new`] and [`Record::new_tagged`] refuse what can't stand in a
+//! line (RFC 1459 and RFC 2812, section 2.3; IRCv3 message-tags), each with the first [`ChangeFault`] that there is, so that every value of these types has lawful
 //! parts. Their tests are functions of their own, as [`is_target`] and [`is_message`], which take no memory.
 //!
 //! The makers take memory. Where there is none, a maker answers [`ChangeFault::NoMemory`] and leaves nothing behind. What
@@ -21,6 +21,7 @@ mod key;
 mod lawful;
 pub mod laws;
 mod message;
+mod message_texts;
 mod msg_id;
 mod order;
 mod record;
@@ -38,5 +39,6 @@ pub use msg_id::MsgId;
 pub use order::goes_before;
 pub use record::Record;
 pub use words::{
-    ID_LIMIT, NAME_LIMIT, TARGET_LIMIT, is_body, is_id, is_name, is_source, is_target,
+    ID_LIMIT, NAME_LIMIT, TAGS_LIMIT, TARGET_LIMIT, is_body, is_id, is_name, is_source, is_tags,
+    is_target,
 };

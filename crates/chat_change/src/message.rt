@@ -1,10 +1,10 @@
 //! Messages: what the line of a private message or of a notice says.
 ghost use Rattle.std.specs.Prelude.{◌≡◌, ◌↔◌, IsTrue};
-ghost use Rattle.chat_change.specs.Faults.{record_fault, is_message, fits_line};
+ghost use Rattle.chat_change.specs.Faults.{record_fault, tagged_fault, is_message, fits_line};
 ghost use Rattle.chat_change.specs.Message.{value_of, IsLawfulMessage};
 
 use crate::faults::ChangeFault;
-use crate::words::{is_body, is_source, is_target};
+use crate::words::{is_body, is_source, is_tags, is_target};
 
 /// The most bytes of a line without its ending (RFC 1459 section 2.3).
 pub const LINE_LIMIT: usize = 510;
@@ -81,6 +81,17 @@ pub(crate) fn fault_of(message: Message<'_>) -> Option<ChangeFault>
         Some(ChangeFault::LineTooLong)
     } else {
         None
+    }
+}
+
+/// The same of a message with tags, whose fault is the last.
+pub(crate) fn tagged_fault_of(message: Message<'_>, tags: &[u8]) -> Option<ChangeFault>
+    ensures { result ≡ tagged_fault (value_of message.entry) tags.now }
+{
+    match fault_of(message) {
+        Some(fault) => Some(fault),
+        None if is_tags(tags) => None,
+        None => Some(ChangeFault::BadTags),
     }
 }
 

@@ -1,15 +1,15 @@
 //! Records: messages that were posted.
-ghost use Rattle.std.specs.Prelude.{◌≡◌, ◌≤◌, true, length, IfOk, IfErr, None};
-ghost use Rattle.chat_change.specs.Words.{is_target, is_source, is_body};
+ghost use Rattle.std.specs.Prelude.{◌≡◌, ◌≤◌, true, length, [], IfOk, IfErr, None};
+ghost use Rattle.chat_change.specs.Words.{is_target, is_source, is_body, MayBeTags};
 ghost use Rattle.chat_change.specs.Message.{value_of, IsLawfulMessage};
-ghost use Rattle.chat_change.specs.Faults.{record_fault, fault_or_no_memory};
+ghost use Rattle.chat_change.specs.Faults.{record_fault, tagged_fault, fault_or_no_memory};
 
 use crate::buffer::Buffer;
 use crate::faults::ChangeFault;
 use crate::key::Key;
-use crate::message::{Kind, Message, fault_of};
+use crate::message::{Kind, Message, fault_of, tagged_fault_of};
+use crate::message_texts::MessageTexts;
 use crate::msg_id::MsgId;
-use crate::texts::Texts;
 use irc_time::Moment;
 use std::alloc::{AllocError, Global};
 use std::marker::Model;
@@ -31,13 +31,14 @@ struct Parts {
     id: MsgId,
     at: Moment,
     kind: Kind,
-    // source, target and body
-    texts: Texts,
+    // tags, source, target and body
+    texts: MessageTexts,
 }
 
 impl Model for Record {
     ghost use Rattle.chat_change.specs.Record as spec;
     ghost use Rattle.chat_change.specs.Message.{IsLawfulMessage};
+    ghost use Rattle.chat_change.specs.Words.{MayBeTags};
 
     ghost Value = { spec.Record };
 
@@ -45,26 +46,27 @@ impl Model for Record {
       buffer = r.parts.value.buffer;
       id = r.parts.value.id;
       at = r.parts.value.at;
+      tags = r.parts.value.texts.tags;
       message = record {
         kind = r.parts.value.kind;
-        source = r.parts.value.texts.first;
-        target = r.parts.value.texts.second;
-        body = r.parts.value.texts.third;
+        source = r.parts.value.texts.source;
+        target = r.parts.value.texts.target;
+        body = r.parts.value.texts.body;
       };
     } };
 
-    ghost invariant = { λ r. IsLawfulMessage (record {
+    ghost invariant = { λ r. MayBeTags r.parts.value.texts.tags × IsLawfulMessage (record {
       kind = r.parts.value.kind;
-      source = r.parts.value.texts.first;
-      target = r.parts.value.texts.second;
-      body = r.parts.value.texts.third;
+      source = r.parts.value.texts.source;
+      target = r.parts.value.texts.target;
+      body = r.parts.value.texts.body;
     }) };
 }
 
 impl Record {
     ghost use Rattle.chat_change.specs.Key as key;
 
-    /// The record of a message, whose target is kept as it is spelled.
+    /// The record of a message without tags, whose target is kept as it is spelled.
     ///
     /// Of several faults the first of these is answered:
     /// [`ChangeFault::BadTarget`] unless the target has 1 to 200 bytes, none of NUL, CR, LF, space and comma, doesn't begin
@@ -83,6 +85,7 @@ impl Record {
           buffer = buffer;
           id = id;
           at = at;
+          tags = [];
           message = value_of message.entry;
         }) }
         ensures lawful { IfOk result (λ _. record_fault (value_of message.entry) ≡ None) }
@@ -91,7 +94,41 @@ impl Record {
     {
         match fault_of(message) {
             Some(fault) => Err(fault),
-            None => match Record::from_lawful(alloc, buffer, id, at, message) {
+            None => match Record::from_lawful(alloc, buffer, id, at, message, b"") {
+                Ok(record) => Ok(record),
+                Err(_) => Err(ChangeFault::NoMemory),
+            },
+        }
+    }
+
+    /// The record of a message with client-only tags (IRCv3 message-tags, "Client-only tags"), which don't count for the
+    /// limit of its line.
+    ///
+    /// Refused like a message without tags ([`Record::new`]), and then with [`ChangeFault::BadTags`] unless the tags have 1
+    /// to 4094 bytes, none of NUL, CR, LF and space, and are as they are written of distinct keys that each begin with `+`
+    /// ([`is_tags`](crate::is_tags)).
+    pub fn new_tagged(
+        alloc: Global,
+        buffer: Buffer,
+        id: MsgId,
+        at: Moment,
+        message: Message<'_>,
+        tags: &[u8],
+    ) -> Result<Record, ChangeFault>
+        ensures made { IfOk result (λ r. r ≡ record {
+          buffer = buffer;
+          id = id;
+          at = at;
+          tags = tags.now;
+          message = value_of message.entry;
+        }) }
+        ensures lawful { IfOk result (λ _. tagged_fault (value_of message.entry) tags.now ≡ None) }
+        ensures refused { IfErr result (λ fault.
+            fault ≡ fault_or_no_memory (tagged_fault (value_of message.entry) tags.now)) }
+    {
+        match tagged_fault_of(message, tags) {
+            Some(fault) => Err(fault),
+            None => match Record::from_lawful(alloc, buffer, id, at, message, tags) {
                 Ok(record) => Ok(record),
                 Err(_) => Err(ChangeFault::NoMemory),
             },
@@ -104,16 +141,19 @@ impl Record {
         id: MsgId,
         at: Moment,
         message: Message<'_>,
+        tags: &[u8],
     ) -> Result<Record, AllocError>
-        requires { record_fault (value_of message) ≡ None }
+        requires message { record_fault (value_of message) ≡ None }
+        requires tags { MayBeTags tags.now }
         ensures { IfOk result (λ r. r ≡ record {
           buffer = buffer;
           id = id;
           at = at;
+          tags = tags.now;
           message = value_of message.entry;
         }) }
     {
-        let texts = Texts::new(alloc, message.source, message.target, message.body)?;
+        let texts = MessageTexts::new(alloc, tags, message)?;
         let parts = Parts {
             buffer,
             id,
@@ -153,6 +193,14 @@ impl Record {
         self.parts.at
     }
 
+    /// The client-only tags of the message as they are written, without `@`; nothing where it has none.
+    pub fn tags(&self) -> &[u8]
+        ensures value { result.now ≡ self.now.tags }
+        ensures lawful { MayBeTags result.now }
+    {
+        self.parts.texts.tags()
+    }
+
     /// What the line of the message says.
     pub fn message(&self) -> Message<'_>
         ensures value { value_of result ≡ self.now.message }
@@ -161,9 +209,9 @@ impl Record {
         let parts = &self.parts;
         Message {
             kind: parts.kind,
-            source: parts.texts.first(),
-            target: parts.texts.second(),
-            body: parts.texts.third(),
+            source: parts.texts.source(),
+            target: parts.texts.target(),
+            body: parts.texts.body(),
         }
     }
 
@@ -179,7 +227,7 @@ impl Record {
         ensures value { result.now ≡ self.now.message.source }
         ensures lawful { is_source result.now ≡ true }
     {
-        self.parts.texts.first()
+        self.parts.texts.source()
     }
 
     /// The target as it was spelled.
@@ -187,7 +235,7 @@ impl Record {
         ensures value { result.now ≡ self.now.message.target }
         ensures lawful { is_target result.now ≡ true }
     {
-        self.parts.texts.second()
+        self.parts.texts.target()
     }
 
     /// What the message says, maybe nothing.
@@ -195,7 +243,7 @@ impl Record {
         ensures value { result.now ≡ self.now.message.body }
         ensures lawful { is_body result.now ≡ true }
     {
-        self.parts.texts.third()
+        self.parts.texts.body()
     }
 
     /// An equal record, which shares its memory. It takes none, and fails only where the record has 2^63 - 1 owners.

@@ -3,6 +3,8 @@ ghost use Rattle.std.specs.Prelude.{◌≡◌};
 ghost use Rattle.std.specs.List.{list_any, list_all};
 ghost use Rattle.chat_change.specs.Words as spec;
 
+use irc_tags::is_client_only_text;
+
 /// The most bytes that the name of an account or of a network has.
 pub const NAME_LIMIT: usize = 32;
 
@@ -11,6 +13,10 @@ pub const TARGET_LIMIT: usize = 200;
 
 /// The most bytes that a message id or a source has.
 pub const ID_LIMIT: usize = 255;
+
+/// The most bytes that the tags of a message have: those of a client's line, without `@` and the space behind them
+/// (IRCv3 message-tags, "Size limit").
+pub const TAGS_LIMIT: usize = 4094;
 
 fn has_length_to(most: usize, text: &[u8]) -> bool
     ensures { result ≡ spec.has_length_to most text.now }
@@ -122,4 +128,13 @@ pub fn is_body(text: &[u8]) -> bool
     ensures { result ≡ spec.is_body text.now }
 {
     !has_line_end(text)
+}
+
+/// Whether the text is the tags of a message (IRCv3 message-tags, "Client-only tags"): 1 to 4094 bytes, none of NUL, CR,
+/// LF and space, that spell tags of distinct keys, each with a `+` in front, as they are written: joined by `;`, with an
+/// empty value as the bare key, and in other values the five escapes and no others.
+pub fn is_tags(text: &[u8]) -> bool
+    ensures { result ≡ spec.is_tags text.now }
+{
+    has_length_to(TAGS_LIMIT, text) && !has_word_end(text) && is_client_only_text(text)
 }

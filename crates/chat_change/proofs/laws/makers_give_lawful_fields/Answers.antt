@@ -1,4 +1,4 @@
-use Rattle.chat_change.proofs.FaultsLemmas.{buffer_fault-lawful, lawful_buffer, id_fault-lawful, record_fault-lawful}
+use Rattle.chat_change.proofs.FaultsLemmas.{buffer_fault-lawful, lawful_buffer, id_fault-lawful, record_fault-lawful, tagged_fault-lawful}
 use Rattle.chat_change.proofs.laws.makers_give_lawful_fields.Goals as goal
 
 pub returns : goal.returns
@@ -7,4 +7,5 @@ returns c = record {
   buffers = lawful_buffer;
   ids = id_fault-lawful;
   messages = record_fault-lawful;
+  tagged = tagged_fault-lawful;
 }
