@@ -15,7 +15,7 @@ use Rattle.std.specs.Option.{option_map, option_to_list, unwrap_or}
 use Rattle.std.specs.Prelude.{nat_lt, nat_le}
 use Rattle.chat_change.specs.Buffer.{Buffer}
 use Rattle.chat_change.specs.Record.{Record}
-use Rattle.chat_change.specs.Order.{record_cmp, texts_cmp, record_texts}
+use Rattle.chat_change.specs.Order.{record_cmp, tie_cmp}
 use Rattle.chat_change.specs.declared.change.Change.{Change}
 use Rattle.chat_change.specs.declared.change.Change.TheVariants.{Post, Redact, Mark, Floor}
 use Rattle.chat_change.proofs.CallerLemmas.{record_total, record_exact}
@@ -45,7 +45,7 @@ stays f r = nat_le f r.at
 pub moments_closed : (f : ℕ) → Closed (flip_args nat_cmp) (at_least f)
 moments_closed f x y l h = grind (arith, nat_tests)
 
-not_later : (r s : Record) (o : Ordering) → nat_cmp s.at r.at ≡ o → is_gt (ordering_then o (texts_cmp (record_texts r) (record_texts s))) ≡ false → is_gt (nat_cmp s.at r.at) ≡ false
+not_later : (r s : Record) (o : Ordering) → nat_cmp s.at r.at ≡ o → is_gt (ordering_then o (tie_cmp r s)) ≡ false → is_gt (nat_cmp s.at r.at) ≡ false
 not_later r s Less e h = ap is_gt e
 not_later r s Equal e h = ap is_gt e
 not_later r s Greater e h = absurd (false≢true (sym h))
@@ -76,9 +76,9 @@ position-top changes b m = first_by-filter latest_total latest_exact (at_least (
 -- the earlier record has the greater moment
 at-min : (r s : Record) → ord_min (flip_args nat_cmp) r.at s.at ≡ (ord_min record_cmp r s).at
 at-min r s =
-    elim (nat_cmp r.at s.at) as (λ o. nat_cmp r.at s.at ≡ o → cond (is_lt o) s.at r.at ≡ (cond (is_lt (ordering_then o (texts_cmp (record_texts s) (record_texts r)))) s r).at) [
+    elim (nat_cmp r.at s.at) as (λ o. nat_cmp r.at s.at ≡ o → cond (is_lt o) s.at r.at ≡ (cond (is_lt (ordering_then o (tie_cmp s r))) s r).at) [
       | Less ↦ λ _. refl
-      | Equal ↦ λ e. elim (is_lt (texts_cmp (record_texts s) (record_texts r))) as (λ t. r.at ≡ (cond t s r).at) [ true ↦ exact_unsigned r.at s.at e | false ↦ refl ]
+      | Equal ↦ λ e. elim (is_lt (tie_cmp s r)) as (λ t. r.at ≡ (cond t s r).at) [ true ↦ exact_unsigned r.at s.at e | false ↦ refl ]
       | Greater ↦ λ _. refl
     ] refl
 

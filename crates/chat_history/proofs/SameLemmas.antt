@@ -22,7 +22,7 @@ moments_apart (Some t) None e = cc
 moments_apart (Some t) (Some u) e = ap Some (cc e)
 
 changes_apart : (c d : Change) → change_texts c ≡ change_texts d → c ≡ d
-changes_apart (Post r) (Post s) e = ap Post (record_apart r s (cc e) (cc e))
+changes_apart (Post r) (Post s) e = ap Post (record_apart r s (cc e) (cc e) (cc e))
 changes_apart (Post r) (Redact d n u) e = cc e
 changes_apart (Post r) (Mark d u) e = cc e
 changes_apart (Post r) (Floor d u) e = cc e

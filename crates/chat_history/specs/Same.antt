@@ -16,7 +16,7 @@ moment_text (Some t) = t ∷ []
 
 -- the numbers and texts of a change
 abbrev pub change_texts : Change → List (List ℕ)
-change_texts (Post r) = (0 ∷ []) ∷ (r.at ∷ []) ∷ record_texts r
+change_texts (Post r) = (0 ∷ []) ∷ (r.at ∷ []) ∷ r.tags ∷ record_texts r
 change_texts (Redact b m t) = (1 ∷ []) ∷ moment_text t ∷ m ∷ buffer_texts b
 change_texts (Mark b t) = (2 ∷ []) ∷ (t ∷ []) ∷ buffer_texts b
 change_texts (Floor b t) = (3 ∷ []) ∷ (t ∷ []) ∷ buffer_texts b
