@@ -4,6 +4,7 @@ mod SinceLemmas
 mod TestLemmas
 mod WordsLemmas
 mod NumberLemmas
+mod PostLineLemmas
 mod ReadBackLemmas
 mod SpellingLemmas
 pub mod CallerLemmas

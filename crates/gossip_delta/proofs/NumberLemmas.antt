@@ -1,4 +1,4 @@
--- A number has one spelling, its decimal digits.
+-- A number has one spelling, its decimal digits, and so has a moment.
 use Rattle.std.proofs.Common.{◌≡◌, ℕ, zero, suc, ◌^◌, ◌≤◌, ◌<◌, Bool, true, false, not, ◌&&◌, cond, Some, None, List, [], ◌∷◌, length, get_or, refl, sym, ◌∙◌, ap, subst, arith, rules}
 use Rattle.std.specs.Prelude.{◌==◌, nat_lt, nat_le, decimal}
 use Rattle.std.specs.List.{list_all}
@@ -6,9 +6,10 @@ use Rattle.std.proofs.lemmas.Bool.{false≢true, cond-true}
 use Rattle.std.proofs.lemmas.Bool.Decides.{nat_tests}
 use Rattle.std.proofs.lemmas.Fmt.{decimal_digit, decimal_nonempty, first_decimal, digits_decimal, digits_value-decimal, decimal-digits_value}
 use Rattle.std.proofs.lemmas.Str.Parse.{IsNumeralModel, numerals_by_fold}
+use Rattle.irc_time.specs.Time.{greatest}
 use Rattle.chat_change.specs.Words.{begins_with}
 use Rattle.gossip_delta.specs.Words.{has_space, is_filled, is_last_word}
-use Rattle.gossip_delta.specs.Number.{is_digit, is_digits, has_leading_zero, value, value_from, number_to}
+use Rattle.gossip_delta.specs.Number.{is_digit, is_digits, has_leading_zero, value, value_from, number_to, moment_of}
 use Rattle.gossip_delta.proofs.TestLemmas.{both, left, right, not_false, not_true, no_space_in_all}
 
 own : IsNumeralModel (λ ds. list_all is_digit ds ≡ true) (value_from 0)
@@ -81,3 +82,14 @@ number_spelled most n text small h =
           (subst (λ m. m ≤ most) v most_of, sym spelled ∙ ap decimal v)
       | false ↦ λ t h. cc h
     ] refl h
+
+-- ---- moments
+
+pub moment_fits : (t : ℕ) → t ≤ greatest → t < 2 ^ 64
+moment_fits t h = omega (arith, h)
+
+pub moment_read : (t : ℕ) → t ≤ greatest → moment_of (decimal t) ≡ Some t
+moment_read t h = number_read t (moment_fits t h) greatest h
+
+pub moment_is : (text : List ℕ) (t : ℕ) → moment_of text ≡ Some t → (t ≤ greatest) × (text ≡ decimal t)
+moment_is text t h = number_spelled greatest t text (omega arith) h

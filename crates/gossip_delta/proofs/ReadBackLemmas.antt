@@ -1,31 +1,28 @@
 -- The line of a change with lawful parts reads as that change.
-use Rattle.std.proofs.Common.{◌≡◌, ℕ, ◌^◌, ◌≤◌, ◌<◌, true, false, ◌&&◌, Option, Some, None, Ok, List, [], ◌∷◌, ◌++◌, codes, refl, sym, ◌∙◌, ap, arith}
+use Rattle.std.proofs.Common.{◌≡◌, ℕ, ◌≤◌, true, false, ◌&&◌, cond, Option, Some, None, Ok, List, [], ◌∷◌, ◌++◌, codes, refl, sym, ◌∙◌, ap}
 use Rattle.std.specs.Prelude.{decimal}
 use Rattle.std.specs.Char.{to_ascii_lowercase}
 use Rattle.std.specs.List.{list_all}
 use Rattle.std.specs.Option.{option_map}
 use Rattle.std.proofs.lemmas.Bool.{false≢true, cond-true, cond-false, eq-eqb}
 use Rattle.irc_time.specs.Time.{greatest}
-use Rattle.chat_change.specs.Words.{is_name, is_target, is_id, begins_with, lower_case_of}
+use Rattle.chat_change.specs.Words.{is_name, is_target, is_id, lower_case_of}
 use Rattle.chat_change.specs.Buffer.{Buffer, IsLawfulBuffer}
-use Rattle.chat_change.specs.Faults.{is_message}
-use Rattle.chat_change.specs.Message.{kind_letter}
 use Rattle.chat_change.specs.Record.{Record}
 use Rattle.chat_change.specs.declared.change.Change.{Change}
 use Rattle.chat_change.specs.declared.change.Change.TheVariants.{Post, Redact, Mark, Floor}
-use Rattle.chat_change.specs.declared.message.Kind.{Kind}
-use Rattle.chat_change.specs.declared.message.Kind.TheVariants.{Privmsg, Notice}
-use Rattle.chat_change.proofs.CallerLemmas.{is_message-lawful}
 use Rattle.gossip_delta.specs.Words.{is_text, has_space, is_filled, is_last_word, word, behind, words_text}
 use Rattle.gossip_delta.specs.Number.{is_digit}
-use Rattle.gossip_delta.specs.ChangeLine.{BufferFields, buffer_fields, PostFields, post_fields, has_names, has_form, has_post_form, moment_of, named_moment, message_kind, is_folded_byte, is_folded, is_buffer, buffer_named, post_with, redaction_with, change_in, change_kind, or_bad_field, fields_change, kind_change, read_change}
+use Rattle.gossip_delta.specs.PostLine.{post_words}
+use Rattle.gossip_delta.specs.ChangeLine.{BufferFields, buffer_fields, has_names, has_form, named_moment, is_folded_byte, is_folded, is_buffer, buffer_named, redaction_with, change_in, change_kind, or_bad_field, fields_change, kind_change, read_change}
 use Rattle.chat_change.specs.Lawful.{IsLawfulRecord, IsLawfulChange}
-use Rattle.gossip_delta.specs.ChangeText.{buffer_words, post_words, moment_text, line_of}
+use Rattle.gossip_delta.specs.ChangeText.{buffer_words, moment_text, line_of}
 use Rattle.gossip_delta.specs.declared.fields.ChangeKind.{ChangeKind}
 use Rattle.gossip_delta.specs.declared.fields.ChangeKind.TheVariants as of_kind
 use Rattle.gossip_delta.proofs.TestLemmas.{both, text_is, name_has_no_space, name_is_filled, target_has_no_space, target_is_filled, id_has_no_space, id_is_filled}
-use Rattle.gossip_delta.proofs.NumberLemmas.{decimal_filled, decimal_no_space, decimal_last, decimal_digits, number_read}
+use Rattle.gossip_delta.proofs.NumberLemmas.{decimal_last, decimal_digits, moment_fits, moment_read}
 use Rattle.gossip_delta.proofs.WordsLemmas.{first_words, HaveNoSpace, words_cut, last_cut}
+use Rattle.gossip_delta.proofs.PostLineLemmas.{form_read, post_in_read}
 
 -- ---- lines by their words
 
@@ -98,16 +95,10 @@ module _ (b : Buffer) (lawful : IsLawfulBuffer b) (k : List ℕ) (bare : has_spa
 
 -- ---- moments
 
-small : (t : ℕ) → t ≤ greatest → t < 2 ^ 64
-small t h = omega (arith, h)
-
-moment_read : (t : ℕ) → t ≤ greatest → moment_of (decimal t) ≡ Some t
-moment_read t h = number_read t (small t h) greatest h
-
 no_star : (t : ℕ) → t ≤ greatest → is_text (decimal t) (codes "*") ≡ false
 no_star t h =
     elim (is_text (decimal t) (codes "*")) as (λ s. is_text (decimal t) (codes "*") ≡ s → s ≡ false) [
-      | true ↦ λ e. absurd (false≢true (ap (list_all is_digit) (sym (text_is (decimal t) (codes "*") e)) ∙ decimal_digits t (small t h)))
+      | true ↦ λ e. absurd (false≢true (ap (list_all is_digit) (sym (text_is (decimal t) (codes "*") e)) ∙ decimal_digits t (moment_fits t h)))
       | false ↦ λ _. refl
     ] refl
 
@@ -121,15 +112,15 @@ named_read (Some t) h = cond-false _ _ _ (no_star t h) ∙ ap (option_map Some) 
 
 named_last : (at : Option ℕ) → IsMoment at → is_last_word (moment_text at) ≡ true
 named_last None h = refl
-named_last (Some t) h = decimal_last t (small t h)
+named_last (Some t) h = decimal_last t (moment_fits t h)
 
 -- ---- each kind of change
 
 mark_read : (b : Buffer) (at : ℕ) → IsLawfulBuffer b → at ≤ greatest → read_change (line_of (Mark b at)) ≡ Ok (Mark b at)
-mark_read b at lawful h = reads b lawful (codes "MARK") refl [] (decimal at) of_kind.Mark (Mark b at) refl (decimal_last at (small at h)) (ap (option_map (Mark b)) (moment_read at h))
+mark_read b at lawful h = reads b lawful (codes "MARK") refl [] (decimal at) of_kind.Mark (Mark b at) refl (decimal_last at (moment_fits at h)) (ap (option_map (Mark b)) (moment_read at h))
 
 floor_read : (b : Buffer) (at : ℕ) → IsLawfulBuffer b → at ≤ greatest → read_change (line_of (Floor b at)) ≡ Ok (Floor b at)
-floor_read b at lawful h = reads b lawful (codes "FLOOR") refl [] (decimal at) of_kind.Floor (Floor b at) refl (decimal_last at (small at h)) (ap (option_map (Floor b)) (moment_read at h))
+floor_read b at lawful h = reads b lawful (codes "FLOOR") refl [] (decimal at) of_kind.Floor (Floor b at) refl (decimal_last at (moment_fits at h)) (ap (option_map (Floor b)) (moment_read at h))
 
 redaction_read : (b : Buffer) (m : List ℕ) (at : Option ℕ) → IsLawfulBuffer b → is_id m ≡ true → IsMoment at → read_change (line_of (Redact b m at)) ≡ Ok (Redact b m at)
 redaction_read b m at lawful id h =
@@ -143,47 +134,14 @@ redaction_read b m at lawful id h =
     (both (is_filled (word rest)) (is_last_word (behind rest)) (ap is_filled first ∙ id_is_filled m id) (ap is_last_word end ∙ named_last at h))
     ((λ i. redaction_with b (first i) (named_moment (end i))) ∙ ap (redaction_with b m) (named_read at h) ∙ cond-true _ _ _ id)
 
-kind_read : (k : Kind) → message_kind (kind_letter k ∷ []) ≡ Some k
-kind_read Privmsg = refl
-kind_read Notice = refl
-
-letter_bare : (k : Kind) → has_space (kind_letter k ∷ []) ≡ false
-letter_bare Privmsg = refl
-letter_bare Notice = refl
-
 post_read : (r : Record) → IsLawfulRecord r → read_change (line_of (Post r)) ≡ Ok (Post r)
 post_read r h =
-    let m = r.message in
-    let last = 58 ∷ m.body in
     let words = post_words r in
-    let rest = words_text words ++ last in
-    let fits = small r.at h.at in
-    let bare : HaveNoSpace words = (id_has_no_space r.id h.id, (decimal_no_space r.at fits, (letter_bare m.kind, (target_has_no_space m.target h.message.lawful_target, (id_has_no_space m.source h.message.lawful_source, tt))))) in
-    let all = words_cut last words [] bare in
-    let w0 : word rest ≡ r.id = cc all in
-    let w1 : word (behind rest) ≡ decimal r.at = cc all in
-    let w2 : word (behind (behind rest)) ≡ kind_letter m.kind ∷ [] = cc all in
-    let w3 : word (behind (behind (behind rest))) ≡ m.target = cc all in
-    let w4 : word (behind (behind (behind (behind rest)))) ≡ m.source = cc all in
-    let end : behind (behind (behind (behind (behind rest)))) ≡ last = last_cut last words [] bare in
-    let p : PostFields = record { id = r.id; at = decimal r.at; kind = kind_letter m.kind ∷ []; to = m.target; source = m.source; body = last } in
-    let fields : post_fields rest ≡ p = λ i. record { id = w0 i; at = w1 i; kind = w2 i; to = w3 i; source = w4 i; body = end i } in
-    let form : has_post_form p ≡ true =
-    both (is_filled p.id && is_filled p.at && is_filled p.kind && is_filled p.to && is_filled p.source) (begins_with 58 p.body)
-    (both (is_filled p.id && is_filled p.at && is_filled p.kind && is_filled p.to) (is_filled p.source)
-    (both (is_filled p.id && is_filled p.at && is_filled p.kind) (is_filled p.to)
-    (both (is_filled p.id && is_filled p.at) (is_filled p.kind)
-    (both (is_filled p.id) (is_filled p.at) (id_is_filled r.id h.id) (decimal_filled r.at fits))
-    refl)
-    (target_is_filled m.target h.message.lawful_target))
-    (id_is_filled m.source h.message.lawful_source))
-    refl in
-    let value : post_with r.buffer p (message_kind p.kind) (moment_of p.at) ≡ Some (Post r) =
-    (λ i. post_with r.buffer p (kind_read m.kind i) (moment_read r.at h.at i))
-    ∙ cond-true _ _ _ (both (is_id r.id) (is_message m) h.id ((is_message-lawful m).1 h.message)) in
-    reads r.buffer h.buffer (codes "POST") refl words last of_kind.Post (Post r) refl
-    (ap has_post_form fields ∙ form)
-    (ap (λ q. post_with r.buffer q (message_kind q.kind) (moment_of q.at)) fields ∙ value)
+    let last = 58 ∷ r.message.body in
+    elim (is_filled r.tags) as (λ t. is_filled r.tags ≡ t → read_change (words_text (buffer_words (cond t (codes "TPOST") (codes "POST")) r.buffer words) ++ last) ≡ Ok (Post r)) [
+      | true ↦ λ e. reads r.buffer h.buffer (codes "TPOST") refl words last of_kind.TaggedPost (Post r) refl (form_read r h true e) (ap (option_map Post) (post_in_read r h true e))
+      | false ↦ λ e. reads r.buffer h.buffer (codes "POST") refl words last of_kind.Post (Post r) refl (form_read r h false e) (ap (option_map Post) (post_in_read r h false e))
+    ] refl
 
 pub read_back : (c : Change) → IsLawfulChange c → read_change (line_of c) ≡ Ok c
 read_back (Post r) h = post_read r h

@@ -1,23 +1,18 @@
 -- A line that spells a change is the one line that is written for it, and the change's parts are lawful.
-use Rattle.std.proofs.Common.{◌≡◌, ℕ, ◌≤◌, Bool, true, false, ◌&&◌, cond, Option, Some, None, Result, Ok, Err, List, [], ◌∷◌, ◌++◌, codes, drop, refl, sym, ◌∙◌, ap, subst, arith, append_assoc}
+use Rattle.std.proofs.Common.{◌≡◌, ℕ, ◌≤◌, Bool, true, false, ◌&&◌, cond, Option, Some, None, Result, Ok, Err, List, [], ◌∷◌, ◌++◌, codes, refl, sym, ◌∙◌, ap, subst}
 use Rattle.std.specs.Prelude.{decimal, ◌≢◌, IfErr}
 use Rattle.std.specs.Char.{to_ascii_lowercase}
 use Rattle.std.specs.Option.{IfSome, option_map}
-use Rattle.std.proofs.lemmas.Bool.{false≢true, eqb-true}
-use Rattle.std.proofs.lemmas.Bool.Decides.{nat_tests}
-use Rattle.std.proofs.lemmas.List.Concat.{flat_map-append}
+use Rattle.std.proofs.lemmas.Bool.{eqb-true}
 use Rattle.irc_time.specs.Time.{greatest}
-use Rattle.chat_change.specs.Words.{is_name, is_target, is_id, begins_with, lower_case_of}
+use Rattle.chat_change.specs.Words.{is_name, is_target, is_id, lower_case_of}
 use Rattle.chat_change.specs.Buffer.{Buffer, IsLawfulBuffer}
-use Rattle.chat_change.specs.Faults.{is_message}
-use Rattle.chat_change.specs.Message.{kind_letter}
 use Rattle.chat_change.specs.declared.change.Change.{Change}
 use Rattle.chat_change.specs.declared.change.Change.TheVariants.{Post, Redact, Mark, Floor}
-use Rattle.chat_change.specs.declared.message.Kind.{Kind}
-use Rattle.chat_change.specs.declared.message.Kind.TheVariants.{Privmsg, Notice}
-use Rattle.chat_change.proofs.CallerLemmas.{is_message-lawful}
 use Rattle.gossip_delta.specs.Words.{is_text, is_filled, is_last_word, word, behind, words_text}
-use Rattle.gossip_delta.specs.ChangeLine.{BufferFields, buffer_fields, PostFields, post_fields, has_names, has_form, has_post_form, moment_of, named_moment, message_kind, is_folded_byte, is_folded, is_buffer, buffer_named, message_of, post_with, redaction_with, change_in, change_kind, or_bad_field, fields_change, kind_change, read_change}
+use Rattle.gossip_delta.specs.Number.{moment_of}
+use Rattle.gossip_delta.specs.PostLine.{post_fields, has_post_form, post_in, post_word, post_words}
+use Rattle.gossip_delta.specs.ChangeLine.{BufferFields, buffer_fields, has_names, has_form, named_moment, is_folded_byte, is_folded, is_buffer, buffer_named, redaction_with, change_in, change_kind, or_bad_field, fields_change, kind_change, read_change}
 use Rattle.chat_change.specs.Lawful.{IsLawfulChange}
 use Rattle.gossip_delta.specs.ChangeText.{buffer_words, moment_text, line_of}
 use Rattle.gossip_delta.specs.declared.fault.ChangeLineFault.{ChangeLineFault}
@@ -25,8 +20,9 @@ use Rattle.gossip_delta.specs.declared.fault.ChangeLineFault.TheVariants.{BadFor
 use Rattle.gossip_delta.specs.declared.fields.ChangeKind.{ChangeKind}
 use Rattle.gossip_delta.specs.declared.fields.ChangeKind.TheVariants as of_kind
 use Rattle.gossip_delta.proofs.TestLemmas.{left, right, text_is}
-use Rattle.gossip_delta.proofs.NumberLemmas.{number_spelled}
-use Rattle.gossip_delta.proofs.WordsLemmas.{filled_words, words_rejoined}
+use Rattle.gossip_delta.proofs.NumberLemmas.{moment_is}
+use Rattle.gossip_delta.proofs.WordsLemmas.{filled_words, words_rejoined, words_more}
+use Rattle.gossip_delta.proofs.PostLineLemmas.{post_says}
 
 abbrev Line : Type 0
 Line = Result Change ChangeLineFault
@@ -72,6 +68,7 @@ line_says line c h =
 
 abbrev kind_word : ChangeKind → List ℕ
 kind_word of_kind.Post = codes "POST"
+kind_word of_kind.TaggedPost = codes "TPOST"
 kind_word of_kind.Redact = codes "REDACT"
 kind_word of_kind.Mark = codes "MARK"
 kind_word of_kind.Floor = codes "FLOOR"
@@ -87,9 +84,10 @@ found w v k kind more is others =
 kind_is : (w : List ℕ) (kind : ChangeKind) → change_kind w ≡ Some kind → w ≡ kind_word kind
 kind_is w kind h =
     found w (codes "POST") of_kind.Post kind _ refl
+    (found w (codes "TPOST") of_kind.TaggedPost kind _ refl
     (found w (codes "REDACT") of_kind.Redact kind _ refl
     (found w (codes "MARK") of_kind.Mark kind _ refl
-    (found w (codes "FLOOR") of_kind.Floor kind None refl (λ e. cc e)))) h
+    (found w (codes "FLOOR") of_kind.Floor kind None refl (λ e. cc e))))) h
 
 -- ---- buffers
 
@@ -119,9 +117,6 @@ module _ (b : BufferFields) (h : is_buffer b ≡ true) where
 
 -- ---- moments
 
-moment_is : (text : List ℕ) (t : ℕ) → moment_of text ≡ Some t → (t ≤ greatest) × (text ≡ decimal t)
-moment_is text t h = number_spelled greatest t text (omega arith) h
-
 mapped : {A B : Type 0} (f : A → B) (o : Option A) (b : B) → option_map f o ≡ Some b → (a : A) × (o ≡ Some a) × (f a ≡ b)
 mapped f None b h = cc
 mapped f (Some a) b h = (a, refl, cc h)
@@ -143,9 +138,6 @@ named_is text at =
 
 -- ---- the line of the words
 
-words_more : (ws more : List (List ℕ)) (last : List ℕ) → words_text ws ++ (words_text more ++ last) ≡ words_text (ws ++ more) ++ last
-words_more ws more last = sym (append_assoc (words_text ws) (words_text more) last) ∙ ap (λ l. l ++ last) (sym (flat_map-append (λ w. w ++ codes " ") ws more))
-
 module _ (line : List ℕ) (kind : ChangeKind) (first : word line ≡ codes "C") (second : word (behind line) ≡ kind_word kind) where
   abbrev fields : BufferFields
   fields = buffer_fields (behind (behind line))
@@ -166,40 +158,6 @@ redaction_is b m None c h = cc
 redaction_is b m (Some at) c h =
     let p = some_of (is_id m) (Some (Redact b m at)) c h in
     (at, refl, p.0, cc (p.1))
-
-abbrev post_of : Buffer → PostFields → Kind → ℕ → Change
-post_of b p kind at = Post (record { buffer = b; id = p.id; at = at; message = message_of p kind })
-
-record IsPost (b : Buffer) (p : PostFields) (k : Option Kind) (t : Option ℕ) (c : Change) : Type 0 where
-  sort : Kind
-  at : ℕ
-  sort_read : k ≡ Some sort
-  at_read : t ≡ Some at
-  id : is_id p.id ≡ true
-  message : is_message (message_of p sort) ≡ true
-  made : post_of b p sort at ≡ c
-
-post_is : (b : Buffer) (p : PostFields) (k : Option Kind) (t : Option ℕ) (c : Change) → post_with b p k t ≡ Some c → IsPost b p k t c
-post_is b p None t c h = cc
-post_is b p (Some k) None c h = cc
-post_is b p (Some k) (Some at) c h =
-    let q = some_of (is_id p.id && is_message (message_of p k)) (Some (post_of b p k at)) c h in
-    let made : post_of b p k at ≡ c = cc (q.1) in
-    record { sort = k; at = at; sort_read = refl; at_read = refl; id = left (is_id p.id) _ q.0; message = right (is_id p.id) (is_message (message_of p k)) q.0; made = made }
-
-letter_is : (text : List ℕ) (k : Kind) → message_kind text ≡ Some k → text ≡ kind_letter k ∷ []
-letter_is text k =
-    elim (is_text text (codes "P")) as (λ s. is_text text (codes "P") ≡ s → cond s (Some Privmsg) (cond (is_text text (codes "N")) (Some Notice) None) ≡ Some k → text ≡ kind_letter k ∷ []) [
-      | true ↦ λ s h. let same : Privmsg ≡ k = cc h in text_is text (codes "P") s ∙ ap (λ j. kind_letter j ∷ []) same
-      | false ↦ λ _. elim (is_text text (codes "N")) as (λ s. is_text text (codes "N") ≡ s → cond s (Some Notice) None ≡ Some k → text ≡ kind_letter k ∷ []) [
-        | true ↦ λ s h. let same : Notice ≡ k = cc h in text_is text (codes "N") s ∙ ap (λ j. kind_letter j ∷ []) same
-        | false ↦ λ _ h. cc h
-      ] refl
-    ] refl
-
-colon_first : (body : List ℕ) → begins_with 58 body ≡ true → (body ≡ 58 ∷ drop 1 body) × (is_filled body ≡ true)
-colon_first [] h = absurd (false≢true h)
-colon_first (b ∷ body) h = (ap (λ x. x ∷ body) (eqb-true b 58 h), grind (arith, nat_tests))
 
 module _ (line : List ℕ) (first : word line ≡ codes "C") where
   abbrev names : BufferFields
@@ -238,28 +196,27 @@ module _ (line : List ℕ) (first : word line ≡ codes "C") where
         (lawful_names names h.lawful, v.2, t.0),
       )
 
-  post_spelled : word (behind line) ≡ codes "POST" → (c : Change) → SaysFields of_kind.Post names c → IsSpelled c
-  post_spelled second c h =
-      let p = post_fields names.rest in
-      let form = right (has_names names) (has_post_form p) h.form in
-      let body = colon_first p.body (right _ (begins_with 58 p.body) form) in
-      let v = post_is (buffer_named names) p (message_kind p.kind) (moment_of p.at) c h.value in
-      let t = moment_is p.at v.at v.at_read in
-      let letter = letter_is p.kind v.sort v.sort_read in
-      let at_is = t.1 in
-      let body_is = body.0 in
-      subst IsSpelled v.made (
-        begins line of_kind.Post first second h.lawful (filled_words 5 names.rest body.1)
-            (p.id ∷ decimal v.at ∷ (kind_letter v.sort ∷ []) ∷ p.to ∷ p.source ∷ []) (58 ∷ drop 1 p.body)
-            (sym (words_rejoined 5 names.rest body.1) ∙ (λ i. words_text (p.id ∷ at_is i ∷ letter i ∷ p.to ∷ p.source ∷ []) ++ body_is i)),
-        record { buffer = lawful_names names h.lawful; id = v.id; at = t.0; message = (is_message-lawful (message_of p v.sort)).0 v.message },
+  -- a post whose line's second word says whether it has tags
+  post_spelled : (is_tagged : Bool) (kind : ChangeKind) → word (behind line) ≡ kind_word kind → kind_word kind ≡ cond is_tagged (codes "TPOST") (codes "POST") → is_buffer names ≡ true
+      → has_post_form is_tagged (post_fields is_tagged names.rest) ≡ true → (c : Change) → option_map Post (post_in (buffer_named names) (post_fields is_tagged names.rest)) ≡ Some c → IsSpelled c
+  post_spelled is_tagged kind second second_is lawful form c value =
+      let v = mapped Post (post_in (buffer_named names) (post_fields is_tagged names.rest)) c value in
+      let r = v.0 in
+      let p = post_says is_tagged names.rest (buffer_named names) r form v.1 in
+      let second_tells : kind_word kind ≡ post_word r.tags = second_is ∙ ap (λ t. cond t (codes "TPOST") (codes "POST")) (sym p.is_tagged) in
+      let buffer_is = sym p.buffer in
+      subst IsSpelled v.2 (
+        begins line kind first second lawful p.filled (post_words r) (58 ∷ r.message.body) p.spelled
+            ∙ (λ i. words_text (buffer_words (second_tells i) (buffer_is i) (post_words r)) ++ (58 ∷ r.message.body)),
+        p.lawful (lawful_names names lawful),
       )
 
   spelled : (kind : ChangeKind) → word (behind line) ≡ kind_word kind → (c : Change) → SaysFields kind names c → IsSpelled c
-  spelled of_kind.Post = post_spelled
-  spelled of_kind.Redact = redaction_spelled
-  spelled of_kind.Mark = mark_spelled
-  spelled of_kind.Floor = floor_spelled
+  spelled of_kind.Post second c h = post_spelled false of_kind.Post second refl h.lawful (right (has_names names) _ h.form) c h.value
+  spelled of_kind.TaggedPost second c h = post_spelled true of_kind.TaggedPost second refl h.lawful (right (has_names names) _ h.form) c h.value
+  spelled of_kind.Redact second c h = redaction_spelled second c h
+  spelled of_kind.Mark second c h = mark_spelled second c h
+  spelled of_kind.Floor second c h = floor_spelled second c h
 
 pub one_spelling : (line : List ℕ) (c : Change) → read_change line ≡ Ok c → (line ≡ line_of c) × IsLawfulChange c
 one_spelling line c h =

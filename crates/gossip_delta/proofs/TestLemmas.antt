@@ -1,15 +1,17 @@
--- Tests that are true together, and texts without a space.
-use Rattle.std.proofs.Common.{◌≡◌, ℕ, Bool, true, false, not, ◌&&◌, ◌||◌, List, [], ◌∷◌, refl, sym, ◌∙◌, ap}
+-- Tests that are true together, and texts that are filled and have no space.
+use Rattle.std.proofs.Common.{◌≡◌, ℕ, ◌<◌, Bool, true, false, not, ◌&&◌, ◌||◌, List, [], ◌∷◌, length, refl, sym, ◌∙◌, ap, inl, inr, ⊎_elim, arith}
 use Rattle.std.specs.Prelude.{◌==◌}
 use Rattle.std.specs.Cmp.{Equal-is}
 use Rattle.std.specs.List.{list_any, list_all}
 use Rattle.std.proofs.lemmas.Bool.{false≢true, true≢false, eqb-true}
+use Rattle.std.proofs.lemmas.Bool.Decides.{nat_tests}
 use Rattle.chat_change.specs.Order.{text_cmp}
-use Rattle.chat_change.specs.Words.{is_name, is_target, is_id, is_name_byte, ends_line, ends_word, ends_target, has_length_to}
+use Rattle.chat_change.specs.Words.{is_name, is_target, is_id, is_tags, MayBeTags, is_name_byte, ends_line, ends_word, ends_target, has_length_to}
 use Rattle.chat_change.specs.Words as text
-use Rattle.chat_change.specs.declared.words.TheConstants.{NAME_LIMIT, TARGET_LIMIT, ID_LIMIT}
+use Rattle.chat_change.specs.declared.words.TheConstants.{NAME_LIMIT, TARGET_LIMIT, ID_LIMIT, TAGS_LIMIT}
 use Rattle.chat_change.proofs.CallerLemmas.{text_exact}
 use Rattle.gossip_delta.specs.Words.{is_text, is_space, has_space, is_filled}
+use Rattle.gossip_delta.specs.PostLine.{may_be_tags}
 
 pub both : (a b : Bool) → a ≡ true → b ≡ true → (a && b) ≡ true
 both true b p q = q
@@ -31,7 +33,7 @@ pub not_true : (a : Bool) → a ≡ false → not a ≡ true
 not_true true p = absurd (true≢false p)
 not_true false p = refl
 
-either : (a b : Bool) → b ≡ true → (a || b) ≡ true
+pub either : (a b : Bool) → b ≡ true → (a || b) ≡ true
 either true b p = refl
 either false b p = p
 
@@ -41,6 +43,15 @@ either_left false b p = absurd (false≢true p)
 
 pub text_is : (xs ys : List ℕ) → is_text xs ys ≡ true → xs ≡ ys
 text_is xs ys t = text_exact xs ys ((Equal-is (text_cmp xs ys)).0 t)
+
+-- ---- filled texts
+
+is_some : (b : ℕ) (t : List ℕ) → is_filled (b ∷ t) ≡ true
+is_some b t = let l : 0 < length (b ∷ t) = omega arith in grind (arith, nat_tests)
+
+pub unfilled : (t : List ℕ) → is_filled t ≡ false → t ≡ []
+unfilled [] h = refl
+unfilled (b ∷ t) h = absurd (true≢false (sym (is_some b t) ∙ h))
 
 -- ---- spaces
 
@@ -99,3 +110,22 @@ module _ (t : List ℕ) where
 
   pub id_is_filled : is_id t ≡ true → is_filled t ≡ true
   id_is_filled h = left (is_filled t) _ (left (has_length_to ID_LIMIT t) _ (id_parts h))
+
+  tags_parts : is_tags t ≡ true → (has_length_to TAGS_LIMIT t && not (list_any ends_word t)) ≡ true
+  tags_parts h = left (has_length_to TAGS_LIMIT t && not (list_any ends_word t)) _ h
+
+  some_tags_have_no_space : is_tags t ≡ true → has_space t ≡ false
+  some_tags_have_no_space h = no_space_in_none ends_word space_ends_word t (not_false (list_any ends_word t) (right (has_length_to TAGS_LIMIT t) _ (tags_parts h)))
+
+  pub tags_have_no_space : MayBeTags t → has_space t ≡ false
+  tags_have_no_space h = ⊎_elim (λ none. ap has_space none) some_tags_have_no_space h
+
+  pub tags_pass : MayBeTags t → may_be_tags t ≡ true
+  tags_pass h = ⊎_elim (λ none. ap may_be_tags none) (either (not (is_filled t)) (is_tags t)) h
+
+  pub tags_that_pass : may_be_tags t ≡ true → MayBeTags t
+  tags_that_pass h =
+      elim (is_filled t) as (λ f. is_filled t ≡ f → (not f || is_tags t) ≡ true → MayBeTags t) [
+        | true ↦ λ _ some. inr some
+        | false ↦ λ e _. inl (unfilled t e)
+      ] refl h

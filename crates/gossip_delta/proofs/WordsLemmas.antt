@@ -5,6 +5,7 @@ use Rattle.std.specs.List.{position_or_len, AllByRecursion}
 use Rattle.std.proofs.lemmas.Bool.{false≢true, true≢false}
 use Rattle.std.proofs.lemmas.Bool.Decides.{nat_tests}
 use Rattle.std.proofs.lemmas.List.{take_all, drop_all, length-drop}
+use Rattle.std.proofs.lemmas.List.Concat.{flat_map-append}
 use Rattle.gossip_delta.specs.Words.{is_space, has_space, is_filled, word, behind, words_text}
 
 -- ---- what a search for a space gives
@@ -97,10 +98,10 @@ abbrev pub HaveNoSpace : List (List ℕ) → Type 0
 HaveNoSpace ws = AllByRecursion (λ w. has_space w ≡ false) ws
 
 module _ (last : List ℕ) where
-  word_first : (w : List ℕ) (ws : List (List ℕ)) → has_space w ≡ false → word (words_text (w ∷ ws) ++ last) ≡ w
+  pub word_first : (w : List ℕ) (ws : List (List ℕ)) → has_space w ≡ false → word (words_text (w ∷ ws) ++ last) ≡ w
   word_first w ws h = ap word (append_assoc (w ++ codes " ") (words_text ws) last) ∙ word_of w (words_text ws ++ last) h
 
-  behind_first : (w : List ℕ) (ws : List (List ℕ)) → has_space w ≡ false → behind (words_text (w ∷ ws) ++ last) ≡ words_text ws ++ last
+  pub behind_first : (w : List ℕ) (ws : List (List ℕ)) → has_space w ≡ false → behind (words_text (w ∷ ws) ++ last) ≡ words_text ws ++ last
   behind_first w ws h = ap behind (append_assoc (w ++ codes " ") (words_text ws) last) ∙ behind_of w (words_text ws ++ last) h
 
   -- the first words of several are cut out, and leave the others
@@ -144,3 +145,7 @@ words_rejoined (suc n) line h =
     append_assoc (word line ++ codes " ") (words_text (first_words n (behind line))) (behind_words n (behind line))
     ∙ ap (λ l. (word line ++ codes " ") ++ l) (words_rejoined n (behind line) h)
     ∙ rejoined line (filled_words n (behind line) h)
+
+-- words before others, and then the last field
+pub words_more : (ws more : List (List ℕ)) (last : List ℕ) → words_text ws ++ (words_text more ++ last) ≡ words_text (ws ++ more) ++ last
+words_more ws more last = sym (append_assoc (words_text ws) (words_text more) last) ∙ ap (λ l. l ++ last) (sym (flat_map-append (λ w. w ++ codes " ") ws more))

@@ -1,27 +1,25 @@
 -- Lines that spell a change. Fields stand one space apart, and a line has no other spelling:
 --   C POST <account> <network> <target> <id> <ms> P|N <to-target> <source> :<body>
+--   C TPOST <account> <network> <target> <id> <ms> P|N <tags> <to-target> <source> :<body>
 --   C REDACT <account> <network> <target> <id> <ms>|*
 --   C MARK <account> <network> <target> <ms>
 --   C FLOOR <account> <network> <target> <ms>
--- The form of a line is wrong where its first word isn't `C`, its second is no kind of change, the number of fields is
--- another, a field other than the body is empty, or what stands behind a post's words doesn't begin with `:`. A line of
--- the right form has a wrong field where the maker of a buffer, an id or a record refuses it, the target isn't folded,
--- the kind is neither `P` nor `N`, or the moment isn't a number without leading zeros up to the greatest moment.
-use Rattle.std.specs.Prelude.{ℕ, Bool, ◌&&◌, ◌==◌, List, codes, drop, Option, None, Some, Result, Ok, Err, if◌then◌else◌}
+-- A post without tags has its line by `POST` alone, and one with tags by `TPOST`. The form of a line is wrong where its
+-- first word isn't `C`, its second is no kind of change, the number of fields is another, a field other than the body is
+-- empty, or what stands behind a post's words doesn't begin with `:`. A line of the right form has a wrong field where the
+-- maker of a buffer, an id or a record refuses it, the target isn't folded, the kind is neither `P` nor `N`, or the moment
+-- isn't a number without leading zeros up to the greatest moment.
+use Rattle.std.specs.Prelude.{ℕ, Bool, true, false, ◌&&◌, ◌==◌, List, codes, Option, None, Some, Result, Ok, Err, if◌then◌else◌}
 use Rattle.std.specs.List.{list_all}
 use Rattle.std.specs.Char.{to_ascii_lowercase}
 use Rattle.std.specs.Option.{option_map}
-use Rattle.irc_time.specs.Time.{greatest}
-use Rattle.chat_change.specs.Words.{is_name, is_target, is_id, begins_with}
+use Rattle.chat_change.specs.Words.{is_name, is_target, is_id}
 use Rattle.chat_change.specs.Buffer.{Buffer, buffer_of}
-use Rattle.chat_change.specs.Faults.{is_message}
-use Rattle.chat_change.specs.Message.{Message}
 use Rattle.chat_change.specs.declared.change.Change.{Change}
 use Rattle.chat_change.specs.declared.change.Change.TheVariants.{Post, Redact, Mark, Floor}
-use Rattle.chat_change.specs.declared.message.Kind.{Kind}
-use Rattle.chat_change.specs.declared.message.Kind.TheVariants.{Privmsg, Notice}
 use Rattle.gossip_delta.specs.Words.{is_text, is_filled, is_last_word, word, behind}
-use Rattle.gossip_delta.specs.Number.{number_to}
+use Rattle.gossip_delta.specs.Number.{moment_of}
+use Rattle.gossip_delta.specs.PostLine.{post_fields, has_post_form, post_in}
 use Rattle.gossip_delta.specs.declared.fault.ChangeLineFault.{ChangeLineFault}
 use Rattle.gossip_delta.specs.declared.fault.ChangeLineFault.TheVariants.{BadForm, BadField, NoMemory}
 use Rattle.gossip_delta.specs.declared.fields.ChangeKind.{ChangeKind}
@@ -44,56 +42,24 @@ buffer_fields bytes = record {
   rest = behind (behind (behind bytes));
 }
 
--- the words of a post behind its buffer, and what stands behind them: `:` and the body
-pub record PostFields : Type 0 where
-  pub id : List ℕ
-  pub at : List ℕ
-  pub kind : List ℕ
-  pub to : List ℕ
-  pub source : List ℕ
-  pub body : List ℕ
-
-abbrev pub post_fields : List ℕ → PostFields
-post_fields bytes = record {
-  id = word bytes;
-  at = word (behind bytes);
-  kind = word (behind (behind bytes));
-  to = word (behind (behind (behind bytes)));
-  source = word (behind (behind (behind (behind bytes))));
-  body = behind (behind (behind (behind (behind bytes))));
-}
-
 -- ---- forms
 
 abbrev pub has_names : BufferFields → Bool
 has_names b = is_filled b.account && is_filled b.network && is_filled b.target
 
-abbrev pub has_post_form : PostFields → Bool
-has_post_form p =
-    is_filled p.id && is_filled p.at && is_filled p.kind && is_filled p.to && is_filled p.source
-    && begins_with 58 p.body
-
 -- what stands behind the names has the form that the kind of change wants
 abbrev pub has_form : ChangeKind → List ℕ → Bool
-has_form kind.Post rest = has_post_form (post_fields rest)
+has_form kind.Post rest = has_post_form false (post_fields false rest)
+has_form kind.TaggedPost rest = has_post_form true (post_fields true rest)
 has_form kind.Redact rest = is_filled (word rest) && is_last_word (behind rest)
 has_form kind.Mark rest = is_last_word rest
 has_form kind.Floor rest = is_last_word rest
 
 -- ---- values
 
-abbrev pub moment_of : List ℕ → Option ℕ
-moment_of text = number_to greatest text
-
 -- the moment that a redaction names: `*` is none
 abbrev pub named_moment : List ℕ → Option (Option ℕ)
 named_moment text = if is_text text (codes "*") then Some None else option_map Some (moment_of text)
-
-abbrev pub message_kind : List ℕ → Option Kind
-message_kind text =
-    if is_text text (codes "P") then Some Privmsg
-    else if is_text text (codes "N") then Some Notice
-    else None
 
 abbrev pub is_folded_byte : ℕ → Bool
 is_folded_byte b = to_ascii_lowercase b == b
@@ -109,28 +75,14 @@ is_buffer b = is_name b.account && is_name b.network && is_target b.target && is
 abbrev pub buffer_named : BufferFields → Buffer
 buffer_named b = buffer_of b.account b.network b.target
 
-abbrev pub message_of : PostFields → Kind → Message
-message_of p kind = record { kind = kind; source = p.source; target = p.to; body = drop 1 p.body }
-
-abbrev pub if_lawful : Bool → Change → Option Change
-if_lawful lawful change = if lawful then Some change else None
-
-abbrev pub post_with : Buffer → PostFields → Option Kind → Option ℕ → Option Change
-post_with b p None at = None
-post_with b p (Some kind) None = None
-post_with b p (Some kind) (Some at) =
-    if_lawful (is_id p.id && is_message (message_of p kind))
-    (Post (record { buffer = b; id = p.id; at = at; message = message_of p kind }))
-
 abbrev pub redaction_with : Buffer → List ℕ → Option (Option ℕ) → Option Change
 redaction_with b id None = None
-redaction_with b id (Some at) = if_lawful (is_id id) (Redact b id at)
+redaction_with b id (Some at) = if is_id id then Some (Redact b id at) else None
 
 -- the change of that kind in a buffer that the fields behind its names say, if they are lawful
 abbrev pub change_in : ChangeKind → Buffer → List ℕ → Option Change
-change_in kind.Post b rest =
-    let p = post_fields rest in
-    post_with b p (message_kind p.kind) (moment_of p.at)
+change_in kind.Post b rest = option_map Post (post_in b (post_fields false rest))
+change_in kind.TaggedPost b rest = option_map Post (post_in b (post_fields true rest))
 change_in kind.Redact b rest = redaction_with b (word rest) (named_moment (behind rest))
 change_in kind.Mark b rest = option_map (Mark b) (moment_of rest)
 change_in kind.Floor b rest = option_map (Floor b) (moment_of rest)
@@ -140,6 +92,7 @@ change_in kind.Floor b rest = option_map (Floor b) (moment_of rest)
 abbrev pub change_kind : List ℕ → Option ChangeKind
 change_kind text =
     if is_text text (codes "POST") then Some kind.Post
+    else if is_text text (codes "TPOST") then Some kind.TaggedPost
     else if is_text text (codes "REDACT") then Some kind.Redact
     else if is_text text (codes "MARK") then Some kind.Mark
     else if is_text text (codes "FLOOR") then Some kind.Floor

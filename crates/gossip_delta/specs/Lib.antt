@@ -3,6 +3,7 @@
 -- lines that spell changes
 pub mod Words
 pub mod Number
+pub mod PostLine
 pub mod ChangeLine
 pub mod ChangeText
 -- deltas: who is up to date with whom, and what sources and takers hold
@@ -11,6 +12,5 @@ pub mod Growth
 -- ---- what only the proofs use of the code: what its values stand for
 
 pub mod BufferFields
-pub mod PostFields
 pub mod Reading
 pub mod Turn

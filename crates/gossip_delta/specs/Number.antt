@@ -1,6 +1,7 @@
--- Decimal numbers.
+-- Decimal numbers, and moments.
 use Rattle.std.specs.Prelude.{ℕ, ◌+◌, ◌*◌, ◌-◌, Bool, not, ◌&&◌, nat_lt, nat_le, List, [], ◌∷◌, length, Option, None, Some, if◌then◌else◌}
 use Rattle.std.specs.List.{list_all}
+use Rattle.irc_time.specs.Time.{greatest}
 use Rattle.chat_change.specs.Words.{begins_with}
 
 abbrev pub is_digit : ℕ → Bool
@@ -28,3 +29,7 @@ number_to most text =
     if is_digits text && not (has_leading_zero text) && nat_le (value text) most
     then Some (value text)
     else None
+
+-- the moment that a text spells
+abbrev pub moment_of : List ℕ → Option ℕ
+moment_of text = number_to greatest text

@@ -1,16 +1,17 @@
 //! Reading the line of a change.
 ghost use Rattle.std.specs.Prelude.{◌≡◌, true, Ok, IfOk, IfErr};
-ghost use Rattle.chat_change.specs.Message as parts;
 ghost use Rattle.chat_change.specs.declared.change.Change.TheVariants as change;
 ghost use Rattle.gossip_delta.specs.ChangeLine as spec;
 ghost use Rattle.gossip_delta.specs.BufferFields as fields;
+ghost use Rattle.gossip_delta.specs.PostLine.{record_of};
 ghost use Rattle.gossip_delta.specs.Reading.{change_of};
 
 use crate::fault::ChangeLineFault;
 use crate::fields::BufferFields;
+use crate::post_line::{PostParts, new_id, new_record};
 use crate::reading::{Reading, read_line};
 use byte_text::NoMemory;
-use chat_change::{Buffer, Change, Message, Moment, MsgId, Record};
+use chat_change::{Buffer, Change, Moment};
 use std::alloc::Global;
 
 // Whether these are the names of a buffer that is known.
@@ -59,55 +60,6 @@ fn buffer_for(
     }
 }
 
-fn new_id(alloc: Global, id: &[u8]) -> Result<MsgId, NoMemory>
-    ensures { IfOk result (λ made. made ≡ id.now) }
-{
-    match MsgId::new(alloc, id) {
-        Ok(made) => Ok(made),
-        Err(_) => Err(NoMemory),
-    }
-}
-
-fn new_record(
-    alloc: Global,
-    buffer: Buffer,
-    id: MsgId,
-    at: Moment,
-    message: Message<'_>,
-) -> Result<Change, NoMemory>
-    ensures { IfOk result (λ made. made ≡ change.Post (record {
-      buffer = buffer;
-      id = id;
-      at = at;
-      message = parts.value_of message.entry;
-    })) }
-{
-    match Record::new(alloc, buffer, id, at, message) {
-        Ok(post) => Ok(Change::Post(post)),
-        Err(_) => Err(NoMemory),
-    }
-}
-
-fn new_post(
-    alloc: Global,
-    buffer: Buffer,
-    id: &[u8],
-    at: Moment,
-    message: Message<'_>,
-) -> Result<Change, NoMemory>
-    ensures { IfOk result (λ made. made ≡ change.Post (record {
-      buffer = buffer;
-      id = id.now;
-      at = at;
-      message = parts.value_of message.entry;
-    })) }
-{
-    match new_id(alloc, id) {
-        Ok(id) => new_record(alloc, buffer, id, at, message),
-        Err(fault) => Err(fault),
-    }
-}
-
 fn new_redaction(
     alloc: Global,
     buffer: Buffer,
@@ -122,23 +74,26 @@ fn new_redaction(
     }
 }
 
+fn new_post(alloc: Global, buffer: Buffer, post: &PostParts<'_>) -> Result<Change, NoMemory>
+    ensures { IfOk result (λ made. made ≡ change.Post (record_of buffer post.now)) }
+{
+    match new_record(alloc, buffer, post) {
+        Ok(post) => Ok(Change::Post(post)),
+        Err(fault) => Err(fault),
+    }
+}
+
 fn post_for(
     alloc: Global,
     known: Option<&Buffer>,
     b: BufferFields<'_>,
-    id: &[u8],
-    at: Moment,
-    message: Message<'_>,
+    post: &PostParts<'_>,
 ) -> Result<Change, NoMemory>
-    ensures { IfOk result (λ made. made ≡ change.Post (record {
-      buffer = spec.buffer_named (fields.value_of b.entry);
-      id = id.now;
-      at = at;
-      message = parts.value_of message.entry;
-    })) }
+    ensures { IfOk result (λ made. made
+        ≡ change.Post (record_of (spec.buffer_named (fields.value_of b.entry)) post.now)) }
 {
     match buffer_for(alloc, known, b) {
-        Ok(buffer) => new_post(alloc, buffer, id, at, message),
+        Ok(buffer) => new_post(alloc, buffer, post),
         Err(fault) => Err(fault),
     }
 }
@@ -198,12 +153,7 @@ fn change_for(
     ensures { IfOk result (λ made. made ≡ change_of reading.now) }
 {
     match reading {
-        Reading::Post {
-            names,
-            id,
-            at,
-            message,
-        } => post_for(alloc, known, *names, id, *at, *message),
+        Reading::Post { names, post } => post_for(alloc, known, *names, post),
         Reading::Redact { names, id, at } => redaction_for(alloc, known, *names, id, *at),
         Reading::Mark { names, at } => mark_for(alloc, known, *names, *at),
         Reading::Floor { names, at } => floor_for(alloc, known, *names, *at),

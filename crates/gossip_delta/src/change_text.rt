@@ -9,69 +9,11 @@ ghost use Rattle.gossip_delta.specs.ChangeLine.{read_change};
 ghost use Rattle.gossip_delta.specs.ChangeText.{line_of, line_end, buffer_words};
 ghost use Rattle.chat_change.specs.Lawful.{IsLawfulRecord, IsLawfulChange};
 
-use byte_text::put;
-use chat_change::{Buffer, Change, Moment, MsgId, Record};
+use crate::post_line::put_post;
+use crate::words::put_line;
+use chat_change::{Buffer, Change, Moment, MsgId};
 use std::io;
 use std::io::Write;
-
-// Writes a word and the space behind it.
-fn put_word<W: Write>(writer: &mut W, word: &[u8]) -> io::Result<()>
-    ensures { Writes W.contents writer.old writer.new result (word.now ++ (32 ∷ [])) }
-{
-    put(writer, word)?;
-    put(writer, b" ")
-}
-
-fn put_words<W: Write>(writer: &mut W, words: &[&[u8]]) -> io::Result<()>
-    ensures { Writes W.contents writer.old writer.new result
-        (words_text (map (λ w. w.now) words.now)) }
-{
-    for word in words {
-        put_word(writer, word)?;
-    }
-    Ok(())
-}
-
-// Writes the last field behind its sign, and the end of the line.
-fn put_end<W: Write>(writer: &mut W, sign: &[u8], last: &[u8]) -> io::Result<()>
-    ensures { Writes W.contents writer.old writer.new result
-        (sign.now ++ (last.now ++ line_end)) }
-{
-    put(writer, sign)?;
-    put(writer, last)?;
-    put(writer, b"\r\n")
-}
-
-fn put_line<W: Write>(writer: &mut W, words: &[&[u8]], sign: &[u8], last: &[u8]) -> io::Result<()>
-    ensures { Writes W.contents writer.old writer.new result
-        ((words_text (map (λ w. w.now) words.now) ++ (sign.now ++ last.now)) ++ line_end) }
-{
-    put_words(writer, words)?;
-    put_end(writer, sign, last)
-}
-
-fn put_post<W: Write>(writer: &mut W, post: &Record) -> io::Result<()>
-    ensures text { Writes W.contents writer.old writer.new result
-        (line_of (change.Post post.now) ++ line_end) }
-    ensures lawful { IsLawfulRecord post.now }
-{
-    let mut digits = itoa::Buffer::new();
-    let buffer = post.buffer();
-    let message = post.message();
-    let words: [&[u8]; 10] = [
-        b"C",
-        b"POST",
-        buffer.account(),
-        buffer.network(),
-        buffer.target(),
-        post.id().as_bytes(),
-        digits.format(post.at().ms()).as_bytes(),
-        &[message.kind.letter()],
-        message.target,
-        message.source,
-    ];
-    put_line(writer, &words, b":", message.body)
-}
 
 fn put_redaction<W: Write>(
     writer: &mut W,

@@ -16,6 +16,7 @@ mod fault;
 mod fields;
 pub mod laws;
 mod number;
+mod post_line;
 mod reading;
 mod since;
 mod state;

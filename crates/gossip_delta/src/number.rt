@@ -1,9 +1,11 @@
-//! Decimal numbers in lines.
+//! Decimal numbers in lines, and moments.
 ghost use Rattle.std.specs.Prelude.{◌≡◌, ◌≤◌, ◌-◌, min};
 ghost use Rattle.std.specs.List.{list_all};
 ghost use Rattle.gossip_delta.specs.Number as spec;
 
 use crate::words::begins_with;
+use chat_change::Moment;
+use irc_time::GREATEST;
 
 fn is_digit(b: u8) -> bool
     ensures { result ≡ spec.is_digit b }
@@ -63,5 +65,15 @@ pub fn number_to(most: u64, text: &[u8]) -> Option<u64>
         Some(n as u64)
     } else {
         None
+    }
+}
+
+/// The moment that the text spells, as milliseconds after 1970 began.
+pub(crate) fn moment_of(text: &[u8]) -> Option<Moment>
+    ensures { result ≡ spec.moment_of text.now }
+{
+    match number_to(GREATEST, text) {
+        None => None,
+        Some(ms) => Moment::from_ms(ms),
     }
 }

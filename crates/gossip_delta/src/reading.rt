@@ -1,30 +1,25 @@
 //! What a line says, if it spells a change. No memory is taken: all of it is lent from the line.
-ghost use Rattle.std.specs.Prelude.{◌≡◌, drop, Some};
+ghost use Rattle.std.specs.Prelude.{◌≡◌};
 ghost use Rattle.std.specs.Option.{option_map};
-ghost use Rattle.chat_change.specs.Message as parts;
+ghost use Rattle.chat_change.specs.declared.change.Change.TheVariants as change;
 ghost use Rattle.gossip_delta.specs.ChangeLine as spec;
 ghost use Rattle.gossip_delta.specs.BufferFields as fields;
-ghost use Rattle.gossip_delta.specs.PostFields as post;
+ghost use Rattle.gossip_delta.specs.PostLine as post;
 ghost use Rattle.gossip_delta.specs.Reading.{change_of, change_or_fault};
 
 use crate::fault::ChangeLineFault;
-use crate::fields::{
-    BufferFields, ChangeKind, PostFields, buffer_fields, change_kind, has_form, has_names,
-    post_fields,
-};
-use crate::number::number_to;
+use crate::fields::{BufferFields, ChangeKind, buffer_fields, change_kind, has_form, has_names};
+use crate::number::moment_of;
+use crate::post_line::{PostFields, PostParts, post_fields, post_parts};
 use crate::words::{is_text, split_word};
-use chat_change::{Kind, Message, Moment, is_id, is_message, is_name, is_target};
-use irc_time::GREATEST;
+use chat_change::{Moment, is_id, is_name, is_target};
 
 /// What a line says of a buffer, whose target stands folded. Each part is lawful.
 #[derive(Clone, Copy)]
 pub(crate) enum Reading<'a> {
     Post {
         names: BufferFields<'a>,
-        id: &'a [u8],
-        at: Moment,
-        message: Message<'a>,
+        post: PostParts<'a>,
     },
     Redact {
         names: BufferFields<'a>,
@@ -41,15 +36,6 @@ pub(crate) enum Reading<'a> {
     },
 }
 
-fn moment_of(text: &[u8]) -> Option<Moment>
-    ensures { result ≡ spec.moment_of text.now }
-{
-    match number_to(GREATEST, text) {
-        None => None,
-        Some(ms) => Moment::from_ms(ms),
-    }
-}
-
 // The moment that a redaction names: `*` is none.
 fn named_moment(text: &[u8]) -> Option<Option<Moment>>
     ensures { result ≡ spec.named_moment text.now }
@@ -60,18 +46,6 @@ fn named_moment(text: &[u8]) -> Option<Option<Moment>>
     match moment_of(text) {
         None => None,
         Some(at) => Some(Some(at)),
-    }
-}
-
-fn message_kind(text: &[u8]) -> Option<Kind>
-    ensures { result ≡ spec.message_kind text.now }
-{
-    if is_text(text, b"P") {
-        Some(Kind::Privmsg)
-    } else if is_text(text, b"N") {
-        Some(Kind::Notice)
-    } else {
-        None
     }
 }
 
@@ -94,60 +68,13 @@ fn is_buffer(b: BufferFields<'_>) -> bool
     is_name(b.account) && is_name(b.network) && is_target(b.target) && is_folded(b.target)
 }
 
-// The body, which stands behind a colon.
-fn behind_colon(body: &[u8]) -> &[u8]
-    ensures { result.now ≡ drop 1 body.now }
-{
-    if body.is_empty() { body } else { &body[1..] }
-}
-
-fn message_of<'a>(p: PostFields<'a>, kind: Kind) -> Message<'a>
-    ensures { parts.value_of result ≡ spec.message_of (post.value_of p.entry) kind }
-{
-    Message {
-        kind,
-        source: p.source,
-        target: p.to,
-        body: behind_colon(p.body),
-    }
-}
-
-// The post of that kind and moment, if its id and its message are lawful.
-fn post_with<'a>(
-    names: BufferFields<'a>,
-    p: PostFields<'a>,
-    kind: Kind,
-    at: Moment,
-) -> Option<Reading<'a>>
-    ensures { option_map change_of result
-        ≡ spec.post_with (spec.buffer_named (fields.value_of names.entry))
-        (post.value_of p.entry) (Some kind) (Some at) }
-{
-    let message = message_of(p, kind);
-    if is_id(p.id) && is_message(message) {
-        Some(Reading::Post {
-            names,
-            id: p.id,
-            at,
-            message,
-        })
-    } else {
-        None
-    }
-}
-
 fn read_post<'a>(names: BufferFields<'a>, p: PostFields<'a>) -> Option<Reading<'a>>
-    ensures { option_map change_of result
-        ≡ spec.post_with (spec.buffer_named (fields.value_of names.entry))
-        (post.value_of p.entry) (spec.message_kind p.entry.kind.now)
-        (spec.moment_of p.entry.at.now) }
+    ensures { option_map change_of result ≡ option_map change.Post
+        (post.post_in (spec.buffer_named (fields.value_of names.entry)) (post.value_of p.entry)) }
 {
-    match message_kind(p.kind) {
+    match post_parts(p) {
         None => None,
-        Some(kind) => match moment_of(p.at) {
-            None => None,
-            Some(at) => post_with(names, p, kind, at),
-        },
+        Some(post) => Some(Reading::Post { names, post }),
     }
 }
 
@@ -194,7 +121,8 @@ fn read_values<'a>(kind: ChangeKind, names: BufferFields<'a>) -> Option<Reading<
         (spec.buffer_named (fields.value_of names.entry)) names.entry.rest.now }
 {
     match kind {
-        ChangeKind::Post => read_post(names, post_fields(names.rest)),
+        ChangeKind::Post => read_post(names, post_fields(false, names.rest)),
+        ChangeKind::TaggedPost => read_post(names, post_fields(true, names.rest)),
         ChangeKind::Redact => read_redaction(names),
         ChangeKind::Mark => read_mark(names),
         ChangeKind::Floor => read_floor(names),

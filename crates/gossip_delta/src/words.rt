@@ -1,9 +1,14 @@
 //! The words of a line, with one space behind each.
-ghost use Rattle.std.specs.Prelude.{◌≡◌};
+ghost use Rattle.std.specs.Prelude.{◌≡◌, ◌++◌, [], ◌∷◌, map};
+ghost use Rattle.byte_text.specs.Writes.{Writes};
 ghost use Rattle.chat_change.specs.Words as parts;
 ghost use Rattle.gossip_delta.specs.Words as spec;
+ghost use Rattle.gossip_delta.specs.Words.{words_text};
+ghost use Rattle.gossip_delta.specs.ChangeText.{line_end};
 
-use byte_text::find_byte;
+use byte_text::{find_byte, put};
+use std::io;
+use std::io::Write;
 
 /// Whether the text is that word, byte for byte.
 pub fn is_text(text: &[u8], word: &[u8]) -> bool
@@ -46,4 +51,46 @@ pub fn split_word(bytes: &[u8]) -> (&[u8], &[u8])
         Some(at) => (&bytes[..at], &bytes[at + 1..]),
         None => (bytes, &bytes[bytes.len()..]),
     }
+}
+
+// Writes a word and the space behind it.
+pub(crate) fn put_word<W: Write>(writer: &mut W, word: &[u8]) -> io::Result<()>
+    ensures { Writes W.contents writer.old writer.new result (word.now ++ (32 ∷ [])) }
+{
+    put(writer, word)?;
+    put(writer, b" ")
+}
+
+pub(crate) fn put_words<W: Write>(writer: &mut W, words: &[&[u8]]) -> io::Result<()>
+    ensures { Writes W.contents writer.old writer.new result
+        (words_text (map (λ w. w.now) words.now)) }
+{
+    for word in words {
+        put_word(writer, word)?;
+    }
+    Ok(())
+}
+
+// Writes the last field behind its sign, and the end of the line.
+fn put_end<W: Write>(writer: &mut W, sign: &[u8], last: &[u8]) -> io::Result<()>
+    ensures { Writes W.contents writer.old writer.new result
+        (sign.now ++ (last.now ++ line_end)) }
+{
+    put(writer, sign)?;
+    put(writer, last)?;
+    put(writer, b"\r\n")
+}
+
+// Writes words with one space behind each, the last field behind its sign, and the end of the line.
+pub(crate) fn put_line<W: Write>(
+    writer: &mut W,
+    words: &[&[u8]],
+    sign: &[u8],
+    last: &[u8],
+) -> io::Result<()>
+    ensures { Writes W.contents writer.old writer.new result
+        ((words_text (map (λ w. w.now) words.now) ++ (sign.now ++ last.now)) ++ line_end) }
+{
+    put_words(writer, words)?;
+    put_end(writer, sign, last)
 }

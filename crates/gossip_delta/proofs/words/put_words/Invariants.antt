@@ -1,7 +1,7 @@
 use Rattle.std.proofs.Common.{map, take}
 use Rattle.std.specs.Io.KnownBytes.{Appends}
 use Rattle.gossip_delta.specs.Words.{words_text}
-use Rattle.gossip_delta.proofs.change_text.put_words.Given as goal
+use Rattle.gossip_delta.proofs.words.put_words.Given as goal
 
 -- the words so far are written
 abbrev pub invariant-loop-word : goal.invariant-loop-word

@@ -5,7 +5,7 @@ use Rattle.std.proofs.lemmas.List.{take_more, map-append, take-append-drop}
 use Rattle.std.proofs.lemmas.List.Concat.{flat_map-append}
 use Rattle.byte_text.proofs.CallerLemmas.{prefix_of_first, prefix_of_second, writes_failed, prefix_same}
 use Rattle.gossip_delta.specs.Words.{words_text}
-use Rattle.gossip_delta.proofs.change_text.put_words.Goals as goal
+use Rattle.gossip_delta.proofs.words.put_words.Goals as goal
 
 abbrev text_of : List (Bor (List ℕ)) → List ℕ
 text_of ws = words_text (map (λ w. w.now) ws)

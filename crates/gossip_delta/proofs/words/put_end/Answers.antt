@@ -1,5 +1,5 @@
 use Rattle.byte_text.proofs.CallerLemmas.{prefix_of_first, prefix_of_second, writes_second, writes_failed}
-use Rattle.gossip_delta.proofs.change_text.put_end.Goals as goal
+use Rattle.gossip_delta.proofs.words.put_end.Goals as goal
 
 pub returns-in_err-put : goal.returns-in_err-put
 returns-in_err-put g c = writes_failed _ _ _ _ c.from_residual.result c.from_residual.ensures.1 (prefix_of_first _ _ _ _ c.in_err-put.ensures)

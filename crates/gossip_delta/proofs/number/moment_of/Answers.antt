@@ -4,7 +4,7 @@ use Rattle.std.proofs.lemmas.Bool.{false≢true}
 use Rattle.irc_time.specs.Time.{greatest}
 use Rattle.gossip_delta.specs.Number.{number_to}
 use Rattle.gossip_delta.proofs.NumberLemmas.{number_spelled}
-use Rattle.gossip_delta.proofs.reading.moment_of.Goals as goal
+use Rattle.gossip_delta.proofs.number.moment_of.Goals as goal
 
 some_is : (o : Option ℕ) (n : ℕ) → IsSome o → IfSome o (λ m. m ≡ n) → o ≡ Some n
 some_is None n h e = absurd (false≢true h)

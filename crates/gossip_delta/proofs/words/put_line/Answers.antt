@@ -1,7 +1,7 @@
 use Rattle.std.proofs.Common.{◌≡◌, ℕ, List, ◌++◌, sym, ap, ◌∙◌, append_assoc}
 use Rattle.byte_text.proofs.CallerLemmas.{prefix_of_first, prefix_same, writes_second, writes_failed, writes_same}
 use Rattle.gossip_delta.specs.ChangeText.{line_end}
-use Rattle.gossip_delta.proofs.change_text.put_line.Goals as goal
+use Rattle.gossip_delta.proofs.words.put_line.Goals as goal
 
 regroup : (words sign last : List ℕ) → words ++ (sign ++ (last ++ line_end)) ≡ (words ++ (sign ++ last)) ++ line_end
 regroup words sign last =

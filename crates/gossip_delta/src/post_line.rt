@@ -1,0 +1,272 @@
+//! The line of a post behind the names of its buffer: its fields as they are read, the parts of the post that they say, and
+//! its words as they are written. What a post has is spelled here alone.
+ghost use Rattle.std.specs.Prelude.{◌≡◌, ◌++◌, ◌∷◌, drop, Some, IfOk};
+ghost use Rattle.std.specs.Option.{option_map};
+ghost use Rattle.byte_text.specs.Writes.{Writes};
+ghost use Rattle.chat_change.specs.Buffer as buffer;
+ghost use Rattle.chat_change.specs.Lawful.{IsLawfulRecord};
+ghost use Rattle.chat_change.specs.Message as message;
+ghost use Rattle.chat_change.specs.declared.change.Change.TheVariants as change;
+ghost use Rattle.gossip_delta.specs.Words.{words_text};
+ghost use Rattle.gossip_delta.specs.PostLine as spec;
+ghost use Rattle.gossip_delta.specs.ChangeText.{line_of, line_end, buffer_words};
+
+use crate::number::moment_of;
+use crate::words::{begins_with, is_filled, is_text, put_line, put_word, put_words, split_word};
+use byte_text::NoMemory;
+use chat_change::{
+    Buffer, ChangeFault, Kind, Message, Moment, MsgId, Record, is_id, is_message, is_tags,
+};
+use std::alloc::Global;
+use std::io;
+use std::io::Write;
+
+/// The fields of a post behind its buffer. The body stands with its colon.
+#[derive(Clone, Copy)]
+pub(crate) struct PostFields<'a> {
+    id: &'a [u8],
+    at: &'a [u8],
+    kind: &'a [u8],
+    /// Nothing where the line has none.
+    tags: &'a [u8],
+    to: &'a [u8],
+    source: &'a [u8],
+    body: &'a [u8],
+}
+
+/// What a line says of a post. Each part is lawful.
+#[derive(Clone, Copy)]
+pub(crate) struct PostParts<'a> {
+    id: &'a [u8],
+    at: Moment,
+    /// Nothing where the post has none.
+    tags: &'a [u8],
+    message: Message<'a>,
+}
+
+// The tags, in a line that has some, and what stands behind them.
+fn split_tags(is_tagged: bool, bytes: &[u8]) -> (&[u8], &[u8])
+    ensures tags { result.0.now ≡ spec.tags_word is_tagged bytes.now }
+    ensures behind { result.1.now ≡ spec.behind_tags is_tagged bytes.now }
+{
+    if is_tagged {
+        split_word(bytes)
+    } else {
+        (b"", bytes)
+    }
+}
+
+/// The fields of a post, which has tags or none.
+pub(crate) fn post_fields<'a>(is_tagged: bool, bytes: &'a [u8]) -> PostFields<'a>
+    ensures { spec.value_of result ≡ spec.post_fields is_tagged bytes.now }
+{
+    let (id, rest) = split_word(bytes);
+    let (at, rest) = split_word(rest);
+    let (kind, rest) = split_word(rest);
+    let (tags, rest) = split_tags(is_tagged, rest);
+    let (to, rest) = split_word(rest);
+    let (source, body) = split_word(rest);
+    PostFields {
+        id,
+        at,
+        kind,
+        tags,
+        to,
+        source,
+        body,
+    }
+}
+
+/// Whether the fields of a post, which has tags or none, are all there.
+pub(crate) fn has_post_form(is_tagged: bool, p: PostFields<'_>) -> bool
+    ensures { result ≡ spec.has_post_form is_tagged (spec.value_of p.entry) }
+{
+    is_filled(p.id)
+        && is_filled(p.at)
+        && is_filled(p.kind)
+        && (!is_tagged || is_filled(p.tags))
+        && is_filled(p.to)
+        && is_filled(p.source)
+        && begins_with(b':', p.body)
+}
+
+fn message_kind(text: &[u8]) -> Option<Kind>
+    ensures { result ≡ spec.message_kind text.now }
+{
+    if is_text(text, b"P") {
+        Some(Kind::Privmsg)
+    } else if is_text(text, b"N") {
+        Some(Kind::Notice)
+    } else {
+        None
+    }
+}
+
+// The body, which stands behind a colon.
+fn behind_colon(body: &[u8]) -> &[u8]
+    ensures { result.now ≡ drop 1 body.now }
+{
+    if body.is_empty() { body } else { &body[1..] }
+}
+
+fn message_of<'a>(p: PostFields<'a>, kind: Kind) -> Message<'a>
+    ensures { message.value_of result ≡ spec.message_of (spec.value_of p.entry) kind }
+{
+    Message {
+        kind,
+        source: p.source,
+        target: p.to,
+        body: behind_colon(p.body),
+    }
+}
+
+fn may_be_tags(tags: &[u8]) -> bool
+    ensures { result ≡ spec.may_be_tags tags.now }
+{
+    !is_filled(tags) || is_tags(tags)
+}
+
+// The post of that kind and moment, if its id, its tags and its message are lawful.
+fn parts_with<'a>(p: PostFields<'a>, kind: Kind, at: Moment) -> Option<PostParts<'a>>
+    ensures { (b : buffer.Buffer) → option_map (spec.record_of b) result
+        ≡ spec.post_with b (spec.value_of p.entry) (Some kind) (Some at) }
+{
+    let message = message_of(p, kind);
+    if is_id(p.id) && may_be_tags(p.tags) && is_message(message) {
+        Some(PostParts {
+            id: p.id,
+            at,
+            tags: p.tags,
+            message,
+        })
+    } else {
+        None
+    }
+}
+
+/// The parts of the post that the fields say, if they are lawful.
+pub(crate) fn post_parts<'a>(p: PostFields<'a>) -> Option<PostParts<'a>>
+    ensures { (b : buffer.Buffer) → option_map (spec.record_of b) result
+        ≡ spec.post_in b (spec.value_of p.entry) }
+{
+    match message_kind(p.kind) {
+        None => None,
+        Some(kind) => match moment_of(p.at) {
+            None => None,
+            Some(at) => parts_with(p, kind, at),
+        },
+    }
+}
+
+/// The id of that text, which is one: its maker can only want memory.
+pub(crate) fn new_id(alloc: Global, id: &[u8]) -> Result<MsgId, NoMemory>
+    ensures { IfOk result (λ made. made ≡ id.now) }
+{
+    match MsgId::new(alloc, id) {
+        Ok(made) => Ok(made),
+        Err(_) => Err(NoMemory),
+    }
+}
+
+// The post of an id, with tags or none.
+fn record_with(
+    alloc: Global,
+    buffer: Buffer,
+    id: MsgId,
+    post: &PostParts<'_>,
+) -> Result<Record, ChangeFault>
+    ensures { IfOk result (λ made. made ≡ record {
+      buffer = buffer;
+      id = id;
+      at = post.now.at;
+      tags = post.now.tags.now;
+      message = message.value_of post.now.message;
+    }) }
+{
+    if post.tags.is_empty() {
+        Record::new(alloc, buffer, id, post.at, post.message)
+    } else {
+        Record::new_tagged(alloc, buffer, id, post.at, post.message, post.tags)
+    }
+}
+
+/// The post of the parts. Since they are lawful, its makers can only want memory.
+pub(crate) fn new_record(
+    alloc: Global,
+    buffer: Buffer,
+    post: &PostParts<'_>,
+) -> Result<Record, NoMemory>
+    ensures { IfOk result (λ made. made ≡ spec.record_of buffer post.now) }
+{
+    let id = new_id(alloc, post.id)?;
+    match record_with(alloc, buffer, id, post) {
+        Ok(record) => Ok(record),
+        Err(_) => Err(NoMemory),
+    }
+}
+
+// The second word of the line. As `'static` it could not stand in an array beside the other words.
+fn post_word(tags: &[u8]) -> &[u8]
+    ensures { result.now ≡ spec.post_word tags.now }
+{
+    if is_filled(tags) { b"TPOST" } else { b"POST" }
+}
+
+// Writes the tags as a word, if there are any.
+fn put_tags<W: Write>(writer: &mut W, tags: &[u8]) -> io::Result<()>
+    ensures { Writes W.contents writer.old writer.new result
+        (words_text (spec.tags_words tags.now)) }
+{
+    if is_filled(tags) {
+        put_word(writer, tags)
+    } else {
+        Ok(())
+    }
+}
+
+// Writes the words in front of the tags.
+fn put_front<W: Write>(writer: &mut W, post: &Record) -> io::Result<()>
+    ensures text { Writes W.contents writer.old writer.new result (words_text
+        (buffer_words (spec.post_word post.now.tags) post.now.buffer (spec.front_words post.now))) }
+    ensures lawful { IsLawfulRecord post.now }
+{
+    let mut digits = itoa::Buffer::new();
+    let buffer = post.buffer();
+    let message = post.message();
+    let words: [&[u8]; 8] = [
+        b"C",
+        post_word(post.tags()),
+        buffer.account(),
+        buffer.network(),
+        buffer.target(),
+        post.id().as_bytes(),
+        digits.format(post.at().ms()).as_bytes(),
+        &[message.kind.letter()],
+    ];
+    put_words(writer, &words)
+}
+
+// Writes the words behind the tags, the body, and the end of the line.
+fn put_back<W: Write>(writer: &mut W, post: &Record) -> io::Result<()>
+    ensures { Writes W.contents writer.old writer.new result ((words_text
+        (spec.back_words post.now) ++ (58 ∷ post.now.message.body)) ++ line_end) }
+{
+    let message = post.message();
+    put_line(
+        writer,
+        &[message.target, message.source],
+        b":",
+        message.body,
+    )
+}
+
+/// Writes the line of a post, and its end.
+pub(crate) fn put_post<W: Write>(writer: &mut W, post: &Record) -> io::Result<()>
+    ensures text { Writes W.contents writer.old writer.new result
+        (line_of (change.Post post.now) ++ line_end) }
+    ensures lawful { IsLawfulRecord post.now }
+{
+    put_front(writer, post)?;
+    put_tags(writer, post.tags())?;
+    put_back(writer, post)
+}
