@@ -1,6 +1,6 @@
 -- A line that is written has no NUL, CR or LF and is short enough, so that a stream is cut into the lines that were
 -- written into it.
-use Rattle.std.proofs.Common.{◌≡◌, ℕ, ◌+◌, ◌*◌, ◌^◌, ◌<◌, ◌≤◌, Bool, true, false, not, ◌&&◌, ◌||◌, Option, Some, None, List, [], ◌∷◌, ◌++◌, codes, map, length, refl, ap, ◌∙◌, arith, append_assoc, length-append, lit<, lit≤}
+use Rattle.std.proofs.Common.{◌≡◌, ℕ, ◌+◌, ◌*◌, ◌^◌, ◌<◌, ◌≤◌, inl, inr, sym, subst, cond, Bool, true, false, not, ◌&&◌, ◌||◌, Option, Some, None, List, [], ◌∷◌, ◌++◌, codes, map, length, refl, ap, ◌∙◌, arith, append_assoc, length-append, lit<, lit≤}
 use Rattle.std.specs.Prelude.{nat_lt, nat_le, ◌==◌, IfSome}
 use Rattle.std.specs.Fmt.{decimal}
 use Rattle.std.specs.List.{AllByRecursion, flat_map, list_any, list_all}
@@ -13,20 +13,22 @@ use Rattle.irc_line.specs.Line.{is_bad}
 use Rattle.irc_line.specs.Stream.{items, line, max_line}
 use Rattle.irc_line.specs.CanStand.{HasNoBadByte}
 use Rattle.irc_line.proofs.CallerLemmas.{bytes_cut, good_append}
-use Rattle.chat_change.specs.Words.{has_length_to, is_name_byte, ends_line, ends_word, ends_target, begins_with_colon, is_star, is_name, is_target, is_id}
+use Rattle.chat_change.specs.Words.{has_length_to, is_name_byte, ends_line, ends_word, ends_target, begins_with_colon, is_star, is_name, is_target, is_id, MayBeTags}
 use Rattle.chat_change.specs.Buffer.{Buffer, IsLawfulBuffer}
 use Rattle.chat_change.specs.Message.{Message, IsLawfulMessage, kind_letter, kind_word}
 use Rattle.chat_change.specs.Record.{Record}
 use Rattle.chat_change.specs.Lawful.{IsLawfulRecord, IsLawfulChange}
-use Rattle.chat_change.specs.declared.words.TheConstants.{NAME_LIMIT, TARGET_LIMIT, ID_LIMIT}
+use Rattle.chat_change.specs.declared.words.TheConstants.{NAME_LIMIT, TARGET_LIMIT, ID_LIMIT, TAGS_LIMIT}
 use Rattle.chat_change.specs.declared.message.TheConstants.{LINE_LIMIT}
 use Rattle.chat_change.specs.declared.message.Kind.{Kind}
 use Rattle.chat_change.specs.declared.message.Kind.TheVariants.{Privmsg, Notice}
 use Rattle.chat_change.specs.declared.change.Change as change
 use Rattle.chat_change.specs.declared.change.Change.TheVariants.{Post, Redact, Mark, Floor}
-use Rattle.gossip_delta.specs.Words.{words_text}
-use Rattle.gossip_delta.specs.ChangeText.{line_of as change_text, buffer_words, post_words, moment_text, line_end}
+use Rattle.gossip_delta.specs.Words.{is_filled, words_text}
+use Rattle.gossip_delta.specs.ChangeText.{line_of as change_text, buffer_words, moment_text, line_end}
+use Rattle.gossip_delta.specs.PostLine.{post_word, tags_words, back_words}
 use Rattle.peer_lines.specs.Names.{is_node_byte, is_node_name, is_shared_word}
+use Rattle.peer_lines.specs.Version.{number}
 use Rattle.peer_lines.specs.Life.{Life, Packet}
 use Rattle.peer_lines.specs.Spelling.{spaced, life_words, head_words, ack_words, text_of, IsLife, IsPeerLine, IsPacket, written, lines_of, packet_text}
 use Rattle.peer_lines.specs.declared.names.TheConstants.{NODE_NAME_LIMIT}
@@ -35,6 +37,7 @@ use Rattle.peer_lines.specs.declared.peer_line.PeerLine.{PeerLine}
 use Rattle.peer_lines.specs.declared.peer_line.PeerLine.TheVariants.{Word, Hello, Head, Change, Ack}
 use Rattle.peer_lines.proofs.WordLemmas.{all_but, name_is_word, shared_is_word, decimal_is_word}
 use Rattle.peer_lines.proofs.GatherLemmas.{packet_lines}
+use Rattle.peer_lines.proofs.NumberLemmas.{number_fits}
 
 -- ---- texts that may stand in a line
 
@@ -59,6 +62,15 @@ words_stand (w ∷ ws) all =
     let rest = words_stand ws all.1 in
     let here = stands-append 255 1 w (codes " ") all.0 (record { good = refl; short = lit≤ tt }) in
     let both = stands-append (255 + 1) (256 * length ws) (w ++ codes " ") (words_text ws) here rest in
+    record { good = both.good; short = (let s = both.short in omega arith) }
+
+-- words with a space behind each, in front of other text
+words_stand_before : (n : ℕ) (ws more : List (List ℕ)) → AllByRecursion (Stands 255) ws → Stands n (words_text more) → Stands (256 * length ws + n) (words_text (ws ++ more))
+words_stand_before n [] more all p = record { good = p.good; short = (let s = p.short in omega arith) }
+words_stand_before n (w ∷ ws) more all p =
+    let rest = words_stand_before n ws more all.1 p in
+    let here = stands-append 255 1 w (codes " ") all.0 (record { good = refl; short = lit≤ tt }) in
+    let both = stands-append (255 + 1) (256 * length ws + n) (w ++ codes " ") (words_text (ws ++ more)) here rest in
     record { good = both.good; short = (let s = both.short in omega arith) }
 
 -- words with a space between them
@@ -162,20 +174,51 @@ buffer_words_stand : (b : Buffer) (kind : List ℕ) (more : List (List ℕ)) →
     → AllByRecursion (Stands 255) (buffer_words kind b more)
 buffer_words_stand b kind more is k all = (record { good = refl; short = lit≤ tt }, (k, (name_stands b.account is.account, (name_stands b.network is.network, (target_stands b.target is.target, all)))))
 
-post_words_stand : (r : Record) → IsLawfulRecord r → AllByRecursion (Stands 255) (post_words r)
-post_words_stand r is = (
-  id_stands r.id is.id,
-  (
-    decimal_stands r.at (moment_fits r.at is.at),
-    (
-      letter_stands r.message.kind,
-      (target_stands r.message.target is.message.lawful_target, (id_stands r.message.source is.message.lawful_source, tt)),
-    ),
-  ),
-)
+tags_stand : (tags : List ℕ) → MayBeTags tags → Stands TAGS_LIMIT tags
+tags_stand tags may = elim may [
+  | inl e ↦ subst (Stands TAGS_LIMIT) (sym e) (record { good = refl; short = lit≤ tt })
+  | inr e ↦
+      let a = and_parts (has_length_to TAGS_LIMIT tags && not (list_any ends_word tags)) _ e in
+      let b = and_parts (has_length_to TAGS_LIMIT tags) (not (list_any ends_word tags)) a.0 in
+      record { good = word_good tags (not-true (list_any ends_word tags) b.1); short = short_to TAGS_LIMIT tags b.0 }
+]
+
+-- the tags, where there are some, in front of other words
+with_tags : (some : Bool) (tags : List ℕ) (more : List (List ℕ)) (n : ℕ) → Stands TAGS_LIMIT tags → Stands n (words_text more)
+    → Stands (TAGS_LIMIT + 1 + n) (words_text (cond some (tags ∷ []) [] ++ more))
+with_tags false tags more n t p = stands_to n (TAGS_LIMIT + 1 + n) (words_text more) (omega arith) p
+with_tags true tags more n t p =
+    let here = stands-append TAGS_LIMIT 1 tags (codes " ") t (record { good = refl; short = lit≤ tt }) in
+    stands-append (TAGS_LIMIT + 1) n (tags ++ codes " ") (words_text more) here p
+
+back_stands : (r : Record) → IsLawfulRecord r → Stands 512 (words_text (back_words r))
+back_stands r is = words_stand (back_words r) (target_stands r.message.target is.message.lawful_target, (id_stands r.message.source is.message.lawful_source, tt))
+
+post_word_stands : (some : Bool) → Stands 255 (cond some (codes "TPOST") (codes "POST"))
+post_word_stands true = record { good = refl; short = lit≤ tt }
+post_word_stands false = record { good = refl; short = lit≤ tt }
+
+-- the words up to the kind, which stand in front of the tags
+abbrev pub front_of : Record → List (List ℕ)
+front_of r = buffer_words (post_word r.tags) r.buffer (r.id ∷ decimal r.at ∷ (kind_letter r.message.kind ∷ []) ∷ [])
+
+front_stands : (r : Record) → IsLawfulRecord r → AllByRecursion (Stands 255) (front_of r)
+front_stands r is =
+    buffer_words_stand r.buffer (post_word r.tags) (r.id ∷ decimal r.at ∷ (kind_letter r.message.kind ∷ []) ∷ []) is.buffer
+    (post_word_stands (is_filled r.tags))
+    (id_stands r.id is.id, (decimal_stands r.at (moment_fits r.at is.at), (letter_stands r.message.kind, tt)))
 
 body_stands : (m : Message) → IsLawfulMessage m → Stands 511 (58 ∷ m.body)
 body_stands m is = record { good = not-true (list_any ends_line m.body) is.lawful_body; short = (let l = body_short m is in omega arith) }
+
+post_stands : (r : Record) → IsLawfulRecord r → Stands 8000 (change_text (Post r))
+post_stands r is =
+    let more = tags_words r.tags ++ back_words r in
+    let rest = with_tags (is_filled r.tags) r.tags (back_words r) 512 (tags_stand r.tags is.tags) (back_stands r is) in
+    let words = words_stand_before (TAGS_LIMIT + 1 + 512) (front_of r) more (front_stands r is) rest in
+    let most = 256 * length (front_of r) + (TAGS_LIMIT + 1 + 512) in
+    stands_to (most + 511) 8000 (change_text (Post r)) (lit≤ tt)
+    (stands-append most 511 (words_text (front_of r ++ more)) (58 ∷ r.message.body) words (body_stands r.message is.message))
 
 -- the words of a line, and what stands behind them
 line_stands : (ws : List (List ℕ)) (last : List ℕ) → length ws ≤ 10 → AllByRecursion (Stands 255) ws → Stands 511 last → Stands 8000 (words_text ws ++ last)
@@ -183,10 +226,7 @@ line_stands ws last l all p =
     stands_to (256 * length ws + 511) 8000 (words_text ws ++ last) (omega arith) (stands-append (256 * length ws) 511 (words_text ws) last (words_stand ws all) p)
 
 change_stands : (c : change.Change) → IsLawfulChange c → Stands 8000 (change_text c)
-change_stands (Post r) is =
-    line_stands (buffer_words (codes "POST") r.buffer (post_words r)) (58 ∷ r.message.body) (lit≤ tt)
-    (buffer_words_stand r.buffer (codes "POST") (post_words r) is.buffer (record { good = refl; short = lit≤ tt }) (post_words_stand r is))
-    (body_stands r.message is.message)
+change_stands (Post r) is = post_stands r is
 change_stands (Redact b m at) is =
     line_stands (buffer_words (codes "REDACT") b (m ∷ [])) (moment_text at) (lit≤ tt)
     (buffer_words_stand b (codes "REDACT") (m ∷ []) is.0 (record { good = refl; short = lit≤ tt }) (id_stands m is.1, tt))
@@ -213,7 +253,9 @@ letter b e = record { good = ap (λ t. t || false) e; short = omega arith }
 
 text_stands : (l : PeerLine) → IsPeerLine l → Stands 8000 (text_of l)
 text_stands (Word word) is = few_stand (codes "W" ∷ word ∷ []) (lit≤ tt) (letter 87 refl, (shared_stands word is, tt))
-text_stands (Hello life) is = few_stand (codes "H" ∷ codes "1" ∷ life_words life []) (lit≤ tt) (letter 72 refl, (letter 49 refl, life_stands life [] is tt))
+text_stands (Hello life version) is =
+    few_stand (codes "H" ∷ decimal (number version) ∷ life_words life []) (lit≤ tt)
+    (letter 72 refl, (decimal_stands (number version) (number_fits version), life_stands life [] is tt))
 text_stands (Head head) is =
     let rising = is.rising in
     let number = is.number in

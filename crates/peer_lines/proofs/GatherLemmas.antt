@@ -89,12 +89,12 @@ grown_answers h changes f =
 
 pub refusal_empties : (g : Gather) (l : PeerLine) (f : LinkFault) → (pushed g l).answer ≡ Err f → (pushed g l).gather ≡ None
 refusal_empties None (Word word) f e = refl
-refusal_empties None (Hello life) f e = refl
+refusal_empties None (Hello life version) f e = refl
 refusal_empties None (Head head) f e = (cc)
 refusal_empties None (Change c) f e = refl
 refusal_empties None (Ack ack) f e = refl
 refusal_empties (Some g) (Word word) f e = refl
-refusal_empties (Some g) (Hello life) f e = refl
+refusal_empties (Some g) (Hello life version) f e = refl
 refusal_empties (Some g) (Head head) f e = refl
 refusal_empties (Some g) (Change c) f e = grown_answers g.head (g.changes ++ c ∷ []) f e
 refusal_empties (Some g) (Ack ack) f e = refl

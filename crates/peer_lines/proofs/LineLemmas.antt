@@ -4,27 +4,30 @@ use Rattle.std.specs.Prelude.{nat_lt, nat_le, IsTrue, is_some, Result, Ok, Err}
 use Rattle.std.specs.Fmt.{decimal}
 use Rattle.std.specs.List.{list_any}
 use Rattle.std.specs.Option.{option_map}
-use Rattle.std.proofs.lemmas.Bool.{cond-true, lt-ltb, le-leb, ltb-true, leb-true}
+use Rattle.std.proofs.lemmas.Bool.{lt-ltb, le-leb, ltb-true, leb-true}
 use Rattle.chat_change.specs.declared.change.Change as change
 use Rattle.chat_change.specs.declared.change.Change.TheVariants as change_kind
 use Rattle.gossip_delta.specs.ChangeLine.{read_change}
-use Rattle.gossip_delta.specs.ChangeText.{line_of as change_text, post_words, moment_text}
+use Rattle.gossip_delta.specs.ChangeText.{line_of as change_text, moment_text}
+use Rattle.gossip_delta.specs.PostLine.{post_word, post_words}
 use Rattle.gossip_delta.specs.Words.{is_space, word, behind, words_text}
 use Rattle.gossip_delta.specs.declared.fault.ChangeLineFault.{ChangeLineFault}
 use Rattle.gossip_delta.proofs.CallerLemmas.{read_back, one_spelling}
 use Rattle.peer_lines.specs.Names.{is_node_name, is_shared_word, same_name}
 use Rattle.peer_lines.specs.Life as parts
 use Rattle.peer_lines.specs.Life.{Life}
-use Rattle.peer_lines.specs.Reading.{number_of, life_of, life_at, behind_life, Span, span_of, span_at, word_at, hello_at, head_with, head_at, ack_with, ack_at}
+use Rattle.peer_lines.specs.Version.{number}
+use Rattle.peer_lines.specs.Reading.{number_of, version_of, life_of, life_at, behind_life, Span, span_of, span_at, word_at, hello_with, hello_at, head_with, head_at, ack_with, ack_at}
 use Rattle.peer_lines.specs.Spelling.{spaced, life_words, head_words, ack_words, text_of, IsLife, IsHead, IsAck, IsPeerLine, Spells}
-use Rattle.peer_lines.specs.LineReading.{IsReading, IsAnswer, change_or_none, change_at, line_of_kind, line_of}
+use Rattle.peer_lines.specs.LineReading.{IsReading, IsAnswer, change_or_none, change_at, hello_line, line_of_kind, line_of}
 use Rattle.peer_lines.specs.declared.packet.TheConstants.{PACKET_LIMIT}
 use Rattle.peer_lines.specs.declared.fault.LinkFault.{LinkFault}
 use Rattle.peer_lines.specs.declared.fault.LinkFault.TheVariants.{BadForm, WrongLife, AckTooHigh, NoMemory, NotTaken, NoEntry}
+use Rattle.peer_lines.specs.declared.version.Version.{Version}
 use Rattle.peer_lines.specs.declared.peer_line.PeerLine.{PeerLine}
 use Rattle.peer_lines.specs.declared.peer_line.PeerLine.TheVariants.{Word, Hello, Head, Change, Ack}
 use Rattle.peer_lines.proofs.NameLemmas.{same_name_is, both_true}
-use Rattle.peer_lines.proofs.NumberLemmas.{number_of-decimal, read_number}
+use Rattle.peer_lines.proofs.NumberLemmas.{number_of-decimal, read_number, number_fits, version_of-decimal, read_version}
 use Rattle.peer_lines.proofs.WordLemmas.{IsWord, no_space, name_is_word, shared_is_word, decimal_is_word, word_spaced, behind_spaced, spelled_by_words}
 
 -- ---- what is spelled is read
@@ -131,15 +134,19 @@ module _ (h : parts.Head) (is : IsHead h) where
       ap span_at (numbers_are_left h.sender h.receiver is.sender is.receiver rest) ∙ span_is_read in
       (λ i. head_with (sender_is_read h.sender h.receiver is.sender is.receiver rest i) (receiver_is_read h.sender h.receiver is.sender is.receiver rest i) (span i))
 
-hello_is_read : (l : Life) → IsLife l → hello_at (spaced (codes "1" ∷ life_words l [])) ≡ Some l
-hello_is_read l is =
+hello_is_read : (h : parts.Hello) → IsLife h.life → hello_at (spaced (decimal (number h.version) ∷ life_words h.life [])) ≡ Some h
+hello_is_read h is =
+    let l = h.life in
+    let digits = decimal (number h.version) in
     let rest = l.node ++ 32 ∷ decimal l.incarnation in
-    let version : word (codes "1" ++ 32 ∷ rest) ≡ codes "1" = word_spaced (codes "1") rest refl in
-    let left : behind (codes "1" ++ 32 ∷ rest) ≡ rest = behind_spaced (codes "1") rest refl in
-    let node : word (behind (codes "1" ++ 32 ∷ rest)) ≡ l.node = ap word left ∙ cut_word l.node (decimal l.incarnation) (name_is_word l.node is.node) in
-    let number : behind (behind (codes "1" ++ 32 ∷ rest)) ≡ decimal l.incarnation = ap behind left ∙ cut_behind l.node (decimal l.incarnation) (name_is_word l.node is.node) in
-    cond-true _ _ _ (ap (λ w. same_name w (codes "1")) version)
-    ∙ (λ i. life_of (node i) (number_of (number i))) ∙ life_of_own l is
+    let digits_are = decimal_is_word (number h.version) (number_fits h.version) in
+    let version : version_of (word (digits ++ 32 ∷ rest)) ≡ Some h.version = ap version_of (cut_word digits rest digits_are) ∙ version_of-decimal h.version in
+    let left : behind (digits ++ 32 ∷ rest) ≡ rest = cut_behind digits rest digits_are in
+    let node : word (behind (digits ++ 32 ∷ rest)) ≡ l.node = ap word left ∙ cut_word l.node (decimal l.incarnation) (name_is_word l.node is.node) in
+    let incarnation : behind (behind (digits ++ 32 ∷ rest)) ≡ decimal l.incarnation = ap behind left ∙ cut_behind l.node (decimal l.incarnation) (name_is_word l.node is.node) in
+    let life : life_of (word (behind (digits ++ 32 ∷ rest))) (number_of (behind (behind (digits ++ 32 ∷ rest)))) ≡ Some l =
+    (λ i. life_of (node i) (number_of (incarnation i))) ∙ life_of_own l is in
+    (λ i. hello_with (version i) (life i))
 
 -- a line of that first word
 of_first : (w rest : List ℕ) → list_any is_space w ≡ false → line_of (w ++ 32 ∷ rest) ≡ line_of_kind w (w ++ 32 ∷ rest) rest
@@ -148,7 +155,7 @@ of_first w rest e = (λ i. line_of_kind (word_spaced w rest e i) (w ++ 32 ∷ re
 -- the line of a change begins with its own word
 change_line : (c : change.Change) → (rest : List ℕ) × (change_text c ≡ codes "C" ++ 32 ∷ rest)
 change_line (change_kind.Post r) =
-    (words_text (codes "POST" ∷ r.buffer.account ∷ r.buffer.network ∷ r.buffer.target ∷ post_words r) ++ (58 ∷ r.message.body), refl)
+    (words_text (post_word r.tags ∷ r.buffer.account ∷ r.buffer.network ∷ r.buffer.target ∷ post_words r) ++ (58 ∷ r.message.body), refl)
 change_line (change_kind.Redact b m at) =
     (words_text (codes "REDACT" ∷ b.account ∷ b.network ∷ b.target ∷ m ∷ []) ++ moment_text at, refl)
 change_line (change_kind.Mark b at) =
@@ -158,7 +165,8 @@ change_line (change_kind.Floor b at) =
 
 pub line_is_read : (l : PeerLine) → IsPeerLine l → line_of (text_of l) ≡ Some l
 line_is_read (Word w) is = of_first (codes "W") w refl ∙ ap (λ b. option_map Word (cond b (Some w) None)) is
-line_is_read (Hello l) is = of_first (codes "H") (spaced (codes "1" ∷ life_words l [])) refl ∙ ap (option_map Hello) (hello_is_read l is)
+line_is_read (Hello l v) is =
+    of_first (codes "H") (spaced (decimal (number v) ∷ life_words l [])) refl ∙ ap (option_map hello_line) (hello_is_read (record { life = l; version = v }) is)
 line_is_read (Head h) is = of_first (codes "D") (spaced (head_words h)) refl ∙ ap (option_map Head) (head_is_read h is)
 line_is_read (Change c) is =
     let t = change_line c in
@@ -331,22 +339,28 @@ head_behind bytes h e =
       some = some_life bytes h.sender p.0 (some_life (behind_life bytes) h.receiver p.1 some);
     }
 
-hello_behind : (bytes : List ℕ) (l : Life) → hello_at bytes ≡ Some l → Behind bytes (spaced (codes "1" ∷ life_words l [])) (IsLife l)
-hello_behind bytes l =
-    elim (same_name (word bytes) (codes "1")) as (λ t. same_name (word bytes) (codes "1") ≡ t → cond t (life_of (word (behind bytes)) (number_of (behind (behind bytes)))) None ≡ Some l → Behind bytes (spaced (codes "1" ∷ life_words l [])) (IsLife l)) [
-      | true ↦ λ t e. (
-          let version = same_name_is (word bytes) (codes "1") t in
-          let p = life_text (word (behind bytes)) (number_of (behind (behind bytes))) l e in
-          let number = number_stands_last (behind (behind bytes)) l.incarnation p.1 in
-          let text : l.node ++ 32 ∷ decimal l.incarnation ≡ behind bytes = (λ i. sym p.0 i ++ 32 ∷ number.0 i) ∙ spelled_by_words (behind bytes) number.2 in
-          let size = length-append l.node (32 ∷ decimal l.incarnation) in
-          let same = ap length text in
-          let some : 0 < length (behind bytes) = omega arith in
-          let stands : spaced (codes "1" ∷ life_words l []) ≡ bytes = (λ i. sym version i ++ 32 ∷ text i) ∙ spelled_by_words bytes some in
-          let all = ap length stands in
-          record { lawful = record { node = p.2; incarnation = number.1 }; stands = stands; some = omega arith })
-      | false ↦ λ t e. absurd (none_some l e)
-    ] refl
+hello_parts : (v : Option Version) (l : Option Life) (h : parts.Hello) → hello_with v l ≡ Some h → (v ≡ Some h.version) × (l ≡ Some h.life)
+hello_parts None l h e = absurd (none_some h e)
+hello_parts (Some v) None h e = absurd (none_some h e)
+hello_parts (Some v) (Some l) h e =
+    let own : record { life = l; version = v } ≡ h = some_same _ _ e in
+    (ap (λ (x : parts.Hello). Some x.version) own, ap (λ (x : parts.Hello). Some x.life) own)
+
+hello_behind : (bytes : List ℕ) (h : parts.Hello) → hello_at bytes ≡ Some h → Behind bytes (spaced (decimal (number h.version) ∷ life_words h.life [])) (IsLife h.life)
+hello_behind bytes h e =
+    let l = h.life in
+    let parts = hello_parts (version_of (word bytes)) (life_of (word (behind bytes)) (number_of (behind (behind bytes)))) h e in
+    let version = read_version (word bytes) h.version parts.0 in
+    let p = life_text (word (behind bytes)) (number_of (behind (behind bytes))) l parts.1 in
+    let number_last = number_stands_last (behind (behind bytes)) l.incarnation p.1 in
+    let text : l.node ++ 32 ∷ decimal l.incarnation ≡ behind bytes = (λ i. sym p.0 i ++ 32 ∷ number_last.0 i) ∙ spelled_by_words (behind bytes) number_last.2 in
+    let size = length-append l.node (32 ∷ decimal l.incarnation) in
+    let same = ap length text in
+    let some : 0 < length (behind bytes) = omega arith in
+    let stands : spaced (decimal (number h.version) ∷ life_words l []) ≡ bytes = (λ i. version i ++ 32 ∷ text i) ∙ spelled_by_words bytes some in
+    let all = ap length stands in
+    let whole = length-append (decimal (number h.version)) (32 ∷ (l.node ++ 32 ∷ decimal l.incarnation)) in
+    record { lawful = record { node = p.2; incarnation = number_last.1 }; stands = stands; some = omega arith }
 
 word_behind : (bytes w : List ℕ) → word_at bytes ≡ Some w → Behind bytes w (is_shared_word w ≡ true)
 word_behind bytes w =
@@ -390,15 +404,15 @@ abbrev without_hello : List ℕ → Option PeerLine
 without_hello bytes = cond (same_name (word bytes) (codes "D")) (option_map Head (head_at (behind bytes))) (without_head bytes)
 
 abbrev without_word : List ℕ → Option PeerLine
-without_word bytes = cond (same_name (word bytes) (codes "H")) (option_map Hello (hello_at (behind bytes))) (without_hello bytes)
+without_word bytes = cond (same_name (word bytes) (codes "H")) (option_map hello_line (hello_at (behind bytes))) (without_hello bytes)
 
 pub line_was_spelled : (bytes : List ℕ) (l : PeerLine) → line_of bytes ≡ Some l → Spells bytes l
 line_was_spelled bytes l =
     elim (same_name (word bytes) (codes "W")) as (λ t. same_name (word bytes) (codes "W") ≡ t → cond t (option_map Word (word_at (behind bytes))) (without_word bytes) ≡ Some l → Spells bytes l) [
       | true ↦ λ t. spelled_behind Word word_at (λ w. w) (λ w. is_shared_word w ≡ true) (codes "W") (λ w. refl) (λ w p. p) word_behind bytes l t
       | false ↦ λ _.
-          elim (same_name (word bytes) (codes "H")) as (λ t. same_name (word bytes) (codes "H") ≡ t → cond t (option_map Hello (hello_at (behind bytes))) (without_hello bytes) ≡ Some l → Spells bytes l) [
-            | true ↦ λ t. spelled_behind Hello hello_at (λ x. spaced (codes "1" ∷ life_words x [])) IsLife (codes "H") (λ x. refl) (λ x p. p) hello_behind bytes l t
+          elim (same_name (word bytes) (codes "H")) as (λ t. same_name (word bytes) (codes "H") ≡ t → cond t (option_map hello_line (hello_at (behind bytes))) (without_hello bytes) ≡ Some l → Spells bytes l) [
+            | true ↦ λ t. spelled_behind hello_line hello_at (λ (h : parts.Hello). spaced (decimal (number h.version) ∷ life_words h.life [])) (λ (h : parts.Hello). IsLife h.life) (codes "H") (λ x. refl) (λ x p. p) hello_behind bytes l t
             | false ↦ λ _.
                 elim (same_name (word bytes) (codes "D")) as (λ t. same_name (word bytes) (codes "D") ≡ t → cond t (option_map Head (head_at (behind bytes))) (without_head bytes) ≡ Some l → Spells bytes l) [
                   | true ↦ λ t. spelled_behind Head head_at (λ h. spaced (head_words h)) IsHead (codes "D") (λ x. refl) (λ x p. p) head_behind bytes l t

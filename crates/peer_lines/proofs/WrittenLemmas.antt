@@ -3,10 +3,12 @@ use Rattle.std.proofs.Common.{◌≡◌, ℕ, List, ◌++◌, codes, append_asso
 use Rattle.std.specs.List.{flat_map}
 use Rattle.chat_change.specs.declared.change.Change.{Change as Piece}
 use Rattle.gossip_delta.specs.ChangeText.{line_end}
+use Rattle.peer_lines.specs.Version.{number}
 use Rattle.peer_lines.specs.Life as parts
 use Rattle.peer_lines.specs.Life.{Life, Packet, head_of}
 use Rattle.peer_lines.specs.Spelling.{written, packet_text}
 use Rattle.peer_lines.specs.WrittenParts.{number_text, life_text, lives_text, numbers_text}
+use Rattle.peer_lines.specs.declared.version.Version.{Version}
 use Rattle.peer_lines.specs.declared.peer_line.PeerLine.TheVariants.{Hello, Head, Change, Ack}
 
 pub life_parts : (l : Life) (name : List ℕ) (n : ℕ) → name ≡ l.node → n ≡ l.incarnation → codes " " ++ (name ++ number_text n) ≡ life_text l
@@ -26,8 +28,11 @@ own_ack a = simp append_assoc
 pub ack_parts : (a : parts.Ack) (s r : Life) (n : ℕ) → s ≡ a.sender → r ≡ a.receiver → n ≡ a.upto → lives_text (codes "A") s r ++ (number_text n ++ line_end) ≡ written (Ack a)
 ack_parts a s r n e f g = (λ i. lives_text (codes "A") (e i) (f i) ++ (number_text (g i) ++ line_end)) ∙ own_ack a
 
-pub hello_parts : (l : Life) → codes "H 1" ++ (life_text l ++ line_end) ≡ written (Hello l)
-hello_parts l = simp append_assoc
+own_hello : (l : Life) (v : Version) → codes "H" ++ (number_text (number v) ++ (life_text l ++ line_end)) ≡ written (Hello l v)
+own_hello l v = simp append_assoc
+
+pub hello_parts : (l : Life) (v : Version) (n : ℕ) → n ≡ number v → codes "H" ++ (number_text n ++ (life_text l ++ line_end)) ≡ written (Hello l v)
+hello_parts l v n e = (λ i. codes "H" ++ (number_text (e i) ++ (life_text l ++ line_end))) ∙ own_hello l v
 
 pub packet_parts : (p : Packet) (changes : List Piece) → changes ≡ p.changes → written (Head (head_of p)) ++ flat_map written (map (λ c. Change c) changes) ≡ packet_text p
 packet_parts p changes e = ap (λ cs. written (Head (head_of p)) ++ flat_map written (map (λ c. Change c) cs)) e

@@ -1,13 +1,17 @@
 -- What the fields of a line stand for, which the code lends from it.
-use Rattle.peer_lines.specs.Life.{Life, Head, Ack}
+use Rattle.peer_lines.specs.Life.{Life, Hello, Head, Ack}
 use Rattle.peer_lines.specs.Reading as spec
 use Rattle.peer_lines.specs.declared.fields.LifeFields.{LifeFields}
+use Rattle.peer_lines.specs.declared.fields.HelloFields.{HelloFields}
 use Rattle.peer_lines.specs.declared.fields.HeadFields.{HeadFields}
 use Rattle.peer_lines.specs.declared.fields.AckFields.{AckFields}
 use Rattle.peer_lines.specs.declared.fields.Span.{Span}
 
 abbrev pub life_value : LifeFields → Life
 life_value l = record { node = l.node.now; incarnation = l.incarnation }
+
+abbrev pub hello_value : HelloFields → Hello
+hello_value h = record { life = life_value h.life; version = h.version }
 
 abbrev pub span_value : Span → spec.Span
 span_value s = record { from = s.from; to = s.to; count = s.count }

@@ -45,12 +45,12 @@ with_change head changes =
 
 abbrev pub pushed : Gather → PeerLine → Pushed
 pushed None (line.Word word) = arrives (Word word)
-pushed None (line.Hello life) = arrives (Hello life)
+pushed None (line.Hello life version) = arrives (Hello life version)
 pushed None (line.Head head) = waits (record { head = head; changes = [] })
 pushed None (line.Change c) = refused
 pushed None (line.Ack ack) = arrives (Ack ack)
 pushed (Some g) (line.Word word) = refused
-pushed (Some g) (line.Hello life) = refused
+pushed (Some g) (line.Hello life version) = refused
 pushed (Some g) (line.Head head) = refused
 pushed (Some g) (line.Change c) = with_change g.head (g.changes ++ c ∷ [])
 pushed (Some g) (line.Ack ack) = refused

@@ -1,5 +1,6 @@
--- What a reader must believe: names, lives and messages; how each line is spelled; and what lines that come in turn
+-- What a reader must believe: versions, names, lives and messages; how each line is spelled; and what lines that come in turn
 -- make of a packet.
+pub mod Version
 pub mod Names
 pub mod Life
 pub mod Spelling

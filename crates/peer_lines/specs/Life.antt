@@ -2,11 +2,17 @@
 use Rattle.std.specs.Prelude.{ℕ, Bool, ◌&&◌, ◌==◌, List, length}
 use Rattle.chat_change.specs.declared.change.Change.{Change}
 use Rattle.peer_lines.specs.Names.{same_name}
+use Rattle.peer_lines.specs.declared.version.Version.{Version}
 
 -- a node from one start to the next
 pub record Life : Type 0 where
   pub node : List ℕ  -- its name
   pub incarnation : ℕ
+
+-- the sender says which life it has, and which version of the lines it speaks
+pub record Hello : Type 0 where
+  pub life : Life
+  pub version : Version
 
 -- the head of a packet, of which so many changes follow
 pub record Head : Type 0 where

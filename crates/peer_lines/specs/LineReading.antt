@@ -5,6 +5,7 @@ use Rattle.chat_change.specs.declared.change.Change as change
 use Rattle.gossip_delta.specs.Words.{word, behind}
 use Rattle.gossip_delta.specs.ChangeLine.{read_change}
 use Rattle.gossip_delta.specs.declared.fault.ChangeLineFault.{ChangeLineFault}
+use Rattle.peer_lines.specs.Life as parts
 use Rattle.peer_lines.specs.Names.{same_name}
 use Rattle.peer_lines.specs.Reading.{word_at, hello_at, head_at, ack_at}
 use Rattle.peer_lines.specs.Spelling.{Spells}
@@ -42,11 +43,14 @@ change_or_none (Err fault) = None
 abbrev pub change_at : List ℕ → Option PeerLine
 change_at bytes = change_or_none (read_change bytes)
 
+abbrev pub hello_line : parts.Hello → PeerLine
+hello_line h = Hello h.life h.version
+
 -- the line of a first word, of all bytes and of those behind that word
 abbrev pub line_of_kind : List ℕ → List ℕ → List ℕ → Option PeerLine
 line_of_kind kind bytes rest =
     if same_name kind (codes "W") then option_map Word (word_at rest)
-    else if same_name kind (codes "H") then option_map Hello (hello_at rest)
+    else if same_name kind (codes "H") then option_map hello_line (hello_at rest)
     else if same_name kind (codes "D") then option_map Head (head_at rest)
     else if same_name kind (codes "A") then option_map Ack (ack_at rest)
     else change_at bytes

@@ -1,16 +1,23 @@
 -- How a line is read: word by word, with one space behind each.
-use Rattle.std.specs.Prelude.{ℕ, ◌-◌, ◌^◌, ◌&&◌, List, codes, nat_lt, nat_le, Option, None, Some, if◌then◌else◌}
+use Rattle.std.specs.Prelude.{ℕ, ◌-◌, ◌^◌, ◌&&◌, List, nat_lt, nat_le, Option, None, Some, if◌then◌else◌}
+use Rattle.std.specs.Option.{option_and_then}
 use Rattle.gossip_delta.specs.Words.{word, behind}
 use Rattle.gossip_delta.specs.Number.{number_to}
-use Rattle.peer_lines.specs.Names.{is_node_name, is_shared_word, same_name}
-use Rattle.peer_lines.specs.Life.{Life, Head, Ack}
+use Rattle.peer_lines.specs.Names.{is_node_name, is_shared_word}
+use Rattle.peer_lines.specs.Life.{Life, Hello, Head, Ack}
+use Rattle.peer_lines.specs.Version.{of_number}
 use Rattle.peer_lines.specs.declared.packet.TheConstants.{PACKET_LIMIT}
+use Rattle.peer_lines.specs.declared.version.Version.{Version}
 
 -- ---- values
 
 -- the number of which a text is the decimal digits
 abbrev pub number_of : List ℕ → Option ℕ
 number_of text = number_to (2 ^ 64 - 1) text
+
+-- the version of which a text is the number
+abbrev pub version_of : List ℕ → Option Version
+version_of text = option_and_then of_number (number_of text)
 
 -- a life by its name and its incarnation
 abbrev pub life_of : List ℕ → Option ℕ → Option Life
@@ -49,11 +56,14 @@ span_at bytes =
 abbrev pub word_at : List ℕ → Option (List ℕ)
 word_at bytes = if is_shared_word bytes then Some bytes else None
 
-abbrev pub hello_at : List ℕ → Option Life
+abbrev pub hello_with : Option Version → Option Life → Option Hello
+hello_with (Some version) (Some life) = Some (record { life = life; version = version })
+hello_with _ _ = None
+
+abbrev pub hello_at : List ℕ → Option Hello
 hello_at bytes =
-    if same_name (word bytes) (codes "1")
-    then life_of (word (behind bytes)) (number_of (behind (behind bytes)))
-    else None
+    hello_with (version_of (word bytes))
+    (life_of (word (behind bytes)) (number_of (behind (behind bytes))))
 
 abbrev pub head_with : Option Life → Option Life → Option Span → Option Head
 head_with (Some sender) (Some receiver) (Some span) =

@@ -1,7 +1,7 @@
 -- The one spelling of each line that nodes send each other: words with one space between them, and CR LF behind a line
 -- that is written. Numbers are decimal digits without leading zeros.
 --   W <word>                                                  the word that the nodes share
---   H 1 <node> <inc>                                          a hello: version 1, and a life
+--   H <version> <node> <inc>                                  a hello: a version, 1 or 2, and a life
 --   D <node> <inc> <node> <inc> <from> <to> <count>           the head of a packet, from one life to another
 --   A <node> <inc> <node> <inc> <upto>                        an acknowledgement, from one life to another
 --   C ..                                                      a change, as its own crate spells it
@@ -11,6 +11,7 @@ use Rattle.std.specs.List.{All, flat_map, join_with_byte}
 use Rattle.gossip_delta.specs.ChangeText.{line_of as change_text, line_end}
 use Rattle.chat_change.specs.Lawful.{IsLawfulChange}
 use Rattle.peer_lines.specs.Names.{is_node_name, is_shared_word}
+use Rattle.peer_lines.specs.Version.{number}
 use Rattle.peer_lines.specs.Life as parts
 use Rattle.peer_lines.specs.Life.{Life, Packet, head_of}
 use Rattle.peer_lines.specs.declared.packet.TheConstants.{PACKET_LIMIT}
@@ -36,7 +37,8 @@ ack_words a = life_words a.sender (life_words a.receiver (decimal a.upto ∷ [])
 -- the spelling of a line, without its ending
 abbrev pub text_of : PeerLine → List ℕ
 text_of (Word word) = spaced (codes "W" ∷ word ∷ [])
-text_of (Hello life) = spaced (codes "H" ∷ codes "1" ∷ life_words life [])
+text_of (Hello life version) =
+    spaced (codes "H" ∷ decimal (number version) ∷ life_words life [])
 text_of (Head head) = spaced (codes "D" ∷ head_words head)
 text_of (Change c) = change_text c
 text_of (Ack ack) = spaced (codes "A" ∷ ack_words ack)
@@ -62,7 +64,7 @@ pub record IsAck (a : parts.Ack) : Type 0 where
 
 abbrev pub IsPeerLine : PeerLine → Type 0
 IsPeerLine (Word word) = is_shared_word word ≡ true
-IsPeerLine (Hello life) = IsLife life
+IsPeerLine (Hello life version) = IsLife life
 IsPeerLine (Head head) = IsHead head
 IsPeerLine (Change c) = IsLawfulChange c
 IsPeerLine (Ack ack) = IsAck ack

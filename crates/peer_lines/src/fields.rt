@@ -2,11 +2,13 @@
 ghost use Rattle.std.specs.Prelude.{◌≡◌};
 ghost use Rattle.std.specs.Option.{option_map};
 ghost use Rattle.peer_lines.specs.Reading as spec;
-ghost use Rattle.peer_lines.specs.Fields.{life_value, head_value, ack_value, span_value};
+ghost use Rattle.peer_lines.specs.Fields.{life_value, hello_value, head_value, ack_value};
+ghost use Rattle.peer_lines.specs.Fields.{span_value};
 
 use crate::names::is_node_name;
 use crate::packet::PACKET_LIMIT;
-use gossip_delta::{is_text, number_to, split_word};
+use crate::version::Version;
+use gossip_delta::{number_to, split_word};
 
 /// The number below 2^64 of which the text is the decimal digits, without leading zeros.
 pub(crate) fn number_of(text: &[u8]) -> Option<u64>
@@ -80,16 +82,22 @@ fn span_at(bytes: &[u8]) -> Option<Span>
     span_of(number_of(from), number_of(to), number_of(count))
 }
 
-/// The life of a hello, behind its `H`.
-pub(crate) fn hello_at<'a>(bytes: &'a [u8]) -> Option<LifeFields<'a>>
-    ensures { option_map life_value result ≡ spec.hello_at bytes.now }
+/// The fields of a hello.
+#[derive(Clone, Copy)]
+pub(crate) struct HelloFields<'a> {
+    pub(crate) life: LifeFields<'a>,
+    pub(crate) version: Version,
+}
+
+/// The hello, behind its `H`.
+pub(crate) fn hello_at<'a>(bytes: &'a [u8]) -> Option<HelloFields<'a>>
+    ensures { option_map hello_value result ≡ spec.hello_at bytes.now }
 {
     let (version, rest) = split_word(bytes);
     let (node, incarnation) = split_word(rest);
-    if is_text(version, b"1") {
-        life_of(node, incarnation)
-    } else {
-        None
+    match (Version::read(version), life_of(node, incarnation)) {
+        (Some(version), Some(life)) => Some(HelloFields { life, version }),
+        _ => None,
     }
 }
 

@@ -7,6 +7,7 @@ use crate::life::Life;
 use crate::packet::{Ack, Head, Packet};
 use crate::peer_line::PeerLine;
 use crate::shared_word::SharedWord;
+use crate::version::Version;
 use chat_change::Change;
 use std::alloc::Global;
 use std::marker::Model;
@@ -16,8 +17,8 @@ use std::marker::Model;
 pub enum Arrived {
     /// The word that the nodes share.
     Word(SharedWord),
-    /// A hello of a life.
-    Hello(Life),
+    /// A hello of a life, in a version.
+    Hello(Life, Version),
     /// A packet, with all of its changes.
     Packet(Packet),
     /// An acknowledgement.
@@ -61,7 +62,7 @@ fn begun(alloc: Global, line: PeerLine) -> (Option<Gathering>, Result<Option<Arr
 {
     match line {
         PeerLine::Word(word) => (None, Ok(Some(Arrived::Word(word)))),
-        PeerLine::Hello(life) => (None, Ok(Some(Arrived::Hello(life)))),
+        PeerLine::Hello(life, version) => (None, Ok(Some(Arrived::Hello(life, version)))),
         PeerLine::Ack(ack) => (None, Ok(Some(Arrived::Ack(ack)))),
         PeerLine::Head(head) => {
             let changes = Vec::new(alloc);

@@ -1,8 +1,8 @@
 //! The lines that nodes send each other.
 //!
 //! Nodes speak to each other in lines of words that stand exactly one space apart, and a line has no other spelling. A
-//! [`PeerLine`] says the word that the nodes share, a hello of a [`Life`], the [`Head`] of a [`Packet`], one of its
-//! changes, or an [`Ack`]. [`read_peer`] reads a line, and a [`Gather`] joins the head of a packet with its changes, so that
+//! [`PeerLine`] says the word that the nodes share, a hello of a [`Life`] in a [`Version`], the [`Head`] of a [`Packet`],
+//! one of its changes, or an [`Ack`]. [`read_peer`] reads a line, and a [`Gather`] joins the head of a packet with its changes, so that
 //! whole packets arrive. [`write_word`], [`write_hello`], [`write_packet`] and [`write_ack`] write lines, each with CR LF
 //! behind it, which read back as what was written ([`laws`]).
 #![tactic(auto)]
@@ -16,6 +16,7 @@ mod names;
 mod packet;
 mod peer_line;
 mod shared_word;
+mod version;
 mod writing;
 
 pub use fault::LinkFault;
@@ -25,4 +26,5 @@ pub use names::{NODE_NAME_LIMIT, NodeName, is_node_name};
 pub use packet::{Ack, Head, PACKET_LIMIT, Packet};
 pub use peer_line::{PeerLine, read_peer};
 pub use shared_word::{SHARED_WORD_LIMIT, SharedWord, is_shared_word};
+pub use version::Version;
 pub use writing::{write_ack, write_hello, write_packet, write_word};

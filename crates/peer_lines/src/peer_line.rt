@@ -2,16 +2,17 @@
 ghost use Rattle.std.specs.Prelude.{◌≡◌, true, IfOk, List, ℕ};
 ghost use Rattle.std.specs.Option.{option_map};
 ghost use Rattle.peer_lines.specs.Names as names;
-ghost use Rattle.peer_lines.specs.Fields.{life_value, head_value, ack_value};
+ghost use Rattle.peer_lines.specs.Fields.{life_value, hello_value, head_value, ack_value};
 ghost use Rattle.peer_lines.specs.Reading as spec;
 ghost use Rattle.peer_lines.specs.LineReading as reading;
 
 use crate::fault::LinkFault;
-use crate::fields::{AckFields, HeadFields, LifeFields, ack_at, head_at, hello_at};
+use crate::fields::{AckFields, HeadFields, HelloFields, LifeFields, ack_at, head_at, hello_at};
 use crate::life::Life;
 use crate::names::NodeName;
 use crate::packet::{Ack, Head};
 use crate::shared_word::{SharedWord, is_shared_word};
+use crate::version::Version;
 use byte_text::NoMemory;
 use chat_change::Change;
 use gossip_delta::{ChangeLineFault, is_text, read_change, split_word};
@@ -22,8 +23,8 @@ use std::alloc::Global;
 pub enum PeerLine {
     /// `W <word>`: the word that the nodes share, the first line of a connection.
     Word(SharedWord),
-    /// `H 1 <node> <inc>`: a hello, which says the life of its sender.
-    Hello(Life),
+    /// `H <version> <node> <inc>`: a hello, which says the life of its sender, and which version it speaks.
+    Hello(Life, Version),
     /// `D <node> <inc> <node> <inc> <from> <to> <count>`: the head of a packet, from one life to another. So many changes
     /// follow, a line each.
     Head(Head),
@@ -68,13 +69,13 @@ fn read_word(alloc: Global, bytes: &[u8]) -> Result<PeerLine, LinkFault>
 }
 
 fn read_hello(alloc: Global, bytes: &[u8]) -> Result<PeerLine, LinkFault>
-    ensures { reading.IsAnswer (option_map PeerLine.Hello (spec.hello_at bytes.now)) result }
+    ensures { reading.IsAnswer (option_map reading.hello_line (spec.hello_at bytes.now)) result }
 {
-    let Some(life) = hello_at(bytes) else {
+    let Some(hello) = hello_at(bytes) else {
         return Err(LinkFault::BadForm);
     };
-    match made_life(alloc, life) {
-        Ok(life) => Ok(PeerLine::Hello(life)),
+    match made_life(alloc, hello.life) {
+        Ok(life) => Ok(PeerLine::Hello(life, hello.version)),
         Err(NoMemory) => Err(LinkFault::NoMemory),
     }
 }

@@ -10,6 +10,7 @@ ghost use Rattle.peer_lines.specs.WrittenParts.{life_text, lives_text, numbers_t
 use crate::life::Life;
 use crate::packet::{Ack, Packet};
 use crate::peer_line::PeerLine;
+use crate::version::Version;
 use byte_text::put;
 use chat_change::Change;
 use gossip_delta::write_change;
@@ -101,11 +102,13 @@ pub fn write_ack<W: Write>(ack: &Ack, writer: &mut W) -> io::Result<()>
     put(writer, b"\r\n")
 }
 
-/// Writes the line of a hello.
-pub fn write_hello<W: Write>(life: &Life, writer: &mut W) -> io::Result<()>
-    ensures { Writes W.contents writer.old writer.new result (written (PeerLine.Hello life.now)) }
+/// Writes the line of a hello of a life, in a version.
+pub fn write_hello<W: Write>(life: &Life, version: Version, writer: &mut W) -> io::Result<()>
+    ensures { Writes W.contents writer.old writer.new result
+        (written (PeerLine.Hello life.now version)) }
 {
-    put(writer, b"H 1")?;
+    put(writer, b"H")?;
+    put_next_number(writer, u64::from(version.number()))?;
     put_next_life(writer, life)?;
     put(writer, b"\r\n")
 }

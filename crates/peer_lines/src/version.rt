@@ -1,0 +1,55 @@
+//! Versions of the lines between nodes.
+ghost use Rattle.std.specs.Prelude.{◌≡◌};
+ghost use Rattle.peer_lines.specs.Version as spec;
+ghost use Rattle.peer_lines.specs.Reading.{version_of};
+
+use crate::fields::number_of;
+
+/// A version of the lines between nodes.
+#[derive(Clone, Copy, Debug, PartialEq, Eq)]
+pub enum Version {
+    /// Version 1: posts have no tags.
+    One,
+    /// Version 2: posts may have tags.
+    Two,
+}
+
+impl Version {
+    /// The version that this program speaks.
+    pub const OWN: Version = Version::Two;
+
+    /// Its number.
+    pub fn number(self) -> u8
+        ensures { result ≡ spec.number self }
+    {
+        match self {
+            Version::One => 1,
+            Version::Two => 2,
+        }
+    }
+
+    /// The version of that number, if there is one.
+    pub fn of_number(number: u64) -> Option<Version>
+        ensures { result ≡ spec.of_number number }
+    {
+        match number {
+            1 => Some(Version::One),
+            2 => Some(Version::Two),
+            _ => None,
+        }
+    }
+
+    /// The version of which the text is the number, in decimal digits without leading zeros.
+    pub(crate) fn read(text: &[u8]) -> Option<Version>
+        ensures { result ≡ version_of text.now }
+    {
+        Version::of_number(number_of(text)?)
+    }
+
+    /// Whether it is lower than the other.
+    pub fn is_lower_than(self, other: Version) -> bool
+        ensures { result ≡ spec.is_lower self other }
+    {
+        self.number() < other.number()
+    }
+}
