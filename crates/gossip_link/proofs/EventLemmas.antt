@@ -1,6 +1,5 @@
 -- Each event keeps what holds of a cluster.
-use Rattle.std.proofs.Common.{◌≡◌, ℕ, ◌≤◌, true, false, cond, ◌&&◌, Option, Some, None, List, [], ◌∷◌, ◌++◌, length, take, drop, refl, sym, ◌∙◌, ap, subst, arith}
-use Rattle.std.proofs.lemmas.Bool.{false≢true}
+use Rattle.std.proofs.Common.{◌≡◌, ℕ, ◌≤◌, true, false, cond, ◌&&◌, ◌||◌, Option, Some, None, List, [], ◌∷◌, ◌++◌, length, take, drop, refl, sym, ◌∙◌, ap, subst, arith}
 use Rattle.std.proofs.lemmas.Bool.Decides.{nat_tests}
 use Rattle.std.proofs.lemmas.List.{append-nil, take-append-drop, take_at, length-append}
 use Rattle.std.proofs.lemmas.List.Elements.{All-nil, All-cons, All-append, All-take, All-weaker, All-contains_itself}
@@ -15,14 +14,17 @@ use Rattle.chat_history.proofs.CallerLemmas.{norm_left, front_rises, on_and_on}
 use Rattle.gossip_delta.specs.UpTo.{IncludesUpTo}
 use Rattle.gossip_delta.proofs.CallerLemmas.{UpTo-delta, UpTo-later, UpTo-start, delta_within, delta_all, same_at_fronts}
 use Rattle.peer_lines.specs.Life.{Life, Packet, Ack, same_life}
+use Rattle.peer_lines.specs.Version.{is_lower}
+use Rattle.peer_lines.specs.declared.version.Version.{Version}
 use Rattle.peer_lines.specs.Names.{same_name}
+use Rattle.gossip_link.specs.declared.link.Heard.{Heard}
 use Rattle.gossip_link.specs.Peer.{Peer, is_news, hello_is_news, after_hello, packet_of, after_packet, packet_is_mine, ack_of, is_known, ack_is_mine, ack_is_too_high, after_ack}
 use Rattle.gossip_link.specs.Cluster.{Node, Made, World, Event, Make, Take, Ask, Greet, Hello_comes, Send, Packet_comes, Part_comes, Ack_comes, Restart, with_value, life, with_node, with_peer, with_used, with_taken, new_node, take_made, hear, with_packet, send, packet_comes, part_comes, ack_comes, happens, run, start, IsFresh, LivesDiffer}
-use Rattle.gossip_link.specs.Promises.{ComesFrom, Knows, PeerIncludes, IsAcknowledged}
+use Rattle.gossip_link.specs.Promises.{ComesFrom, incarnation_of, Knows, PeerIncludes, IsAcknowledged}
 use Rattle.peer_lines.proofs.CallerLemmas.{same_name_is, both_true}
 use Rattle.gossip_link.proofs.NameLemmas.{same_life_is, equal_is, changed_here, at_each, Begins, shorter_begins, All-got}
 use Rattle.gossip_link.proofs.ComesLemmas.{ComesFrom-more, ComesFrom-made, pieces_come}
-use Rattle.gossip_link.proofs.SoundLemmas.{Nodes, Lived, Reached, LinkIsSound, PacketIsSound, AckIsSound, IsSound, GoesOn, GoOn, go_on, same_life_goes_on, Lived-now, restart_goes_on, Lived-later, Reached-later, LinkIsSound-later, IsSound-node}
+use Rattle.gossip_link.proofs.SoundLemmas.{Nodes, Lived, Reached, LinkIsSound, HelloIsSound, PacketIsSound, AckIsSound, IsSound, GoesOn, GoOn, go_on, same_life_goes_on, Lived-now, restart_goes_on, Lived-later, Reached-later, LinkIsSound-later, IsSound-node}
 
 front_grows : (start : ℕ) (cs more : List Change) → front start cs ≤ front start (cs ++ more)
 front_grows start cs more =
@@ -120,28 +122,28 @@ nothing_reached nodes holder taker = record {
   includes = λ _. UpTo-start 0 (nodes taker.node).taken;
 }
 
-heard_link : (w : World) (name peer : List ℕ) (hello : Life) → IsSound w → Lived w.nodes hello → LinkIsSound w.nodes (life name (w.nodes name)) peer (after_hello peer ((w.nodes name).peers peer) hello)
-heard_link w name peer hello s lived =
+heard_link : (w : World) (name peer : List ℕ) (hello : Life) (version : Version) → IsSound w → Lived w.nodes hello → LinkIsSound w.nodes (life name (w.nodes name)) peer (after_hello peer ((w.nodes name).peers peer) hello version)
+heard_link w name peer hello version s lived =
     let me = life name (w.nodes name) in
     let p = (w.nodes name).peers peer in
-    elim (hello_is_news peer p hello) as (λ b. hello_is_news peer p hello ≡ b → LinkIsSound w.nodes me peer (cond b (record { heard = Some hello.incarnation; acked = 0; sent = 0 }) p)) [
-      | true ↦ λ e i is.
+    let heard : Heard = record { incarnation = hello.incarnation; version = version } in
+    elim (hello_is_news peer p hello) as (λ b. hello_is_news peer p hello ≡ b → LinkIsSound w.nodes me peer (cond b (record { heard = Some heard; acked = 0; sent = 0 }) p)) [
+      | true ↦ λ e known is.
           let named = sym (same_name_is peer hello.node (both_true (same_name peer hello.node) (is_news p.heard hello.incarnation) e).0) in
-          let known : hello.incarnation ≡ i = cc is in
-          let them : Life = record { node = peer; incarnation = i } in
-          let same : hello ≡ them = λ j. record { node = named j; incarnation = known j } in
+          let own : heard ≡ known = cc is in
+          let them : Life = record { node = peer; incarnation = known.incarnation } in
+          let same : hello ≡ them = λ j. record { node = named j; incarnation = (own j).incarnation } in
           (subst (Lived w.nodes) same lived, ([], nothing_reached w.nodes me them))
       | false ↦ λ _. s.links name peer
     ] refl
 
 IsSound-hear : (w : World) (name peer : List ℕ) (which : ℕ) → IsSound w → IsSound (hear w name peer (slice_get w.hellos which))
 IsSound-hear w name peer which s =
-    got (Lived w.nodes) (λ o. IsSound (hear w name peer o)) w.hellos which s.hellos s
-    (λ hello lived. IsSound-peer w name peer (after_hello peer ((w.nodes name).peers peer) hello) s (heard_link w name peer hello s lived))
+    got (HelloIsSound w.nodes) (λ o. IsSound (hear w name peer o)) w.hellos which s.hellos s
+    (λ hello lived. IsSound-peer w name peer (after_hello peer ((w.nodes name).peers peer) hello.life hello.version) s (heard_link w name peer hello.life hello.version s lived))
 
-known_is : (heard : Option ℕ) (i : ℕ) → is_known heard i ≡ true → heard ≡ Some i
-known_is None i e = absurd (false≢true e)
-known_is (Some k) i e = ap Some (equal_is k i e)
+known_is : (heard : Option Heard) (known : Heard) (i : ℕ) → heard ≡ Some known → is_known heard i ≡ true → known.incarnation ≡ i
+known_is heard known i is e = equal_is known.incarnation i (subst (λ o. is_known o i ≡ true) is e)
 
 acked_link : (w : World) (name peer : List ℕ) (a : Ack) → IsSound w → AckIsSound w.nodes a → LinkIsSound w.nodes (life name (w.nodes name)) peer (after_ack (life name (w.nodes name)) peer ((w.nodes name).peers peer) a)
 acked_link w name peer a s sound =
@@ -149,15 +151,14 @@ acked_link w name peer a s sound =
     let p = (w.nodes name).peers peer in
     let news = not (ack_is_too_high p a) && nat_lt p.acked a.upto in
     elim (ack_is_mine me peer p a && news) as (λ b. (ack_is_mine me peer p a && news) ≡ b → LinkIsSound w.nodes me peer (cond b (record { heard = p.heard; acked = a.upto; sent = p.sent }) p)) [
-      | true ↦ λ e i is.
+      | true ↦ λ e known is.
           let mine = both_true (same_life a.receiver me) (same_name a.sender.node peer && is_known p.heard a.sender.incarnation) (both_true (ack_is_mine me peer p a) news e).0 in
           let from_peer = both_true (same_name a.sender.node peer) (is_known p.heard a.sender.incarnation) mine.1 in
           let for_me = same_life_is a.receiver me mine.0 in
           let named = same_name_is a.sender.node peer from_peer.0 in
-          let heard = known_is p.heard a.sender.incarnation from_peer.1 in
-          let known : a.sender.incarnation ≡ i = cc (sym heard ∙ is) in
-          let them : Life = record { node = peer; incarnation = i } in
-          let same : a.sender ≡ them = λ j. record { node = named j; incarnation = known j } in (
+          let own = sym (known_is p.heard known a.sender.incarnation is from_peer.1) in
+          let them : Life = record { node = peer; incarnation = known.incarnation } in
+          let same : a.sender ≡ them = λ j. record { node = named j; incarnation = own j } in (
             subst (Lived w.nodes) same sound.sender,
             (sound.first, subst (λ l. Reached w.nodes me l sound.first a.upto) same (subst (λ l. Reached w.nodes l a.sender sound.first a.upto) for_me sound.reached)),
           )
@@ -256,7 +257,10 @@ module _ (w : World) (name peer : List ℕ) (first : List Change) (begins : Begi
   abbrev sender : Peer → Node
   sender q = with_used (with_peer x peer q) peer (length first)
 
-  module _ (enough : x.used peer ≤ length first) (i : ℕ) (heard : p.heard ≡ Some i) where
+  module _ (enough : x.used peer ≤ length first) (known : Heard) (heard : p.heard ≡ Some known) where
+    abbrev i : ℕ
+    i = known.incarnation
+
     abbrev them : Life
     them = record { node = peer; incarnation = i }
 
@@ -283,7 +287,7 @@ module _ (w : World) (name peer : List ℕ) (first : List Change) (begins : Begi
         (λ other. LinkIsSound-later w.nodes sending all_on (life name x) other (x.peers other) (Lived-now w.nodes name) (s.links name other)))
 
     link : Lived w.nodes them × ((shorter : List Change) × Reached w.nodes (life name x) them shorter p.acked)
-    link = s.links name peer i heard
+    link = s.links name peer known heard
 
     -- what was acknowledged was of a beginning that this delta's goes on from
     goes_on : Begins link.1.0 first
@@ -338,14 +342,14 @@ module _ (w : World) (name peer : List ℕ) (first : List Change) (begins : Begi
 
   send_sound : IsSound (send w name peer first)
   send_sound =
-      elim (nat_le (x.used peer) (length first)) as (λ b. nat_le (x.used peer) (length first) ≡ b → IsSound (cond b (with_packet w name peer (length first) (packet_of (life name x) peer p.heard (delta 0 first p.acked))) w)) [
+      elim (nat_le (x.used peer) (length first)) as (λ b. nat_le (x.used peer) (length first) ≡ b → IsSound (cond b (with_packet w name peer (length first) (packet_of x.version (life name x) peer p.heard (delta 0 first p.acked))) w)) [
         | true ↦ λ t.
             let enough : x.used peer ≤ length first = grind (arith, nat_tests) in
-            elim (p.heard) as (λ o. p.heard ≡ o → IsSound (with_packet w name peer (length first) (packet_of (life name x) peer o (delta 0 first p.acked)))) [
+            elim (p.heard) as (λ o. p.heard ≡ o → IsSound (with_packet w name peer (length first) (packet_of x.version (life name x) peer o (delta 0 first p.acked)))) [
               | None ↦ λ _. s
-              | Some i ↦ λ heard. elim (length (delta 0 first p.acked).changes == 0) as (λ b. IsSound (with_packet w name peer (length first) (cond b None (Some (packet i))))) [
+              | Some known ↦ λ heard. elim (is_lower known.version x.version || (length (delta 0 first p.acked).changes == 0)) as (λ b. IsSound (with_packet w name peer (length first) (cond b None (Some (packet known.incarnation))))) [
                 | true ↦ s
-                | false ↦ sent_sound enough i heard
+                | false ↦ sent_sound enough known heard
               ]
             ] refl
         | false ↦ λ _. s
@@ -357,12 +361,12 @@ IsSound-happens : (w : World) (e : Event) → IsFresh w e → IsSound w → IsSo
 IsSound-happens w (Make name changes) f s = IsSound-make w (record { by = name; changes = changes }) s
 IsSound-happens w (Take name which count) f s = IsSound-take w name which count s
 IsSound-happens w (Ask name) f s = s
-IsSound-happens w (Greet name) f s = record {
+IsSound-happens w (Greet name version) f s = record {
   holds = s.holds;
   comes = s.comes;
   uses = s.uses;
   links = s.links;
-  hellos = All-cons (Lived w.nodes) (life name (w.nodes name)) w.hellos (Lived-now w.nodes name) s.hellos;
+  hellos = All-cons (HelloIsSound w.nodes) (record { life = life name (w.nodes name); version = version }) w.hellos (Lived-now w.nodes name) s.hellos;
   packets = s.packets;
   acks = s.acks;
 }
@@ -371,27 +375,32 @@ IsSound-happens w (Send name peer count) f s = send_sound w name peer (take coun
 IsSound-happens w (Packet_comes name peer which) f s = IsSound-packet w name peer which s
 IsSound-happens w (Part_comes name peer which count) f s = IsSound-part w name peer which count s
 IsSound-happens w (Ack_comes name peer which) f s = IsSound-ack w name peer which s
-IsSound-happens w (Restart name incarnation) f s =
+IsSound-happens w (Restart name incarnation version) f s =
     let x = w.nodes name in
-    let new = new_node incarnation (x.incarnation ∷ x.earlier) in
-    IsSound-node w name new s (restart_goes_on x incarnation f) refl (All-nil (ComesFrom w.made)) (λ peer. omega arith) (λ peer i e. cc e)
+    let new = new_node incarnation (x.incarnation ∷ x.earlier) version in
+    IsSound-node w name new s (restart_goes_on x incarnation version f) refl (All-nil (ComesFrom w.made)) (λ peer. omega arith) (λ peer known e. cc e)
 
 pub IsSound-run : (events : List Event) (w : World) → LivesDiffer events w → IsSound w → IsSound (run events w)
 IsSound-run [] w d s = s
 IsSound-run (e ∷ es) w d s = IsSound-run es (happens w e) d.1 (IsSound-happens w e d.0 s)
 
-pub IsSound-start : (incarnations : List ℕ → ℕ) → IsSound (start incarnations)
-IsSound-start incarnations = record {
+pub IsSound-start : (incarnations : List ℕ → ℕ) (versions : List ℕ → Version) → IsSound (start incarnations versions)
+IsSound-start incarnations versions = record {
   holds = λ name. refl;
   comes = λ name. All-nil (ComesFrom []);
   uses = λ name peer. omega arith;
-  links = λ name peer i e. cc e;
-  hellos = All-nil (Lived (start incarnations).nodes);
-  packets = All-nil (PacketIsSound (start incarnations).nodes []);
-  acks = All-nil (AckIsSound (start incarnations).nodes);
+  links = λ name peer known e. cc e;
+  hellos = All-nil (HelloIsSound (start incarnations versions).nodes);
+  packets = All-nil (PacketIsSound (start incarnations versions).nodes []);
+  acks = All-nil (AckIsSound (start incarnations versions).nodes);
 }
 
 -- ---- what follows
+
+-- what is known of a peer whose incarnation is known
+pub known_life : (heard : Option Heard) (i : ℕ) → incarnation_of heard ≡ Some i → (known : Heard) × (heard ≡ Some known) × (known.incarnation ≡ i)
+known_life None i e = cc e
+known_life (Some known) i e = let same : known.incarnation ≡ i = cc e in (known, refl, same)
 
 module _ (w : World) (s : IsSound w) where
   pub comes_from : (name : List ℕ) (k : Key) (c : Change) → get (w.nodes name).history k ≡ Some c → ComesFrom w.made c
@@ -401,11 +410,12 @@ module _ (w : World) (s : IsSound w) where
   pub up_to_date : (name peer : List ℕ) → Knows w name peer → IncludesUpTo (w.nodes peer).taken 0 (w.nodes name).taken ((w.nodes name).peers peer).acked
   up_to_date name peer knows =
       let acked = ((w.nodes name).peers peer).acked in
-      let link = s.links name peer (w.nodes peer).incarnation knows in
+      let known = known_life ((w.nodes name).peers peer).heard (w.nodes peer).incarnation knows in
+      let link = s.links name peer known.0 known.1 in
       let reached = link.1.1 in
       let begins = (reached.begins refl).0 in
       subst (λ cs. IncludesUpTo (w.nodes peer).taken 0 cs acked) begins.1
-      (UpTo-later 0 acked (w.nodes peer).taken link.1.0 begins.0 reached.within (reached.includes refl))
+      (UpTo-later 0 acked (w.nodes peer).taken link.1.0 begins.0 reached.within (reached.includes (sym known.2)))
 
   pub peer_includes : (name peer : List ℕ) → Knows w name peer → PeerIncludes w name peer
   peer_includes name peer knows k c e b = up_to_date name peer knows k c (ap (λ h. get h k) (sym (s.holds name)) ∙ e) b

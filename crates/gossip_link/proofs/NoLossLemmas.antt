@@ -1,14 +1,15 @@
 -- A packet that comes, and its acknowledgement that comes: then all of its delta is acknowledged.
-use Rattle.std.proofs.Common.{◌≡◌, ◌≢◌, ℕ, ◌≤◌, ◌<◌, max, true, false, cond, ◌&&◌, Some, None, List, [], ◌∷◌, length, refl, sym, ◌∙◌, ap, arith}
+use Rattle.std.proofs.Common.{◌≡◌, ◌≢◌, ℕ, ◌≤◌, ◌<◌, max, true, false, cond, ◌&&◌, ◌||◌, Some, None, List, [], ◌∷◌, length, refl, sym, ◌∙◌, ap, arith}
 use Rattle.std.proofs.lemmas.Bool.Decides.{nat_tests}
 use Rattle.std.proofs.lemmas.List.{take_all}
 use Rattle.std.specs.Prelude.{◌==◌, nat_le, nat_lt, not}
 use Rattle.chat_history.specs.Numbering.{Delta, delta}
 use Rattle.peer_lines.specs.Life.{Life, Packet, Ack, same_life}
 use Rattle.peer_lines.specs.Names.{same_name}
+use Rattle.peer_lines.specs.Version.{is_lower}
+use Rattle.peer_lines.specs.declared.version.Version.{Version}
 use Rattle.gossip_link.specs.Peer.{Peer, packet_of, after_packet, packet_is_mine, ack_of, is_known, after_ack}
 use Rattle.gossip_link.specs.Cluster.{Node, World, Send, Packet_comes, Ack_comes, with_value, life, with_peer, with_used, with_taken, with_packet, send, happens, run}
-use Rattle.gossip_link.specs.Promises.{Knows}
 use Rattle.peer_lines.proofs.CallerLemmas.{same_name_is, same_name_itself}
 use Rattle.gossip_link.proofs.NameLemmas.{changed_here}
 
@@ -24,7 +25,10 @@ changed_there f name other x e = ap (λ b. cond b x (f other)) e
 pub same_life_itself : (l : Life) → same_life l l ≡ true
 same_life_itself l = ap (λ b. b && (l.incarnation == l.incarnation)) (same_name_itself l.node) ∙ equal_itself l.incarnation
 
-module _ (w : World) (name peer : List ℕ) (differ : name ≢ peer) (knows : Knows w name peer) (enough : (w.nodes name).used peer ≤ length (w.nodes name).taken) where
+-- the present life of the peer is known, and speaks no lower version
+module _ (w : World) (name peer : List ℕ) (differ : name ≢ peer) (version : Version)
+    (knows : ((w.nodes name).peers peer).heard ≡ Some (record { incarnation = (w.nodes peer).incarnation; version = version }))
+    (serves : is_lower version (w.nodes name).version ≡ false) (enough : (w.nodes name).used peer ≤ length (w.nodes name).taken) where
   abbrev x : Node
   x = w.nodes name
 
@@ -55,9 +59,9 @@ module _ (w : World) (name peer : List ℕ) (differ : name ≢ peer) (knows : Kn
         let fits : nat_le (x.used peer) (length x.taken) ≡ true = grind (arith, nat_tests) in
         let any : (length d.changes == 0) ≡ false = grind (arith, nat_tests) in
         ap (send w name peer) (take_all (length x.taken) x.taken (omega arith))
-        ∙ ap (λ b. cond b (with_packet w name peer (length x.taken) (packet_of (life name x) peer p.heard d)) w) fits
-        ∙ ap (λ o. with_packet w name peer (length x.taken) (packet_of (life name x) peer o d)) knows
-        ∙ ap (λ b. with_packet w name peer (length x.taken) (cond b None (Some packet))) any
+        ∙ ap (λ b. cond b (with_packet w name peer (length x.taken) (packet_of x.version (life name x) peer p.heard d)) w) fits
+        ∙ ap (λ o. with_packet w name peer (length x.taken) (packet_of x.version (life name x) peer o d)) knows
+        ∙ (λ i. with_packet w name peer (length x.taken) (cond (serves i || any i) None (Some packet)))
 
     there : after_send.nodes peer ≡ y
     there = changed_there w.nodes name peer sender (apart name peer differ)

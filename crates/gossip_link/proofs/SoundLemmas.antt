@@ -11,7 +11,9 @@ use Rattle.chat_history.specs.History.{norm}
 use Rattle.chat_history.specs.Numbering.{front, delta}
 use Rattle.gossip_delta.specs.UpTo.{IncludesUpTo}
 use Rattle.gossip_delta.proofs.CallerLemmas.{UpTo-more}
-use Rattle.peer_lines.specs.Life.{Life, Packet, Ack}
+use Rattle.peer_lines.specs.Life.{Life, Hello, Packet, Ack}
+use Rattle.peer_lines.specs.declared.version.Version.{Version}
+use Rattle.gossip_link.specs.declared.link.Heard.{Heard}
 use Rattle.gossip_link.specs.Peer.{Peer}
 use Rattle.gossip_link.specs.Cluster.{Node, Made, World, with_value, life, with_node, new_node, has_lived}
 use Rattle.gossip_link.specs.Promises.{ComesFrom}
@@ -38,8 +40,13 @@ pub record Reached (nodes : Nodes) (holder taker : Life) (first : List Change) (
 -- a node's knowledge of a peer
 abbrev pub LinkIsSound : Nodes → Life → List ℕ → Peer → Type 0
 LinkIsSound nodes me peer p =
-    (i : ℕ) → p.heard ≡ Some i →
-    Lived nodes (record { node = peer; incarnation = i }) × ((first : List Change) × Reached nodes me (record { node = peer; incarnation = i }) first p.acked)
+    (known : Heard) → p.heard ≡ Some known →
+    Lived nodes (record { node = peer; incarnation = known.incarnation })
+    × ((first : List Change) × Reached nodes me (record { node = peer; incarnation = known.incarnation }) first p.acked)
+
+-- a hello of a life that its node has, or had
+abbrev pub HelloIsSound : Nodes → Hello → Type 0
+HelloIsSound nodes hello = Lived nodes hello.life
 
 pub record PacketIsSound (nodes : Nodes) (made : List Made) (p : Packet) : Type 0 where
   pub sender : Lived nodes p.sender
@@ -61,7 +68,7 @@ pub record IsSound (w : World) : Type 0 where
   pub comes : (name : List ℕ) → All (ComesFrom w.made) (w.nodes name).taken
   pub uses : (name peer : List ℕ) → (w.nodes name).used peer ≤ length (w.nodes name).taken
   pub links : (name peer : List ℕ) → LinkIsSound w.nodes (life name (w.nodes name)) peer ((w.nodes name).peers peer)
-  pub hellos : All (Lived w.nodes) w.hellos
+  pub hellos : All (HelloIsSound w.nodes) w.hellos
   pub packets : All (PacketIsSound w.nodes w.made) w.packets
   pub acks : All (AckIsSound w.nodes) w.acks
 
@@ -100,8 +107,8 @@ pub Lived-now : (nodes : Nodes) (name : List ℕ) → Lived nodes (life name (no
 Lived-now nodes name = lives_now (nodes name)
 
 -- a node that restarts in a life that it never had
-pub restart_goes_on : (old : Node) (i : ℕ) → has_lived old i ≡ false → GoesOn old (new_node i (old.incarnation ∷ old.earlier))
-restart_goes_on old i fresh j h = (
+pub restart_goes_on : (old : Node) (i : ℕ) (version : Version) → has_lived old i ≡ false → GoesOn old (new_node i (old.incarnation ∷ old.earlier) version)
+restart_goes_on old i version fresh j h = (
   or_right (i == j) (has_lived old j) h,
   λ is. absurd (false≢true (sym fresh ∙ subst (λ k. has_lived old k ≡ true) (sym is) h)),
 )
@@ -125,9 +132,9 @@ module _ (old new : Nodes) (on : GoOn old new) where
   }
 
   pub LinkIsSound-later : (me : Life) (peer : List ℕ) (p : Peer) → Lived old me → LinkIsSound old me peer p → LinkIsSound new me peer p
-  LinkIsSound-later me peer p lived h i e =
-      let them : Life = record { node = peer; incarnation = i } in
-      let there = h i e in
+  LinkIsSound-later me peer p lived h known e =
+      let them : Life = record { node = peer; incarnation = known.incarnation } in
+      let there = h known e in
       (Lived-later them there.0, (there.1.0, Reached-later me them there.1.0 p.acked lived there.0 there.1.1))
 
   pub PacketIsSound-later : (made : List Made) (p : Packet) → PacketIsSound old made p → PacketIsSound new made p
@@ -161,7 +168,7 @@ IsSound-node w name x s on holds comes uses links =
       uses = at_each w.nodes name x (λ other y. (peer : List ℕ) → y.used peer ≤ length y.taken) uses s.uses;
       links = at_each w.nodes name x (λ other y. (peer : List ℕ) → LinkIsSound new (life other y) peer (y.peers peer)) links
           (λ other peer. LinkIsSound-later w.nodes new all_on (life other (w.nodes other)) peer ((w.nodes other).peers peer) (Lived-now w.nodes other) (s.links other peer));
-      hellos = All-weaker (Lived w.nodes) (Lived new) (Lived-later w.nodes new all_on) w.hellos s.hellos;
+      hellos = All-weaker (HelloIsSound w.nodes) (HelloIsSound new) (λ hello. Lived-later w.nodes new all_on hello.life) w.hellos s.hellos;
       packets = All-weaker (PacketIsSound w.nodes w.made) (PacketIsSound new w.made) (PacketIsSound-later w.nodes new all_on w.made) w.packets s.packets;
       acks = All-weaker (AckIsSound w.nodes) (AckIsSound new) (AckIsSound-later w.nodes new all_on) w.acks s.acks;
     }

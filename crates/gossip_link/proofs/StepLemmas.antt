@@ -6,6 +6,7 @@ use Rattle.std.proofs.lemmas.List.{take_all}
 use Rattle.chat_change.specs.declared.change.Change.{Change}
 use Rattle.chat_history.specs.Numbering.{delta}
 use Rattle.peer_lines.specs.Life.{Packet, Ack}
+use Rattle.peer_lines.specs.declared.version.Version.{Version}
 use Rattle.gossip_link.specs.Peer.{after_hello, packet_of, packet_is_mine, ack_of, after_ack}
 use Rattle.gossip_link.specs.Cluster.{World, Event, Make, Take, Greet, Hello_comes, Send, Packet_comes, Ack_comes, Restart, with_value, life, with_node, with_peer, with_taken, new_node, with_packet, packet_comes, ack_comes, happens, run, start, has_lived, LivesDiffer}
 use Rattle.gossip_link.specs.Promises.{IsReached}
@@ -40,12 +41,12 @@ Leads-then u v w p q = record {
 -- what events lead to from a world that is reached is reached
 pub reached_then : (v w : World) → IsReached v → Leads v w → IsReached w
 reached_then v w r p =
-    let first : Leads (start r.incarnations) v = record { events = r.events; differ = r.differ; ends = r.ends } in
-    let all = Leads-then (start r.incarnations) v w first p in
-    record { incarnations = r.incarnations; events = all.events; differ = all.differ; ends = all.ends }
+    let first : Leads (start r.incarnations r.versions) v = record { events = r.events; differ = r.differ; ends = r.ends } in
+    let all = Leads-then (start r.incarnations r.versions) v w first p in
+    record { incarnations = r.incarnations; versions = r.versions; events = all.events; differ = all.differ; ends = all.ends }
 
 pub reached_sound : (w : World) → IsReached w → IsSound w
-reached_sound w r = subst IsSound r.ends (IsSound-run r.events (start r.incarnations) r.differ (IsSound-start r.incarnations))
+reached_sound w r = subst IsSound r.ends (IsSound-run r.events (start r.incarnations r.versions) r.differ (IsSound-start r.incarnations r.versions))
 
 -- ---- a node makes changes, and takes them
 
@@ -63,12 +64,12 @@ takes_own w name changes =
 
 -- ---- a node hears the hello of a peer's present life
 
-pub hears_hello : (w : World) (name peer : List ℕ)
+pub hears_hello : (w : World) (name peer : List ℕ) (version : Version)
     → Leads w (record w {
-      nodes = with_value w.nodes name (with_peer (w.nodes name) peer (after_hello peer ((w.nodes name).peers peer) (life peer (w.nodes peer))));
-      hellos = life peer (w.nodes peer) ∷ w.hellos;
+      nodes = with_value w.nodes name (with_peer (w.nodes name) peer (after_hello peer ((w.nodes name).peers peer) (life peer (w.nodes peer)) version));
+      hellos = record { life = life peer (w.nodes peer); version = version } ∷ w.hellos;
     })
-hears_hello w name peer = record { events = Greet peer ∷ Hello_comes name peer 0 ∷ []; differ = (tt, (tt, tt)); ends = refl }
+hears_hello w name peer version = record { events = Greet peer version ∷ Hello_comes name peer 0 ∷ []; differ = (tt, (tt, tt)); ends = refl }
 
 -- ---- packets and acknowledgements
 
@@ -76,7 +77,7 @@ hears_hello w name peer = record { events = Greet peer ∷ Hello_comes name peer
 abbrev pub next_packet : World → List ℕ → List ℕ → Option Packet
 next_packet w name peer =
     let x = w.nodes name in
-    packet_of (life name x) peer (x.peers peer).heard (delta 0 x.taken (x.peers peer).acked)
+    packet_of x.version (life name x) peer (x.peers peer).heard (delta 0 x.taken (x.peers peer).acked)
 
 pub sends_all : (w : World) (name peer : List ℕ) → IsReached w
     → Leads w (with_packet w name peer (length (w.nodes name).taken) (next_packet w name peer))
@@ -88,7 +89,7 @@ sends_all w name peer r =
       events = Send name peer (length x.taken) ∷ [];
       differ = (tt, tt);
       ends =
-          ap (λ cs. cond (nat_le (x.used peer) (length cs)) (with_packet w name peer (length cs) (packet_of (life name x) peer (x.peers peer).heard (delta 0 cs (x.peers peer).acked))) w)
+          ap (λ cs. cond (nat_le (x.used peer) (length cs)) (with_packet w name peer (length cs) (packet_of x.version (life name x) peer (x.peers peer).heard (delta 0 cs (x.peers peer).acked))) w)
           (take_all (length x.taken) x.taken (omega arith))
           ∙ ap (λ b. cond b (with_packet w name peer (length x.taken) (next_packet w name peer)) w) fits;
     }
@@ -117,6 +118,6 @@ ack_comes_in w name peer which a there =
 
 -- ---- a node starts again
 
-pub restarts : (w : World) (name : List ℕ) (incarnation : ℕ) → has_lived (w.nodes name) incarnation ≡ false
-    → Leads w (with_node w name (new_node incarnation ((w.nodes name).incarnation ∷ (w.nodes name).earlier)))
-restarts w name incarnation fresh = record { events = Restart name incarnation ∷ []; differ = (fresh, tt); ends = refl }
+pub restarts : (w : World) (name : List ℕ) (incarnation : ℕ) (version : Version) → has_lived (w.nodes name) incarnation ≡ false
+    → Leads w (with_node w name (new_node incarnation ((w.nodes name).incarnation ∷ (w.nodes name).earlier) version))
+restarts w name incarnation version fresh = record { events = Restart name incarnation version ∷ []; differ = (fresh, tt); ends = refl }

@@ -1,18 +1,20 @@
 -- A cluster: nodes that make changes, take them, send each other deltas and restart, over every
--- schedule. The network is all that was ever sent, of which anything may come, again and in any order, or never.
+-- schedule. Each node speaks a version of its own, and may say hello in any. The network is all that was ever sent, of which anything may come, again and in any order, or never.
 use Rattle.std.specs.Prelude.{ℕ, ◌≡◌, ⊤, Bool, false, ◌==◌, Option, Some, None, List, [], ◌∷◌, ◌++◌, length, take, slice_get, nat_le, if◌then◌else◌}
 use Rattle.std.specs.List.{list_any}
 use Rattle.chat_change.specs.declared.change.Change.{Change}
 use Rattle.chat_history.specs.History.{History, norm, changes_of}
 use Rattle.chat_history.specs.Numbering.{delta}
-use Rattle.peer_lines.specs.Life.{Life, Packet, Ack}
+use Rattle.peer_lines.specs.Life.{Life, Hello, Packet, Ack}
 use Rattle.peer_lines.specs.Names.{same_name}
+use Rattle.peer_lines.specs.declared.version.Version.{Version}
 use Rattle.gossip_link.specs.Peer.{Peer, unheard, after_hello, packet_of, after_packet, packet_is_mine, ack_of, after_ack}
 
 -- a node in its present life
 pub record Node : Type 0 where
   pub incarnation : ℕ
   pub earlier : List ℕ  -- the incarnations of its earlier lives
+  pub version : Version  -- the version that it speaks
   pub history : History  -- what it holds
   pub taken : List Change  -- what it took
   pub peers : List ℕ → Peer  -- what it knows of each peer, by name
@@ -26,7 +28,7 @@ pub record Made : Type 0 where
 pub record World : Type 0 where
   pub nodes : List ℕ → Node  -- by name
   pub made : List Made  -- all that was ever made
-  pub hellos : List Life  -- all that were ever sent, as the packets and the acknowledgements
+  pub hellos : List Hello  -- all that were ever sent, as the packets and the acknowledgements
   pub packets : List Packet
   pub acks : List Ack
 
@@ -34,24 +36,24 @@ pub record World : Type 0 where
 --   Make          a node makes changes
 --   Take          it takes the first so many of a list that it made
 --   Ask           it is asked something
---   Greet         it says hello
+--   Greet         it says hello, in its own version or another that it is told to say
 --   Hello_comes   a hello reaches its link with a peer
 --   Send          it sends a peer the delta of the first so many changes that it took
 --   Packet_comes  a packet reaches its link with a peer
 --   Part_comes    so does one of which it takes no more than so many changes
 --   Ack_comes     an acknowledgement reaches its link with a peer
---   Restart       it starts again, in another incarnation
+--   Restart       it starts again, in another incarnation, and perhaps in another version
 pub data Event : Type 0 where
   Make : (node : List ℕ) (changes : List Change) → Event
   Take : (node : List ℕ) (which count : ℕ) → Event
   Ask : (node : List ℕ) → Event
-  Greet : (node : List ℕ) → Event
+  Greet : (node : List ℕ) (version : Version) → Event
   Hello_comes : (node peer : List ℕ) (which : ℕ) → Event
   Send : (node peer : List ℕ) (count : ℕ) → Event
   Packet_comes : (node peer : List ℕ) (which : ℕ) → Event
   Part_comes : (node peer : List ℕ) (which count : ℕ) → Event
   Ack_comes : (node peer : List ℕ) (which : ℕ) → Event
-  Restart : (node : List ℕ) (incarnation : ℕ) → Event
+  Restart : (node : List ℕ) (incarnation : ℕ) (version : Version) → Event
 
 -- ---- parts of a world
 
@@ -79,10 +81,11 @@ with_taken x changes = record x {
 }
 
 -- a node that starts: it has taken nothing and knows no life
-abbrev pub new_node : ℕ → List ℕ → Node
-new_node incarnation earlier = record {
+abbrev pub new_node : ℕ → List ℕ → Version → Node
+new_node incarnation earlier version = record {
   incarnation = incarnation;
   earlier = earlier;
+  version = version;
   history = norm [];
   taken = [];
   peers = λ _. unheard;
@@ -98,11 +101,12 @@ take_made w name count (Some m) =
     then with_node w name (with_taken (w.nodes name) (take count m.changes))
     else w
 
-abbrev pub hear : World → List ℕ → List ℕ → Option Life → World
+abbrev pub hear : World → List ℕ → List ℕ → Option Hello → World
 hear w name peer None = w
 hear w name peer (Some hello) =
     let x = w.nodes name in
-    with_node w name (with_peer x peer (after_hello peer (x.peers peer) hello))
+    with_node w name
+    (with_peer x peer (after_hello peer (x.peers peer) hello.life hello.version))
 
 abbrev pub with_packet : World → List ℕ → List ℕ → ℕ → Option Packet → World
 with_packet w name peer count None = w
@@ -115,14 +119,14 @@ with_packet w name peer count (Some p) =
     }
 
 -- a delta is made of the first changes that were taken, no fewer than were used before in this life
--- towards the peer
+-- towards the peer. Towards a life of a lower version there is none
 abbrev pub send : World → List ℕ → List ℕ → List Change → World
 send w name peer first =
     let x = w.nodes name in
     let p = x.peers peer in
     if nat_le (x.used peer) (length first)
     then with_packet w name peer (length first)
-    (packet_of (life name x) peer p.heard (delta 0 first p.acked))
+    (packet_of x.version (life name x) peer p.heard (delta 0 first p.acked))
     else w
 
 abbrev pub packet_comes : World → List ℕ → List ℕ → Option Packet → World
@@ -156,26 +160,27 @@ happens w (Make name changes) =
     record w { made = record { by = name; changes = changes } ∷ w.made }
 happens w (Take name which count) = take_made w name count (slice_get w.made which)
 happens w (Ask name) = w
-happens w (Greet name) = record w { hellos = life name (w.nodes name) ∷ w.hellos }
+happens w (Greet name version) =
+    record w { hellos = record { life = life name (w.nodes name); version = version } ∷ w.hellos }
 happens w (Hello_comes name peer which) = hear w name peer (slice_get w.hellos which)
 happens w (Send name peer count) = send w name peer (take count (w.nodes name).taken)
 happens w (Packet_comes name peer which) = packet_comes w name peer (slice_get w.packets which)
 happens w (Part_comes name peer which count) =
     part_comes w name peer count (slice_get w.packets which)
 happens w (Ack_comes name peer which) = ack_comes w name peer (slice_get w.acks which)
-happens w (Restart name incarnation) =
+happens w (Restart name incarnation version) =
     let x = w.nodes name in
-    with_node w name (new_node incarnation (x.incarnation ∷ x.earlier))
+    with_node w name (new_node incarnation (x.incarnation ∷ x.earlier) version)
 
 -- a whole schedule
 abbrev pub run : List Event → World → World
 run [] w = w
 run (e ∷ es) w = run es (happens w e)
 
--- each node in its first life, by these incarnations
-abbrev pub start : (List ℕ → ℕ) → World
-start incarnations = record {
-  nodes = λ name. new_node (incarnations name) [];
+-- each node in its first life, by these incarnations and versions
+abbrev pub start : (List ℕ → ℕ) → (List ℕ → Version) → World
+start incarnations versions = record {
+  nodes = λ name. new_node (incarnations name) [] (versions name);
   made = [];
   hellos = [];
   packets = [];
@@ -192,13 +197,13 @@ abbrev pub IsFresh : World → Event → Type 0
 IsFresh w (Make name changes) = ⊤
 IsFresh w (Take name which count) = ⊤
 IsFresh w (Ask name) = ⊤
-IsFresh w (Greet name) = ⊤
+IsFresh w (Greet name version) = ⊤
 IsFresh w (Hello_comes name peer which) = ⊤
 IsFresh w (Send name peer count) = ⊤
 IsFresh w (Packet_comes name peer which) = ⊤
 IsFresh w (Part_comes name peer which count) = ⊤
 IsFresh w (Ack_comes name peer which) = ⊤
-IsFresh w (Restart name incarnation) = has_lived (w.nodes name) incarnation ≡ false
+IsFresh w (Restart name incarnation version) = has_lived (w.nodes name) incarnation ≡ false
 
 -- each restart has an incarnation that the node never had before
 abbrev pub LivesDiffer : List Event → World → Type 0

@@ -8,9 +8,12 @@ use Rattle.chat_history.specs.Numbering.{Delta}
 use Rattle.peer_lines.specs.Life.{Life, Packet, Ack, same_life}
 use Rattle.peer_lines.specs.Names.{same_name}
 use Rattle.peer_lines.specs.Spelling.{IsPacket}
+use Rattle.peer_lines.specs.Version.{is_lower}
+use Rattle.peer_lines.specs.declared.version.Version.{Version}
+use Rattle.gossip_link.specs.declared.link.Heard.{Heard}
 
 pub record Peer : Type 0 where
-  pub heard : Option ℕ  -- the peer's incarnation, where a hello told of it
+  pub heard : Option Heard  -- what a hello told of the peer's present life, its incarnation and its version
   pub acked : ℕ  -- the greatest number that this life of the peer acknowledged
   pub sent : ℕ  -- the greatest number that was sent to this life of the peer
 
@@ -20,13 +23,13 @@ unheard = record { heard = None; acked = 0; sent = 0 }
 -- ---- hellos
 
 -- whether an incarnation is the first that is heard of, or greater
-abbrev pub is_news : Option ℕ → ℕ → Bool
+abbrev pub is_news : Option Heard → ℕ → Bool
 is_news None i = true
-is_news (Some known) i = nat_lt known i
+is_news (Some known) i = nat_lt known.incarnation i
 
-abbrev pub is_older : Option ℕ → ℕ → Bool
+abbrev pub is_older : Option Heard → ℕ → Bool
 is_older None i = false
-is_older (Some known) i = nat_lt i known
+is_older (Some known) i = nat_lt i known.incarnation
 
 -- of a peer's name, what is known of it, and the life that says hello
 abbrev pub hello_is_wrong : List ℕ → Peer → Life → Bool
@@ -35,23 +38,33 @@ hello_is_wrong name p life = not (same_name name life.node) || is_older p.heard 
 abbrev pub hello_is_news : List ℕ → Peer → Life → Bool
 hello_is_news name p life = same_name name life.node && is_news p.heard life.incarnation
 
-abbrev pub after_hello : List ℕ → Peer → Life → Peer
-after_hello name p life =
+-- a later hello of a life that is known changes nothing, whatever version it bears
+abbrev pub after_hello : List ℕ → Peer → Life → Version → Peer
+after_hello name p life version =
     if hello_is_news name p life
-    then record { heard = Some life.incarnation; acked = 0; sent = 0 }
+    then record {
+      heard = Some (record { incarnation = life.incarnation; version = version });
+      acked = 0;
+      sent = 0;
+    }
     else p
 
 -- ---- packets
 
--- the packet of a delta, from my life to the peer's, if its life is known and the delta has changes
-abbrev pub packet_of : Life → List ℕ → Option ℕ → Delta → Option Packet
-packet_of me name None d = None
-packet_of me name (Some i) d =
-    if length d.changes == 0
+-- whether packets are made for a peer by a node that speaks this version: its life is known, and speaks no lower one
+abbrev pub is_served : Version → Option Heard → Bool
+is_served own None = false
+is_served own (Some known) = not (is_lower known.version own)
+
+-- the packet of a delta, from my life to the peer's, if the peer is served and the delta has changes
+abbrev pub packet_of : Version → Life → List ℕ → Option Heard → Delta → Option Packet
+packet_of own me name None d = None
+packet_of own me name (Some known) d =
+    if is_lower known.version own || (length d.changes == 0)
     then None
     else Some (record {
       sender = me;
-      receiver = record { node = name; incarnation = i };
+      receiver = record { node = name; incarnation = known.incarnation };
       from = d.from;
       to = d.to;
       changes = d.changes;
@@ -78,9 +91,9 @@ ack_of me packet = record { sender = me; receiver = packet.sender; upto = packet
 
 -- ---- acknowledgements
 
-abbrev pub is_known : Option ℕ → ℕ → Bool
+abbrev pub is_known : Option Heard → ℕ → Bool
 is_known None i = false
-is_known (Some known) i = known == i
+is_known (Some known) i = known.incarnation == i
 
 -- whether an acknowledgement is for my life, from the life of the peer that is known
 abbrev pub ack_is_mine : Life → List ℕ → Peer → Ack → Bool

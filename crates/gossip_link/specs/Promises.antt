@@ -1,6 +1,6 @@
 -- What a cluster promises, whatever happens.
-use Rattle.std.specs.Prelude.{ℕ, ◌≡◌, ◌≤◌, ◌⊎◌, Contains, Option, Some, List}
-use Rattle.std.specs.Option.{IfSome}
+use Rattle.std.specs.Prelude.{ℕ, ◌≡◌, ◌≤◌, ◌⊎◌, true, Contains, Option, Some, List}
+use Rattle.std.specs.Option.{IfSome, option_map}
 use Rattle.std.specs.FinMap.{get}
 use Rattle.chat_change.specs.Buffer.{Buffer}
 use Rattle.chat_change.specs.Record.{Record}
@@ -9,6 +9,9 @@ use Rattle.chat_change.specs.declared.change.Change.TheVariants.{Post, Redact, M
 use Rattle.chat_change.specs.Key.{Key}
 use Rattle.chat_history.specs.History.{Includes}
 use Rattle.chat_history.specs.Numbering.{Delta, delta, front, number}
+use Rattle.peer_lines.specs.declared.version.Version.{Version}
+use Rattle.gossip_link.specs.declared.link.Heard.{Heard}
+use Rattle.gossip_link.specs.Peer.{is_served}
 use Rattle.gossip_link.specs.Cluster.{Made, World, Event, run, start, LivesDiffer}
 
 -- some node made the change
@@ -32,9 +35,18 @@ ComesFrom made (Redact b m t) = WasRedacted made b m × IfSome t (IsMadeMoment m
 ComesFrom made (Mark b t) = IsMade made (Mark b t)
 ComesFrom made (Floor b t) = IsMade made (Floor b t)
 
+abbrev pub incarnation_of : Option Heard → Option ℕ
+incarnation_of heard = option_map (λ (h : Heard). h.incarnation) heard
+
 -- a node knows the life that a peer has now
 abbrev pub Knows : World → List ℕ → List ℕ → Type 0
-Knows w name peer = ((w.nodes name).peers peer).heard ≡ Some (w.nodes peer).incarnation
+Knows w name peer =
+    incarnation_of ((w.nodes name).peers peer).heard ≡ Some (w.nodes peer).incarnation
+
+-- the life that a node knows of a peer speaks no lower version than the node
+abbrev pub Serves : World → List ℕ → List ℕ → Type 0
+Serves w name peer =
+    is_served (w.nodes name).version ((w.nodes name).peers peer).heard ≡ true
 
 -- the peer includes every piece that the node holds with a number up to its acknowledged number
 abbrev pub PeerIncludes : World → List ℕ → List ℕ → Type 0
@@ -55,6 +67,7 @@ next_delta w name peer = delta 0 (w.nodes name).taken ((w.nodes name).peers peer
 -- some events lead there from nodes in their first lives, and each restart had an incarnation that its node never had
 pub record IsReached (w : World) : Type 0 where
   pub incarnations : List ℕ → ℕ
+  pub versions : List ℕ → Version
   pub events : List Event
-  pub differ : LivesDiffer events (start incarnations)
-  pub ends : run events (start incarnations) ≡ w
+  pub differ : LivesDiffer events (start incarnations versions)
+  pub ends : run events (start incarnations versions) ≡ w

@@ -12,9 +12,9 @@ use peer_lines::PeerLine;
 /// Who opened a connection.
 #[derive(Clone, Copy, Debug, PartialEq, Eq)]
 pub enum Side {
-    /// This node, which greets first.
-    Opener,
-    /// The other node. This one greets once it has heard the right word.
+    /// This node, to the peer at that place of the terms, whom it greets first.
+    Opener(usize),
+    /// The other node. This one answers once it has heard the right word and a peer's hello.
     Acceptor,
 }
 
@@ -25,7 +25,9 @@ pub enum Stage {
     Silent,
     /// It has said the right word.
     Trusted,
-    /// It has said hello: the peer at that place of the terms.
+    /// It has just said its first hello: the peer at that place of the terms.
+    Introduced(usize),
+    /// It has said more since: the peer at that place.
     Known(usize),
     /// It broke the rules, and the connection is to be closed.
     Refused,
@@ -36,8 +38,9 @@ pub enum Stage {
 pub enum Action {
     /// Nothing.
     Wait,
-    /// The own word and then the own hello are to be sent.
-    Greet,
+    /// The own word and then the own hello are to be sent to the peer at that place of the terms, and the line goes to the
+    /// link with it.
+    GreetAndHandUp(usize),
     /// The line goes to the link with the peer at that place of the terms.
     HandUp(usize),
     /// The connection is to be closed, and the line is dropped.
@@ -46,10 +49,10 @@ pub enum Action {
 
 // The stage after a node that was trusted said hello.
 fn after_hello(place: Option<usize>) -> Stage
-    ensures { result ≡ spec.known_at place }
+    ensures { result ≡ spec.introduced_at place }
 {
     match place {
-        Some(place) => Stage::Known(place),
+        Some(place) => Stage::Introduced(place),
         None => Stage::Refused,
     }
 }
@@ -82,13 +85,13 @@ impl Handshake {
         }
     }
 
-    /// Whether the own word and hello are to be sent before any line came.
-    pub fn greets_first(&self) -> bool
-        ensures { result ≡ spec.greets_first self.now.side }
+    /// The place of the peer to which the own word and hello are to be sent before any line came, if they are.
+    pub fn greeted_first(&self) -> Option<usize>
+        ensures { result ≡ spec.greeted_first self.now.side }
     {
         match self.side {
-            Side::Opener => true,
-            Side::Acceptor => false,
+            Side::Opener(to) => Some(to),
+            Side::Acceptor => None,
         }
     }
 
@@ -109,9 +112,10 @@ fn action_at(side: Side, stage: Stage) -> Action
 {
     match stage {
         Stage::Silent => Action::Wait,
-        Stage::Trusted => match side {
-            Side::Opener => Action::Wait,
-            Side::Acceptor => Action::Greet,
+        Stage::Trusted => Action::Wait,
+        Stage::Introduced(place) => match side {
+            Side::Opener(_) => Action::HandUp(place),
+            Side::Acceptor => Action::GreetAndHandUp(place),
         },
         Stage::Known(place) => Action::HandUp(place),
         Stage::Refused => Action::Close,
@@ -127,6 +131,7 @@ fn next_stage(terms: &Terms, stage: Stage, line: Option<&PeerLine>) -> Stage
     match stage {
         Stage::Silent => after_first(terms, line),
         Stage::Trusted => after_second(terms, line),
+        Stage::Introduced(place) => after_more(terms, place, line),
         Stage::Known(place) => after_more(terms, place, line),
         Stage::Refused => Stage::Refused,
     }
@@ -143,7 +148,7 @@ fn after_first(terms: &Terms, line: &PeerLine) -> Stage
                 Stage::Refused
             }
         }
-        PeerLine::Hello(_) => Stage::Refused,
+        PeerLine::Hello(_, _) => Stage::Refused,
         PeerLine::Head(_) => Stage::Refused,
         PeerLine::Change(_) => Stage::Refused,
         PeerLine::Ack(_) => Stage::Refused,
@@ -155,7 +160,7 @@ fn after_second(terms: &Terms, line: &PeerLine) -> Stage
 {
     match line {
         PeerLine::Word(_) => Stage::Refused,
-        PeerLine::Hello(life) => after_hello(terms.index_of(life.node())),
+        PeerLine::Hello(life, _) => after_hello(terms.index_of(life.node())),
         PeerLine::Head(_) => Stage::Refused,
         PeerLine::Change(_) => Stage::Refused,
         PeerLine::Ack(_) => Stage::Refused,
@@ -167,7 +172,7 @@ fn after_more(terms: &Terms, place: usize, line: &PeerLine) -> Stage
 {
     match line {
         PeerLine::Word(_) => Stage::Refused,
-        PeerLine::Hello(life) => after_hello_again(place, terms.index_of(life.node())),
+        PeerLine::Hello(life, _) => after_hello_again(place, terms.index_of(life.node())),
         PeerLine::Head(_) => Stage::Known(place),
         PeerLine::Change(_) => Stage::Known(place),
         PeerLine::Ack(_) => Stage::Known(place),

@@ -1,27 +1,36 @@
 //! Links: what a node knows of one peer, and what each message does to it.
-ghost use Rattle.std.specs.Prelude.{◌≡◌, ◌++◌, ◌⊎◌, ◌↔◌, ℕ, List, false, IsTrue, None, is_some};
+ghost use Rattle.std.specs.Prelude.{◌≡◌, ◌++◌, ◌⊎◌, ◌↔◌, ℕ, List, true, false, None};
 ghost use Rattle.std.specs.Prelude.{IfOk, IfErr, OnOk, OnErr, take, if◌then◌else◌};
 ghost use Rattle.chat_change.specs.declared.change.Change.{Change as Piece};
 ghost use Rattle.chat_history.specs.Numbering.{delta};
 ghost use Rattle.gossip_delta.specs.Growth.{AfterOthers};
 ghost use Rattle.peer_lines.specs.Names.{same_name};
+ghost use Rattle.peer_lines.specs.declared.version.TheConstants.Version.{OWN};
 ghost use Rattle.gossip_link.specs.Link.{fault_of};
 ghost use Rattle.gossip_link.specs.Peer.{unheard, is_news, is_older, is_known};
 ghost use Rattle.gossip_link.specs.Peer.{hello_is_wrong, hello_is_news, after_hello};
-ghost use Rattle.gossip_link.specs.Peer.{packet_of, after_make, packet_is_mine, ack_of, MayBeWritten};
+ghost use Rattle.gossip_link.specs.Peer.{is_served, packet_of, after_make, packet_is_mine, ack_of, MayBeWritten};
 ghost use Rattle.gossip_link.specs.Peer.{ack_is_mine, ack_is_too_high, after_ack};
 
 use gossip_delta::{DeltaFault, Source, Taker};
-use peer_lines::{Ack, Life, LinkFault, NodeName, Packet};
+use peer_lines::{Ack, Life, LinkFault, NodeName, Packet, Version};
 use std::alloc::Global;
 use std::marker::Model;
+
+// What a node knows of its peer's present life.
+#[derive(Clone, Copy)]
+struct Heard {
+    incarnation: u64,
+    // the one of the first hello of this life
+    version: Version,
+}
 
 /// One node's side towards one peer.
 #[derive(Drop)]
 pub struct Link {
     me: Life,
     name: NodeName,
-    heard: Option<u64>,
+    heard: Option<Heard>,
     acked: u64,
     sent: u64,
 }
@@ -48,30 +57,30 @@ fn fault_of(fault: DeltaFault) -> LinkFault
 }
 
 // Whether an incarnation is the first that is heard of, or greater.
-fn is_first_or_greater(heard: Option<u64>, incarnation: u64) -> bool
+fn is_first_or_greater(heard: Option<Heard>, incarnation: u64) -> bool
     ensures { result ≡ is_news heard incarnation }
 {
     match heard {
         None => true,
-        Some(known) => known < incarnation,
+        Some(known) => known.incarnation < incarnation,
     }
 }
 
-fn is_smaller(heard: Option<u64>, incarnation: u64) -> bool
+fn is_smaller(heard: Option<Heard>, incarnation: u64) -> bool
     ensures { result ≡ is_older heard incarnation }
 {
     match heard {
         None => false,
-        Some(known) => incarnation < known,
+        Some(known) => incarnation < known.incarnation,
     }
 }
 
-fn is_the_known(heard: Option<u64>, incarnation: u64) -> bool
+fn is_the_known(heard: Option<Heard>, incarnation: u64) -> bool
     ensures { result ≡ is_known heard incarnation }
 {
     match heard {
         None => false,
-        Some(known) => known == incarnation,
+        Some(known) => known.incarnation == incarnation,
     }
 }
 
@@ -91,14 +100,16 @@ impl Link {
         }
     }
 
-    /// Hears of a life of the peer: whether it is a new one, the first or one of a greater incarnation. Then nothing is
-    /// acknowledged and nothing sent yet.
+    /// Hears a hello of the peer, of a life in a version: whether the life is a new one, the first or one of a greater
+    /// incarnation. Then nothing is acknowledged and nothing sent yet, and this version is the life's. A later hello of the
+    /// same life changes nothing, whatever its version.
     ///
     /// Refused with [`LinkFault::WrongLife`] exactly where it is a life of another node, or of a smaller incarnation. A
     /// refusal changes nothing.
-    pub fn hello(&mut self, life: &Life) -> Result<bool, LinkFault>
-        ensures known { self.new
-            ≡ record self.old { peer = after_hello self.old.name self.old.peer life.now } }
+    pub fn hello(&mut self, life: &Life, version: Version) -> Result<bool, LinkFault>
+        ensures known { self.new ≡ record self.old {
+          peer = after_hello self.old.name self.old.peer life.now version;
+        } }
         ensures answer { result ≡ (if hello_is_wrong self.old.name self.old.peer life.now
             then Err LinkFault.WrongLife
             else Ok (hello_is_news self.old.name self.old.peer life.now)) }
@@ -110,7 +121,10 @@ impl Link {
             return Err(LinkFault::WrongLife);
         }
         if is_first_or_greater(heard, incarnation) {
-            self.heard = Some(incarnation);
+            self.heard = Some(Heard {
+                incarnation,
+                version,
+            });
             self.acked = 0;
             self.sent = 0;
             return Ok(true);
@@ -146,7 +160,7 @@ impl Link {
     }
 
     /// The delta since the acknowledged number, as a packet from this life to the peer's. There is none where no hello was
-    /// heard or nothing is newer. What was acknowledged stays so until an acknowledgement comes: a packet that is lost is
+    /// heard, where the peer's life speaks a lower version than this program, or where nothing is newer. What was acknowledged stays so until an acknowledgement comes: a packet that is lost is
     /// made again.
     ///
     /// A packet has 1 to 256 changes, and its `from` is below its `to`, so that its lines read back.
@@ -158,14 +172,14 @@ impl Link {
         alloc: Global,
         source: &mut S,
     ) -> Result<Option<Packet>, LinkFault>
-        ensures made { IfOk result (λ packet. IsTrue (is_some self.old.peer.heard) →
+        ensures made { IfOk result (λ packet. is_served OWN self.old.peer.heard ≡ true →
             AfterOthers S.holds S.may_add source.old (λ start all. S.holds source.new start all
-            × (packet ≡ packet_of self.old.me self.old.name self.old.peer.heard
+            × (packet ≡ packet_of OWN self.old.me self.old.name self.old.peer.heard
             (delta start all self.old.peer.acked)))) }
-        ensures writable { IfOk result (λ packet. IsTrue (is_some self.old.peer.heard) →
+        ensures writable { IfOk result (λ packet. is_served OWN self.old.peer.heard ≡ true →
             AfterOthers S.holds S.may_add source.old (λ start all. S.holds source.new start all
             × MayBeWritten all packet)) }
-        ensures unheard { self.old.peer.heard ≡ None →
+        ensures unserved { is_served OWN self.old.peer.heard ≡ false →
             (result ≡ Ok None) × (source.new ≡ source.old) }
         ensures known { IfOk result (λ packet. self.new
             ≡ record self.old { peer = after_make self.old.peer packet }) }
@@ -175,10 +189,12 @@ impl Link {
         ensures kept { OnErr result (AfterOthers S.holds S.may_add source.old
             (λ start all. S.holds source.new start all)) }
     {
-        let incarnation = match self.heard {
-            None => return Ok(None),
-            Some(incarnation) => incarnation,
+        let Some(heard) = self.heard else {
+            return Ok(None);
         };
+        if heard.version.is_lower_than(Version::OWN) {
+            return Ok(None);
+        }
         let delta = match source.delta(alloc, self.acked) {
             Ok(delta) => delta,
             Err(fault) => return Err(fault_of(fault)),
@@ -187,7 +203,7 @@ impl Link {
             return Ok(None);
         }
         let (sender, receiver) = match (self.me.try_clone(alloc), self.name.try_clone(alloc)) {
-            (Ok(sender), Ok(node)) => (sender, Life::new(node, incarnation)),
+            (Ok(sender), Ok(node)) => (sender, Life::new(node, heard.incarnation)),
             _ => return Err(LinkFault::NoMemory),
         };
         let from = delta.from();

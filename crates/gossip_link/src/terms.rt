@@ -3,16 +3,25 @@ ghost use Rattle.std.specs.Prelude.{◌≡◌, position};
 ghost use Rattle.peer_lines.specs.Names.{same_name};
 ghost use Rattle.gossip_link.specs.Handshake as spec;
 
-use peer_lines::{Life, NodeName, SharedWord};
+use peer_lines::{Life, NodeName, SharedWord, Version};
 use std::marker::Model;
 
-/// What a node brings to each connection with a peer: the word that the nodes share, its own life, and the names of its
-/// peers.
+/// What a node is told of one of its peers.
+#[derive(Drop)]
+pub struct PeerTerms {
+    /// Its name.
+    pub name: NodeName,
+    /// The version of the hello that is said to it.
+    pub version: Version,
+}
+
+/// What a node brings to each connection with a peer: the word that the nodes share, its own life, and the terms with each
+/// of its peers.
 #[derive(Drop)]
 pub struct Terms {
     word: SharedWord,
     me: Life,
-    peers: Vec<NodeName>,
+    peers: Vec<PeerTerms>,
 }
 
 impl Model for Terms {
@@ -21,15 +30,15 @@ impl Model for Terms {
     ghost view = { λ t. record { word = t.word; me = t.me; peers = t.peers.items } };
 }
 
-fn index_of(names: &[NodeName], name: &NodeName) -> Option<usize>
-    ensures { result ≡ position (λ other. same_name name.now other) names.now }
+fn index_of(peers: &[PeerTerms], name: &NodeName) -> Option<usize>
+    ensures { result ≡ position (λ (peer : PeerTerms). same_name name.now peer.name) peers.now }
 {
-    names.iter().position(|other| name.is_same(other))
+    peers.iter().position(|peer| name.is_same(&peer.name))
 }
 
 impl Terms {
     /// The terms of a node.
-    pub fn new(word: SharedWord, me: Life, peers: Vec<NodeName>) -> Terms
+    pub fn new(word: SharedWord, me: Life, peers: Vec<PeerTerms>) -> Terms
         ensures { result ≡ record { word = word; me = me; peers = peers.items } }
     {
         Terms { word, me, peers }
@@ -47,6 +56,16 @@ impl Terms {
         ensures { result.now ≡ self.now.me }
     {
         &self.me
+    }
+
+    /// The version of the hello to the peer at that place.
+    pub fn version_for(&self, place: usize) -> Version
+        ensures { result ≡ spec.version_for self.now place }
+    {
+        match self.peers.get(place) {
+            Some(peer) => peer.version,
+            None => Version::OWN,
+        }
     }
 
     // Whether it is the word that the nodes share.

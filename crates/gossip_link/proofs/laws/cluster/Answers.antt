@@ -6,7 +6,7 @@ use Rattle.gossip_link.proofs.EventLemmas.{IsSound-run, IsSound-start, comes_fro
 use Rattle.gossip_link.proofs.laws.cluster.Goals as goal
 
 reached : (w : World) → IsReached w → IsSound w
-reached w r = subst IsSound r.ends (IsSound-run r.events (start r.incarnations) r.differ (IsSound-start r.incarnations))
+reached w r = subst IsSound r.ends (IsSound-run r.events (start r.incarnations r.versions) r.differ (IsSound-start r.incarnations r.versions))
 
 pub returns : goal.returns
 returns c = record {

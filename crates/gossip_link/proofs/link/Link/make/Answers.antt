@@ -1,5 +1,4 @@
-use Rattle.std.proofs.Common.{◌<◌, ◌^◌, ◌++◌, false, sym, ◌∙◌, subst}
-use Rattle.chat_history.specs.Numbering.{delta}
+use Rattle.std.proofs.Common.{◌<◌, ◌^◌, ◌++◌, sym, ◌∙◌, subst}
 use Rattle.peer_lines.specs.Life.{Life}
 use Rattle.gossip_link.proofs.PacketLemmas.{made_stands}
 use Rattle.gossip_link.proofs.link.Link.make.Goals as goal
@@ -7,12 +6,12 @@ use Rattle.gossip_link.proofs.link.Link.make.Goals as goal
 pub returns-clause-writable : goal.returns-clause-writable
 returns-clause-writable g c = λ heard start list holds.
     let given = c.in-Ok.ensures.given start list holds in
-    let fits : c.in-Some.incarnation < 2 ^ 64 = subst (λ (l : Life). l.incarnation < 2 ^ 64) c.new.ensures.life c.new.ensures.fits in (
+    let fits : c.in-Some.heard.incarnation < 2 ^ 64 = subst (λ (l : Life). l.incarnation < 2 ^ 64) c.new.ensures.life c.new.ensures.fits in (
       given.0,
       given.1,
       (
         given.2.0,
-        λ all. made_stands c.new-packet.result c.in-Ok.delta c.in-Ok-Ok.sender c.in-Ok-Ok.node c.in-Some.incarnation start _ (list ++ given.0)
+        λ all. made_stands c.new-packet.result c.in-Ok.delta c.in-Ok-Ok.sender c.in-Ok-Ok.node c.in-Some.heard.incarnation start _ (list ++ given.0)
             (c.new-packet.ensures ∙ (λ i. record {
               sender = c.in-Ok-Ok.sender;
               receiver = c.new.ensures.life i;
