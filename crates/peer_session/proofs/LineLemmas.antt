@@ -4,7 +4,7 @@ use Rattle.peer_lines.specs.Gather as gather
 use Rattle.peer_lines.specs.Gather.{Gather, pushed}
 use Rattle.peer_lines.specs.declared.gather.Arrived.{Arrived}
 use Rattle.peer_lines.specs.declared.peer_line.PeerLine.{PeerLine}
-use Rattle.gossip_link.specs.Handshake.{Terms, after, after_all, action, last_action}
+use Rattle.gossip_link.specs.Handshake.{Terms, after, after_all, action, handed_to, last_action}
 use Rattle.gossip_link.specs.declared.handshake.Side.{Side}
 use Rattle.gossip_link.specs.declared.handshake.Side.TheVariants.{Opener, Acceptor}
 use Rattle.gossip_link.specs.declared.handshake.Stage.{Stage}
@@ -12,7 +12,8 @@ use Rattle.gossip_link.specs.declared.handshake.Stage.TheVariants.{Silent, Refus
 use Rattle.gossip_link.specs.declared.handshake.Action.{Action}
 use Rattle.gossip_link.specs.declared.handshake.Action.TheVariants as act
 use Rattle.peer_session.specs.declared.heard.Heard.TheVariants.{Message, Close}
-use Rattle.peer_session.specs.Session.{Session, Step, new, step, acted, gathered}
+use Rattle.gossip_link.specs.declared.handshake.Handshake.{Handshake}
+use Rattle.peer_session.specs.Session.{Session, Step, new, step, acted, handed_up, gathered, greeting}
 use Rattle.peer_session.specs.Pace as pace
 use Rattle.peer_session.specs.Lines.{after_lines, last_step}
 
@@ -32,7 +33,10 @@ gathered_goes s place g (Err fault) = record { side = refl; stage = inr refl; en
 
 acted_goes : (t : Terms) (s : Session) (l : Option PeerLine) (a : Action) → Goes s (acted t s l a)
 acted_goes t s l act.Wait = record { side = refl; stage = inl refl; ends = λ e. cc e; rests = λ e. cc e }
-acted_goes t s l act.Greet = record { side = refl; stage = inl refl; ends = λ e. cc e; rests = λ e. cc e }
+acted_goes t s None (act.GreetAndHandUp place) = record { side = refl; stage = inr refl; ends = λ _. refl; rests = λ _. refl }
+acted_goes t s (Some l) (act.GreetAndHandUp place) =
+    let goes = gathered_goes s place (pushed s.gather l).gather (pushed s.gather l).answer in
+    record { side = goes.side; stage = goes.stage; ends = goes.ends; rests = goes.rests }
 acted_goes t s None (act.HandUp place) = record { side = refl; stage = inr refl; ends = λ _. refl; rests = λ _. refl }
 acted_goes t s (Some l) (act.HandUp place) = gathered_goes s place (pushed s.gather l).gather (pushed s.gather l).answer
 acted_goes t s l act.Close = record { side = refl; stage = inr refl; ends = λ _. refl; rests = λ _. refl }
@@ -42,12 +46,14 @@ gathered_place s place place' g (Ok None) arrived e = absurd (cc)
 gathered_place s place place' g (Ok (Some a)) arrived e = cc e
 gathered_place s place place' g (Err fault) arrived e = absurd (cc)
 
-acted_place : (t : Terms) (s : Session) (l : Option PeerLine) (a : Action) (place : ℕ) (arrived : Arrived) → (acted t s l a).heard ≡ Message place arrived → a ≡ act.HandUp place
+acted_place : (t : Terms) (s : Session) (l : Option PeerLine) (a : Action) (place : ℕ) (arrived : Arrived) → (acted t s l a).heard ≡ Message place arrived → handed_to a ≡ Some place
 acted_place t s l act.Wait place arrived e = absurd (cc)
-acted_place t s l act.Greet place arrived e = absurd (cc)
+acted_place t s None (act.GreetAndHandUp p) place arrived e = absurd (cc)
+acted_place t s (Some l) (act.GreetAndHandUp p) place arrived e =
+    ap Some (gathered_place s p place (pushed s.gather l).gather (pushed s.gather l).answer arrived e)
 acted_place t s None (act.HandUp p) place arrived e = absurd (cc)
 acted_place t s (Some l) (act.HandUp p) place arrived e =
-    ap act.HandUp (gathered_place s p place (pushed s.gather l).gather (pushed s.gather l).answer arrived e)
+    ap Some (gathered_place s p place (pushed s.gather l).gather (pushed s.gather l).answer arrived e)
 acted_place t s l act.Close place arrived e = absurd (cc)
 
 gathered_silent : (s : Session) (place : ℕ) (g : Gather) (answer : gather.ArrivedOrFault) → (gathered s place g answer).sent ≡ []
@@ -55,12 +61,26 @@ gathered_silent s place g (Ok None) = refl
 gathered_silent s place g (Ok (Some arrived)) = refl
 gathered_silent s place g (Err fault) = refl
 
-acted_sent : (t : Terms) (s : Session) (l : Option PeerLine) (a : Action) → ((acted t s l a).sent ≡ []) ⊎ (a ≡ act.Greet)
+acted_sent : (t : Terms) (s : Session) (l : Option PeerLine) (a : Action) → ((acted t s l a).sent ≡ []) ⊎ ((place : ℕ) × (a ≡ act.GreetAndHandUp place) × ((acted t s l a).sent ≡ greeting t place))
 acted_sent t s l act.Wait = inl refl
-acted_sent t s l act.Greet = inr refl
+acted_sent t s l (act.GreetAndHandUp place) = inr (place, refl, refl)
 acted_sent t s None (act.HandUp place) = inl refl
 acted_sent t s (Some l) (act.HandUp place) = inl (gathered_silent s place (pushed s.gather l).gather (pushed s.gather l).answer)
 acted_sent t s l act.Close = inl refl
+
+-- what comes of a line after which a peer is greeted, but for the greeting
+module _ (t : Terms) (s : Session) (l : Option PeerLine) (place : ℕ) (h : Handshake) (is : h ≡ record s.handshake { stage = after t s.handshake.stage l }) (e : act.GreetAndHandUp place ≡ action s.handshake.side h.stage) where
+  greeted_act : action s.handshake.side (after t s.handshake.stage l) ≡ act.GreetAndHandUp place
+  greeted_act = ap (λ (k : Handshake). action s.handshake.side k.stage) (sym is) ∙ sym e
+
+  greeted_as : acted t (record s { handshake = h }) l (act.GreetAndHandUp place) ≡ step t s l
+  greeted_as = λ i. acted t (record s { handshake = is i }) l (sym greeted_act i)
+
+  pub greeted_session : (handed_up (record s { handshake = h }) place l).session ≡ (step t s l).session
+  greeted_session = ap (λ (x : Step). x.session) greeted_as
+
+  pub greeted_heard : (handed_up (record s { handshake = h }) place l).heard ≡ (step t s l).heard
+  greeted_heard = ap (λ (x : Step). x.heard) greeted_as
 
 -- ---- a connection that is over
 
@@ -69,7 +89,7 @@ still_refused t None = refl
 still_refused t (Some l) = refl
 
 refused_closes : (side : Side) → action side Refused ≡ act.Close
-refused_closes Opener = refl
+refused_closes (Opener to) = refl
 refused_closes Acceptor = refl
 
 -- the action because of a line, where the connection is over
@@ -115,25 +135,25 @@ last_of t side before l =
     (λ r. inl (ap (λ y. action y (after t s.handshake.stage l)) h.same ∙ ap (λ y. action side (after t y l)) r ∙ ap (action side) (sym (after_one_more t Silent before l))))
     (λ r. inr (over t s.handshake.side s.handshake.stage l r)) h.reached
 
-close_is_no_message : (place : ℕ) → act.Close ≡ act.HandUp place → ⊥
+close_is_no_message : (place : ℕ) → None ≡ Some place → ⊥
 close_is_no_message place e = cc
 
-close_is_no_greeting : act.Close ≡ act.Greet → ⊥
-close_is_no_greeting e = cc
+close_is_no_greeting : (place : ℕ) → act.Close ≡ act.GreetAndHandUp place → ⊥
+close_is_no_greeting place e = cc
 
-pub handed : (t : Terms) (side : Side) (before : List (Option PeerLine)) (l : Option PeerLine) (place : ℕ) (arrived : Arrived) → (last_step t side before l).heard ≡ Message place arrived → last_action t side (before ++ l ∷ []) ≡ act.HandUp place
+pub handed : (t : Terms) (side : Side) (before : List (Option PeerLine)) (l : Option PeerLine) (place : ℕ) (arrived : Arrived) → (last_step t side before l).heard ≡ Message place arrived → handed_to (last_action t side (before ++ l ∷ [])) ≡ Some place
 handed t side before l place arrived e =
     let s : Session = after_lines t (new side) before in
     let a : Action = action s.handshake.side (after t s.handshake.stage l) in
-    let is : a ≡ act.HandUp place = acted_place t (record s { handshake = record s.handshake { stage = after t s.handshake.stage l } }) l a place arrived e in
-    ⊎_elim (λ r. sym r ∙ is) (λ r. absurd (close_is_no_message place (sym r ∙ is))) (last_of t side before l)
+    let is : handed_to a ≡ Some place = acted_place t (record s { handshake = record s.handshake { stage = after t s.handshake.stage l } }) l a place arrived e in
+    ⊎_elim (λ r. ap handed_to (sym r) ∙ is) (λ r. absurd (close_is_no_message place (ap handed_to (sym r) ∙ is))) (last_of t side before l)
 
-pub sends : (t : Terms) (side : Side) (before : List (Option PeerLine)) (l : Option PeerLine) → ((last_step t side before l).sent ≡ []) ⊎ (last_action t side (before ++ l ∷ []) ≡ act.Greet)
+pub sends : (t : Terms) (side : Side) (before : List (Option PeerLine)) (l : Option PeerLine) → ((last_step t side before l).sent ≡ []) ⊎ ((place : ℕ) × (last_action t side (before ++ l ∷ []) ≡ act.GreetAndHandUp place) × ((last_step t side before l).sent ≡ greeting t place))
 sends t side before l =
     let s : Session = after_lines t (new side) before in
     let a : Action = action s.handshake.side (after t s.handshake.stage l) in
     ⊎_elim (λ e. inl e)
-    (λ is. ⊎_elim (λ r. inr (sym r ∙ is)) (λ r. absurd (close_is_no_greeting (sym r ∙ is))) (last_of t side before l))
+    (λ is. ⊎_elim (λ r. inr (is.0, sym r ∙ is.1, is.2)) (λ r. absurd (close_is_no_greeting is.0 (sym r ∙ is.1))) (last_of t side before l))
     (acted_sent t (record s { handshake = record s.handshake { stage = after t s.handshake.stage l } }) l a)
 
 closes_at : (t : Terms) (s : Session) (l : Option PeerLine) (a : Action) → a ≡ act.Close → ((acted t s l a).heard ≡ Close) × ((acted t s l a).sent ≡ [])

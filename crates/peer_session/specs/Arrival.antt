@@ -24,12 +24,12 @@ abbrev pub ack_counts : Link → parts.Ack → Bool
 ack_counts l a = ack_is_mine l.me l.name l.peer a && not (ack_is_too_high l.peer a)
 
 abbrev pub link_after : Link → Arrived → Link
-link_after l (Hello life) = record l { peer = after_hello l.name l.peer life }
+link_after l (Hello life version) = record l { peer = after_hello l.name l.peer life version }
 link_after l (Ack a) = record l { peer = after_ack l.me l.name l.peer a }
 link_after l _ = l
 
 abbrev pub pace_after : Link → Arrived → Pace → Pace
-pace_after l (Hello life) p = if hello_is_wrong l.name l.peer life then p else pace.greeted p
+pace_after l (Hello life version) p = if hello_is_wrong l.name l.peer life then p else pace.greeted p
 pace_after l (Ack a) p = if ack_counts l a then pace.acknowledged a.upto p else p
 pace_after l _ p = p
 
@@ -46,7 +46,7 @@ reply l _ _ = []
 -- what a message may come to
 abbrev pub IsOutcome : Link → Arrived → Outcome → Type 0
 IsOutcome l (Word word) o = o ≡ Ignored
-IsOutcome l (Hello life) o = o ≡ (if hello_is_wrong l.name l.peer life then Ignored else Known)
+IsOutcome l (Hello life version) o = o ≡ (if hello_is_wrong l.name l.peer life then Ignored else Known)
 IsOutcome l (Ack a) o = o ≡ (if ack_counts l a then Known else Ignored)
 IsOutcome l (Packet p) o =
     MatchBool (packet_is_mine l.me l.name p) ((o ≡ Taken) ⊎ (o ≡ TakenInPart)) (o ≡ Ignored)

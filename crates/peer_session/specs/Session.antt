@@ -1,11 +1,11 @@
 -- One connection with a peer, and what comes of each of its lines.
-use Rattle.std.specs.Prelude.{ℕ, ◌≡◌, ◌++◌, Option, Some, None, List, [], Ok, Err, if◌then◌else◌}
+use Rattle.std.specs.Prelude.{ℕ, ◌≡◌, ◌++◌, Option, Some, None, List, [], Ok, Err}
 use Rattle.peer_lines.specs.Gather as gather
 use Rattle.peer_lines.specs.Gather.{Gather, pushed}
 use Rattle.peer_lines.specs.Spelling.{Spells, written}
 use Rattle.peer_lines.specs.declared.peer_line.PeerLine.{PeerLine}
 use Rattle.peer_lines.specs.declared.peer_line.PeerLine.TheVariants as line
-use Rattle.gossip_link.specs.Handshake.{Terms, after, action, greets_first}
+use Rattle.gossip_link.specs.Handshake.{Terms, version_for, after, action, greeted_first}
 use Rattle.gossip_link.specs.declared.handshake.Handshake.{Handshake}
 use Rattle.gossip_link.specs.declared.handshake.Side.{Side}
 use Rattle.gossip_link.specs.declared.handshake.Stage.TheVariants.{Silent, Refused}
@@ -34,13 +34,17 @@ pub record Step : Type 0 where
   pub heard : Heard
   pub sent : List ℕ
 
--- the shared word, and the own hello
-abbrev pub greeting : Terms → List ℕ
-greeting t = written (line.Word t.word) ++ written (line.Hello t.me)
+-- the shared word, and the own hello in the version for the peer at a place
+abbrev pub greeting : Terms → ℕ → List ℕ
+greeting t place = written (line.Word t.word) ++ written (line.Hello t.me (version_for t place))
+
+abbrev pub greeting_if : Terms → Option ℕ → List ℕ
+greeting_if t None = []
+greeting_if t (Some place) = greeting t place
 
 -- what is sent before any line came
 abbrev pub opening : Terms → Side → List ℕ
-opening t side = if greets_first side then greeting t else []
+opening t side = greeting_if t (greeted_first side)
 
 -- the connection is over: nothing is left of a packet that wasn't whole, and none is due
 abbrev pub refused : Session → Session
@@ -67,7 +71,7 @@ handed_up s place (Some l) = gathered s place (pushed s.gather l).gather (pushed
 
 abbrev pub acted : Terms → Session → Option PeerLine → Action → Step
 acted t s l act.Wait = record { session = s; heard = Nothing; sent = [] }
-acted t s l act.Greet = record { session = s; heard = Nothing; sent = greeting t }
+acted t s l (act.GreetAndHandUp place) = record (handed_up s place l) { sent = greeting t place }
 acted t s l (act.HandUp place) = handed_up s place l
 acted t s l act.Close = closed s
 

@@ -11,7 +11,7 @@ use crate::session::PeerSession;
 use byte_text::NoMemory;
 use chat_change::Change;
 use gossip_delta::Taker;
-use gossip_link::{Ack, Arrived, Life, Link, LinkFault, Packet, write_ack};
+use gossip_link::{Ack, Arrived, Life, Link, LinkFault, Packet, Version, write_ack};
 use std::alloc::Global;
 
 /// The changes that a message brings: those of a packet.
@@ -21,7 +21,7 @@ pub fn changes_of(arrived: &Arrived) -> &[Change]
     match arrived {
         Arrived::Packet(packet) => packet.changes(),
         Arrived::Word(_) => &[],
-        Arrived::Hello(_) => &[],
+        Arrived::Hello(_, _) => &[],
         Arrived::Ack(_) => &[],
     }
 }
@@ -67,14 +67,14 @@ fn take_packet<T: Taker>(
 
 impl PeerSession {
     // Hears of a life of the peer.
-    fn take_hello(&mut self, link: &mut Link, life: &Life) -> Outcome
-        ensures outcome { spec.IsOutcome link.old (Arrived.Hello life.now) result }
-        ensures link { link.new ≡ spec.link_after link.old (Arrived.Hello life.now) }
+    fn take_hello(&mut self, link: &mut Link, life: &Life, version: Version) -> Outcome
+        ensures outcome { spec.IsOutcome link.old (Arrived.Hello life.now version) result }
+        ensures link { link.new ≡ spec.link_after link.old (Arrived.Hello life.now version) }
         ensures pace { self.new ≡ record self.old {
-          pace = spec.pace_after link.old (Arrived.Hello life.now) self.old.pace;
+          pace = spec.pace_after link.old (Arrived.Hello life.now version) self.old.pace;
         } }
     {
-        match link.hello(life) {
+        match link.hello(life, version) {
             Ok(_) => {
                 self.pace.greet();
                 Outcome::Known
@@ -130,7 +130,7 @@ impl PeerSession {
     {
         match arrived {
             Arrived::Word(_) => Ok(Outcome::Ignored),
-            Arrived::Hello(life) => Ok(self.take_hello(link, life)),
+            Arrived::Hello(life, version) => Ok(self.take_hello(link, life, *version)),
             Arrived::Packet(packet) => take_packet(alloc, link, packet, taker, out),
             Arrived::Ack(ack) => Ok(self.take_ack(link, ack)),
         }

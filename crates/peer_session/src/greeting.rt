@@ -1,4 +1,4 @@
-//! How a node greets.
+//! How a node greets a peer.
 ghost use Rattle.std.specs.Prelude.{◌≡◌, ◌++◌, IfOk};
 ghost use Rattle.byte_text.specs.Writes.{Writes};
 ghost use Rattle.peer_session.specs.Session as spec;
@@ -8,19 +8,19 @@ use gossip_link::{Terms, write_hello, write_word};
 use std::io;
 use std::io::Write;
 
-// The shared word, and the own hello.
-fn write_greeting<W: Write>(terms: &Terms, writer: &mut W) -> io::Result<()>
-    ensures { Writes W.contents writer.old writer.new result (spec.greeting terms.now) }
+// The shared word, and the own hello to the peer at that place.
+fn write_greeting<W: Write>(terms: &Terms, place: usize, writer: &mut W) -> io::Result<()>
+    ensures { Writes W.contents writer.old writer.new result (spec.greeting terms.now place) }
 {
     write_word(terms.word().as_bytes(), writer)?;
-    write_hello(terms.me(), writer)
+    write_hello(terms.me(), terms.version_for(place), writer)
 }
 
-/// Appends the shared word and the own hello.
-pub(crate) fn greet(terms: &Terms, out: &mut Vec<u8>) -> Result<(), NoMemory>
-    ensures { IfOk result (λ _. out.new.items ≡ out.old.items ++ spec.greeting terms.now) }
+/// Appends the shared word and the own hello, which bears the version for the peer at that place.
+pub(crate) fn greet(terms: &Terms, place: usize, out: &mut Vec<u8>) -> Result<(), NoMemory>
+    ensures { IfOk result (λ _. out.new.items ≡ out.old.items ++ spec.greeting terms.now place) }
 {
-    match write_greeting(terms, out) {
+    match write_greeting(terms, place, out) {
         Ok(()) => Ok(()),
         Err(_) => Err(NoMemory),
     }

@@ -1,14 +1,13 @@
 //! Laws of the definitions. Their contracts are the laws. Their bodies do nothing but name the law below that they rest on.
 ghost use Rattle.std.specs.Prelude.{◌≡◌, ◌⊎◌, ◌++◌, ◌∷◌, [], ◌&&◌, ℕ, List, Option, Some, None};
-ghost use Rattle.std.specs.Prelude.{false, true, nat_le, slice_get};
+ghost use Rattle.std.specs.Prelude.{false, true, length, nat_le, slice_get};
 ghost use Rattle.std.specs.List.{list_any, count_by};
 ghost use Rattle.peer_lines.specs.declared.peer_line.PeerLine.{PeerLine};
-ghost use Rattle.peer_lines.specs.declared.peer_line.PeerLine.TheVariants.{Word};
 ghost use Rattle.peer_lines.specs.declared.gather.Arrived.{Arrived};
-ghost use Rattle.gossip_link.specs.Handshake.{Terms, ArePeers};
+ghost use Rattle.gossip_link.specs.Handshake.{Terms, names_of, ArePeers};
 ghost use Rattle.gossip_link.specs.declared.handshake.Side.{Side};
 ghost use Rattle.gossip_link.specs.declared.handshake.Side.TheVariants.{Acceptor};
-ghost use Rattle.peer_session.specs.Session.{Session, step};
+ghost use Rattle.peer_session.specs.Session.{Session, greeting, step};
 ghost use Rattle.peer_session.specs.Lines.{last_step};
 ghost use Rattle.peer_session.specs.declared.heard.Heard.TheVariants.{Message, Close};
 ghost use Rattle.peer_session.specs.Pace as pace;
@@ -54,16 +53,20 @@ pub fn closed_after_three_packets()
 /// What comes of the lines of a connection, whatever they are and in whatever order. A message arrives only where the lines
 /// so far, with it, are the shared word, then a hello of a configured peer other than this node, then what that peer
 /// sends; and it goes to that peer's place. Something is sent because of a line only where the other node opened the
-/// connection and the line is the first one and the right word, so no stranger is told the word. After Close no packet is
-/// due, and there is nothing but Close.
+/// connection and the lines are such a word and such a first hello, and no more: it is the greeting to that peer, so no
+/// stranger is told the word. After Close no packet is due, and there is nothing but Close.
 pub fn messages_come_from_peers()
     ensures arrives { (t : Terms) (side : Side) (before : List (Option PeerLine))
         (line : Option PeerLine) (place : ℕ) (arrived : Arrived) →
         (last_step t side before line).heard ≡ Message place arrived →
-        (are : ArePeers t (before ++ line ∷ [])) × (slice_get t.peers place ≡ Some are.peer.node) }
+        (are : ArePeers t (before ++ line ∷ []))
+        × (slice_get (names_of t) place ≡ Some are.peer.node) }
     ensures sent { (t : Terms) (side : Side) (before : List (Option PeerLine))
-        (line : Option PeerLine) → ((last_step t side before line).sent ≡ [])
-        ⊎ ((side ≡ Acceptor) × (before ++ line ∷ [] ≡ Some (Word t.word) ∷ [])) }
+        (line : Option PeerLine) → let lines = before ++ line ∷ [] in
+        ((last_step t side before line).sent ≡ [])
+        ⊎ ((side ≡ Acceptor) × (length lines ≡ 2) × (are : ArePeers t lines)
+        × (place : ℕ) × (slice_get (names_of t) place ≡ Some are.peer.node)
+        × ((last_step t side before line).sent ≡ greeting t place)) }
     ensures closed { (t : Terms) (s : Session) (line next : Option PeerLine) →
         (step t s line).heard ≡ Close → let then = step t (step t s line).session next in
         (pace.is_due (step t s line).session.pace ≡ false)

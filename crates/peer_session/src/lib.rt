@@ -22,7 +22,9 @@ mod session;
 
 pub use arrival::changes_of;
 pub use byte_text::NoMemory;
-pub use gossip_link::{Arrived, Life, Link, LinkFault, NodeName, SharedWord, Side, Terms};
+pub use gossip_link::{
+    Arrived, Life, Link, LinkFault, NodeName, PeerTerms, SharedWord, Side, Terms, Version,
+};
 pub use heard::Heard;
 pub use outcome::Outcome;
 pub use pace::{ACK_WAIT_MS, MOST_UNANSWERED};

@@ -61,7 +61,8 @@ fn next_packet<S: Source>(
 impl PeerSession {
     /// Makes the next packet for the peer where one is due, at that moment in milliseconds, and appends its lines: whether
     /// there is one. One is due once the peer has said hello and may not know of all that was published, and none is under
-    /// way. So it is to be called after each of the other calls.
+    /// way. So it is to be called after each of the other calls. A peer that speaks a lower version than this program gets
+    /// none.
     ///
     /// Refused with [`LinkFault::NoEntry`] or [`LinkFault::NoMemory`], where the source was or where there was no memory.
     /// After [`LinkFault::NoEntry`] nothing has changed, and the packet is still due. After [`LinkFault::NoMemory`] the

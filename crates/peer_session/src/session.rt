@@ -58,22 +58,21 @@ impl PeerSession {
         }
     }
 
-    /// Appends what is to be sent before any line came: the shared word and the own hello where this node opened the
-    /// connection, and nothing where the other did, so that no stranger is told the word.
+    /// Appends what is to be sent before any line came: the shared word and the own hello to the peer to which this node
+    /// opened the connection, and nothing where the other node did, so that no stranger is told the word.
     pub fn open(&self, terms: &Terms, out: &mut Vec<u8>) -> Result<(), NoMemory>
         ensures { IfOk result (λ _. out.new.items
             ≡ out.old.items ++ spec.opening terms.now self.now.handshake.side) }
     {
-        if self.handshake.greets_first() {
-            greet(terms, out)
-        } else {
-            Ok(())
+        match self.handshake.greeted_first() {
+            Some(place) => greet(terms, place, out),
+            None => Ok(()),
         }
     }
 
     /// What a line comes to. None stands for one that was too long; the others stand without their ending. The reply is
     /// appended: where the other node opened the connection, the shared word and the own hello, once that node has said
-    /// the right word.
+    /// the right word and the hello of a configured peer. The own hello bears the version that this peer is to be told.
     ///
     /// A message arrives only from a configured peer that has said the right word and hello. The connection is to be closed
     /// where a line can't be read, is too long, or breaks the order of lines, and so is it where it wasn't read or gathered
@@ -124,10 +123,9 @@ impl PeerSession {
                 drop(line);
                 Ok(Heard::Nothing)
             }
-            Action::Greet => {
-                drop(line);
-                greet(terms, out)?;
-                Ok(Heard::Nothing)
+            Action::GreetAndHandUp(place) => {
+                greet(terms, place, out)?;
+                self.gather_line(alloc, terms, place, line)
             }
             Action::HandUp(place) => self.gather_line(alloc, terms, place, line),
             Action::Close => {
