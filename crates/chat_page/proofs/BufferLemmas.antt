@@ -1,7 +1,7 @@
 -- Buffers in the order of their latest moments.
-use Rattle.std.proofs.Common.{◌≡◌, ℕ, Bool, true, false, cond, Some, List, [], ◌∷◌, filter, map, refl, sym, ◌∙◌, ap, subst}
-use Rattle.std.specs.Prelude.{◌&&◌, ◌||◌, is_some, T}
-use Rattle.std.proofs.lemmas.Bool.{false≢true}
+use Rattle.std.proofs.Common.{◌≡◌, ℕ, Bool, true, false, cond, Some, List, [], ◌∷◌, filter, map, refl, sym, ◌∙◌, ap, ⊎_elim, inl, inr}
+use Rattle.std.specs.Prelude.{◌&&◌, ◌||◌, ◌↔◌, is_some, T}
+use Rattle.std.proofs.lemmas.Bool.{false≢true, or_left, or_right}
 use Rattle.std.specs.declared.cmp.Ordering.{Ordering}
 use Rattle.std.specs.declared.cmp.Ordering.TheVariants.{Less, Equal, Greater}
 use Rattle.std.specs.Ordering.{is_lt, is_eq, eq_by_cmp, nat_cmp, ordering_then}
@@ -15,6 +15,7 @@ use Rattle.std.proofs.lemmas.Cmp.{tied_itself}
 use Rattle.std.proofs.lemmas.List.Kept.{IsStrictlySortedBy-filter}
 use Rattle.std.proofs.lemmas.Map.Lookups.{btree_set_from_contains}
 use Rattle.chat_change.specs.Order.{text_cmp}
+use Rattle.chat_history.specs.Choice.{Among}
 use Rattle.chat_history.specs.Visible.{spot_cmp}
 use Rattle.chat_history.proofs.CallerLemmas.{spot_total}
 
@@ -110,25 +111,30 @@ module _ (p : Listed → Bool) (xs : List Listed) where
       btree_set_from_contains spot_total s (record { keys = filter p (keys all) }) f.1 (IsStrictlySortedBy-filter spot_cmp p (keys all) (keys_sorted spot_cmp (entries all) (entries_sorted all)))
       (λ q. f.0 q ∙ any_filter p q xs ∙ ap (λ b. p q && b) (sym (member q)) ∙ sym (any_filter p q (keys all))) spot_exact
 
--- ---- what is true of each of a list is true of each key
+-- ---- the keys are the items of the list, in order
 
-all_any : (P : Listed → Type 0) (ys : List Listed) → ((y : Listed) → list_any (eq_by_cmp spot_cmp y) ys ≡ true → P y) → AllByRecursion P ys
-all_any P [] h = tt
-all_any P (y ∷ ys) h = (
-  h y (ap (λ b. b || list_any (eq_by_cmp spot_cmp y) ys) (ap is_eq (tied_itself spot_total y))),
-  all_any P ys (λ z e. h z (ap (λ b. eq_by_cmp spot_cmp z y || b) e ∙ or_true (eq_by_cmp spot_cmp z y))),
-) where
-  or_true : (b : Bool) → (b || true) ≡ true
-  or_true true = refl
-  or_true false = refl
-
-any_has : (P : Listed → Type 0) (q : Listed) (xs : List Listed) → AllByRecursion P xs → list_any (eq_by_cmp spot_cmp q) xs ≡ true → P q
-any_has P q [] each e = absurd (false≢true e)
-any_has P q (x ∷ xs) each e =
-    elim (eq_by_cmp spot_cmp q x) as (λ b. eq_by_cmp spot_cmp q x ≡ b → (b || list_any (eq_by_cmp spot_cmp q) xs) ≡ true → P q) [
-      | true ↦ λ t _. subst P (sym (spot_exact q x (tied (spot_cmp q x) t))) each.0
-      | false ↦ λ _ r. any_has P q xs each.1 r
+any_among : (q : Listed) (xs : List Listed) → list_any (eq_by_cmp spot_cmp q) xs ≡ true → Among q xs
+any_among q [] e = absurd (false≢true e)
+any_among q (x ∷ xs) e =
+    elim (eq_by_cmp spot_cmp q x) as (λ b. eq_by_cmp spot_cmp q x ≡ b → (b || list_any (eq_by_cmp spot_cmp q) xs) ≡ true → Among q (x ∷ xs)) [
+      | true ↦ λ t _. inl (sym (spot_exact q x (tied (spot_cmp q x) t)))
+      | false ↦ λ _ r. inr (any_among q xs r)
     ] refl e
 
-pub keys_all : (P : Listed → Type 0) (xs : List Listed) → AllByRecursion P xs → AllByRecursion P (keys (from_entries {R = spot_cmp} (map (λ (e : Listed). (e, e)) xs)))
-keys_all P xs all = all_any P (keys (from_entries {R = spot_cmp} (map (λ (e : Listed). (e, e)) xs))) (λ q e. any_has P q xs all (sym (member (λ _. true) xs q) ∙ e))
+among_any : (q : Listed) (xs : List Listed) → Among q xs → list_any (eq_by_cmp spot_cmp q) xs ≡ true
+among_any q [] m = absurd m
+among_any q (x ∷ xs) m = ⊎_elim
+    (λ (e : x ≡ q). or_left _ _ (ap is_eq (ap (spot_cmp q) e ∙ tied_itself spot_total q)))
+    (λ a. or_right (eq_by_cmp spot_cmp q x) _ (among_any q xs a)) m
+
+module _ (xs : List Listed) where
+  pub keys_among : (q : Listed) → Among q (keys (from_entries {R = spot_cmp} (map (λ (e : Listed). (e, e)) xs))) ↔ Among q xs
+  keys_among q =
+      let same = member (λ _. true) xs q in
+      let ks = keys (from_entries {R = spot_cmp} (map (λ (e : Listed). (e, e)) xs)) in
+      (λ m. any_among q xs (sym same ∙ among_any q ks m), λ m. any_among q ks (same ∙ among_any q xs m))
+
+  pub keys_rise : IsStrictlySortedBy spot_cmp (keys (from_entries {R = spot_cmp} (map (λ (e : Listed). (e, e)) xs)))
+  keys_rise =
+      let all = from_entries {R = spot_cmp} (map (λ (e : Listed). (e, e)) xs) in
+      keys_sorted spot_cmp (entries all) (entries_sorted all)

@@ -1,6 +1,8 @@
 mod ItemLemmas
 mod LastLemmas
+mod ListingLemmas
 mod PostedLemmas
+mod OwnPastLemmas
 mod GivenLemmas
 mod WalkLemmas
 mod ParameterLemmas

@@ -1,29 +1,24 @@
--- What a page has was posted.
-use Rattle.std.proofs.Common.{◌-◌, ◌/◌, ℕ, Bool, true, false, not, cond, Option, Some, None, List, length, take, filter, min, ap, nat_lt, [], ◌∷◌}
+-- What a page has was posted in the buffer that is asked for.
+use Rattle.std.proofs.Common.{◌-◌, ◌/◌, ℕ, Bool, true, false, not, cond, Option, Some, None, List, length, take, filter, min, nat_lt}
 use Rattle.std.specs.Prelude.{Contains, ◌&&◌, ◌==◌, IfSome}
 use Rattle.std.specs.Option.{option_map, option_and_then}
-use Rattle.std.specs.List.{All, AllByRecursion}
-use Rattle.std.proofs.lemmas.List.Elements.{All-append, All-take, All-drop, All-filter, All-contains, All-contains_itself, All-weaker, All-from_recursion}
+use Rattle.std.specs.List.{All}
+use Rattle.std.proofs.lemmas.List.Elements.{All-append, All-take, All-drop, All-filter, All-contains, All-contains_itself, All-weaker}
 use Rattle.chat_change.specs.Buffer.{Buffer}
 use Rattle.chat_change.specs.Record.{Record}
 use Rattle.chat_change.specs.declared.change.Change.{Change}
-use Rattle.chat_change.specs.declared.change.Change.TheVariants.{Post}
 use Rattle.chat_history.specs.History.{norm}
 use Rattle.chat_history.specs.Visible.{visible}
-use Rattle.chat_history.specs.Latest.{latest_in}
-use Rattle.chat_history.proofs.CallerLemmas.{visible_posted, IsPostedAt, all_latest_posted}
+use Rattle.chat_history.proofs.CallerLemmas.{among, norm_keyed, visible_posted}
 use Rattle.chat_page.specs.Scope.{Scope}
 use Rattle.chat_page.specs.declared.query.Query.{Query}
 use Rattle.chat_page.specs.declared.query.Query.TheVariants.{Latest, Before, After, Around, Between, Targets}
-use Rattle.chat_page.specs.Page.{Point, point_of, is_before, is_after, last, around_cut, between_cut, buffer_of, listed, buffers_in, lies_between, targets_cut, of_records, page_in, page}
-use Rattle.chat_page.specs.Posted.{IsListed, IsOfPosts}
-use Rattle.chat_page.proofs.BufferLemmas.{keys_all}
+use Rattle.chat_page.specs.Page.{Point, point_of, is_before, is_after, last, around_cut, between_cut, buffer_of, buffers_in, lies_between, targets_cut, Page, of_records, page_in, page}
+use Rattle.chat_page.specs.Posted.{IsPostedIn, IsListed, IsOfTarget, IsOfPosts}
+use Rattle.chat_page.proofs.ListingLemmas.{listing_is}
 
-abbrev IsPost : List Change → Record → Type 0
-IsPost changes r = Contains changes (Post r)
-
-all_posted : (changes : List Change) (b : Buffer) → All (IsPost changes) (visible changes b)
-all_posted changes b = All-weaker (Contains (visible changes b)) (IsPost changes) (λ r m. (visible_posted changes b r m).0) (visible changes b) (All-contains_itself (visible changes b))
+all_posted : (changes : List Change) (b : Buffer) → All (IsPostedIn changes b) (visible changes b)
+all_posted changes b = All-weaker (Contains (visible changes b)) (IsPostedIn changes b) (visible_posted changes b) (visible changes b) (All-contains_itself (visible changes b))
 
 either_all : {A : Type 0} (P : A → Type 0) (b : Bool) (xs ys : List A) → All P xs → All P ys → All P (cond b xs ys)
 either_all P true xs ys p q = p
@@ -57,40 +52,48 @@ module _ {A B : Type 0} (Q : B → Type 0) where
   some_mapped_both f (Some x) u h = some_mapped (f x) u (h x)
 
 module _ (changes : List Change) (scope : Scope) where
-  of_list : (rs : List Record) → All (IsPost changes) rs → IsOfPosts changes (of_records rs)
-  of_list rs all r m = All-contains (IsPost changes) rs r all m
+  of_list : (target : List ℕ) (rs : List Record) → All (IsPostedIn changes (buffer_of scope target)) rs → IsOfTarget changes scope (Some target) (of_records rs)
+  of_list target rs all r m = All-contains (IsPostedIn changes (buffer_of scope target)) rs r all m
 
-  listing_all : AllByRecursion (IsListed changes) (listed (latest_in (norm changes) scope.account scope.network))
-  listing_all = all_map (latest_in (norm changes) scope.account scope.network) (all_latest_posted changes scope.account scope.network) where
-    all_map : (ps : List (Buffer × ℕ)) → AllByRecursion (λ p. IsPostedAt changes p.0 p.1) ps
-        → AllByRecursion (IsListed changes) (listed ps)
-    all_map [] all = tt
-    all_map (p ∷ ps) all = (let r = all.0 in (r.0, r.1, r.2, ap (λ (b : Buffer). b.target) r.3), all_map ps all.1)
+  -- a buffer is listed by its latest visible record, which was posted
+  is_listed : (e : ℕ × List ℕ) → Contains (buffers_in (norm changes) scope) e → IsListed changes scope e
+  is_listed e m =
+      let latest = (listing_is (norm changes) (norm_keyed changes) scope e).0 (among (buffers_in (norm changes) scope) e m) in
+      (latest.0.0, visible_posted changes (buffer_of scope e.1) latest.0.0 latest.0.1, latest.0.2)
 
-  buffers_all : All (IsListed changes) (buffers_in (norm changes) scope)
-  buffers_all = All-from_recursion (IsListed changes) (buffers_in (norm changes) scope) (keys_all (IsListed changes) (listed (latest_in (norm changes) scope.account scope.network)) listing_all)
+  buffers_all : All (IsListed changes scope) (buffers_in (norm changes) scope)
+  buffers_all = All-weaker (Contains (buffers_in (norm changes) scope)) (IsListed changes scope) is_listed (buffers_in (norm changes) scope) (All-contains_itself (buffers_in (norm changes) scope))
 
-  targets_all : (n t u : ℕ) → All (IsListed changes) (targets_cut n t u (buffers_in (norm changes) scope))
+  targets_all : (n t u : ℕ) → All (IsListed changes scope) (targets_cut n t u (buffers_in (norm changes) scope))
   targets_all n t u =
-      let found = All-filter (lies_between t u) (IsListed changes) (buffers_in (norm changes) scope) buffers_all in
-      either_all (IsListed changes) (nat_lt t u) _ _ (All-take (IsListed changes) n _ found) (last_all (IsListed changes) n _ found)
+      let found = All-filter (lies_between t u) (IsListed changes scope) (buffers_in (norm changes) scope) buffers_all in
+      either_all (IsListed changes scope) (nat_lt t u) _ _ (All-take (IsListed changes scope) n _ found) (last_all (IsListed changes scope) n _ found)
 
-  pub page_posted : (query : Query) → IfSome (page changes scope query) (IsOfPosts changes)
+  abbrev Posted : List ℕ → Record → Type 0
+  Posted target = IsPostedIn changes (buffer_of scope target)
+
+  abbrev Answers : List ℕ → Page → Type 0
+  Answers target = IsOfTarget changes scope (Some target)
+
+  all : (target : List ℕ) → All (Posted target) (visible changes (buffer_of scope target))
+  all target = all_posted changes (buffer_of scope target)
+
+  pub page_posted : (query : Query) → IfSome (page changes scope query) (IsOfPosts changes scope query)
   unfolding page_in
-  page_posted (Latest target None limit) = of_list _ (last_all (IsPost changes) (min limit scope.maximum) _ (all_posted changes (buffer_of scope target)))
+  page_posted (Latest target None limit) = of_list target _ (last_all (Posted target) (min limit scope.maximum) _ (all target))
   page_posted (Latest target (Some s) limit) =
-      some_mapped (IsOfPosts changes) _ (point_of (norm changes) (buffer_of scope target) s)
-      (λ p. of_list _ (last_all (IsPost changes) (min limit scope.maximum) _ (All-filter (is_after p) (IsPost changes) _ (all_posted changes (buffer_of scope target)))))
+      some_mapped (Answers target) _ (point_of (norm changes) (buffer_of scope target) s)
+      (λ p. of_list target _ (last_all (Posted target) (min limit scope.maximum) _ (All-filter (is_after p) (Posted target) _ (all target))))
   page_posted (Before target s limit) =
-      some_mapped (IsOfPosts changes) _ (point_of (norm changes) (buffer_of scope target) s)
-      (λ p. of_list _ (last_all (IsPost changes) (min limit scope.maximum) _ (All-filter (is_before p) (IsPost changes) _ (all_posted changes (buffer_of scope target)))))
+      some_mapped (Answers target) _ (point_of (norm changes) (buffer_of scope target) s)
+      (λ p. of_list target _ (last_all (Posted target) (min limit scope.maximum) _ (All-filter (is_before p) (Posted target) _ (all target))))
   page_posted (After target s limit) =
-      some_mapped (IsOfPosts changes) _ (point_of (norm changes) (buffer_of scope target) s)
-      (λ p. of_list _ (All-take (IsPost changes) (min limit scope.maximum) _ (All-filter (is_after p) (IsPost changes) _ (all_posted changes (buffer_of scope target)))))
+      some_mapped (Answers target) _ (point_of (norm changes) (buffer_of scope target) s)
+      (λ p. of_list target _ (All-take (Posted target) (min limit scope.maximum) _ (All-filter (is_after p) (Posted target) _ (all target))))
   page_posted (Around target s limit) =
-      some_mapped (IsOfPosts changes) _ (point_of (norm changes) (buffer_of scope target) s)
-      (λ p. of_list _ (around_all (IsPost changes) (min limit scope.maximum) _ p (all_posted changes (buffer_of scope target))))
+      some_mapped (Answers target) _ (point_of (norm changes) (buffer_of scope target) s)
+      (λ p. of_list target _ (around_all (Posted target) (min limit scope.maximum) _ p (all target)))
   page_posted (Between target s u limit) =
-      some_mapped_both (IsOfPosts changes) _ (point_of (norm changes) (buffer_of scope target) s) (point_of (norm changes) (buffer_of scope target) u)
-      (λ p q. of_list _ (between_all (IsPost changes) (min limit scope.maximum) _ p q (all_posted changes (buffer_of scope target))))
-  page_posted (Targets t u limit) = (let all = targets_all (min limit scope.maximum) t u in λ e m. All-contains (IsListed changes) _ e all m)
+      some_mapped_both (Answers target) _ (point_of (norm changes) (buffer_of scope target) s) (point_of (norm changes) (buffer_of scope target) u)
+      (λ p q. of_list target _ (between_all (Posted target) (min limit scope.maximum) _ p q (all target)))
+  page_posted (Targets t u limit) = (let all = targets_all (min limit scope.maximum) t u in λ e m. All-contains (IsListed changes scope) _ e all m)

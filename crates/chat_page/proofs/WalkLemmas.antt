@@ -59,7 +59,7 @@ take_none zero xs e = refl
 take_none (suc n) [] e = refl
 take_none (suc n) (x ∷ xs) e = cc
 
-drop_none : {A : Type 0} (n : ℕ) (xs : List A) → xs ≡ [] → drop n xs ≡ []
+pub drop_none : {A : Type 0} (n : ℕ) (xs : List A) → xs ≡ [] → drop n xs ≡ []
 drop_none zero xs e = e
 drop_none (suc n) [] e = refl
 drop_none (suc n) (x ∷ xs) e = cc

@@ -4,8 +4,10 @@ pub mod Limit
 pub mod Parameters
 pub mod ListedBuffer
 pub mod Page
+pub mod Listing
 pub mod Walk
 pub mod Posted
+pub mod OwnPast
 -- what only the proofs use of the code: records between two cuts, and the place of a selector
 pub mod Cuts
 pub mod Place

@@ -1,6 +1,6 @@
 //! Laws of pages. Their contracts are the laws, and their bodies are empty.
 
-ghost use Rattle.std.specs.Prelude.{◌≡◌, ◌<◌, ◌∷◌, ◌++◌, ℕ, List, reverse, IfSome};
+ghost use Rattle.std.specs.Prelude.{◌≡◌, ◌<◌, ◌∷◌, ◌++◌, [], ℕ, List, min, take, reverse, Some, IfSome};
 ghost use Rattle.std.specs.List.{flat_map};
 ghost use Rattle.chat_change.specs.Record.{Record};
 ghost use Rattle.chat_change.specs.declared.change.Change.{Change};
@@ -8,7 +8,10 @@ ghost use Rattle.chat_history.specs.History.{norm, changes_of};
 ghost use Rattle.chat_history.specs.Visible.{visible};
 ghost use Rattle.chat_page.specs.Scope.{Scope};
 ghost use Rattle.chat_page.specs.declared.query.Query.{Query};
-ghost use Rattle.chat_page.specs.Page.{page, buffer_of};
+ghost use Rattle.chat_page.specs.declared.query.Query.TheVariants.{Targets};
+ghost use Rattle.chat_page.specs.Page.{of_buffers, page, buffer_of, last};
+ghost use Rattle.chat_page.specs.Listing.{IsListing};
+ghost use Rattle.chat_page.specs.OwnPast.{own_past, SameOwnPast};
 ghost use Rattle.chat_page.specs.Posted.{IsOfPosts};
 ghost use Rattle.chat_page.specs.Walk.{FollowPages, LatestPages};
 
@@ -20,10 +23,42 @@ pub fn pages_are_of_the_normal_form()
         (norm a)) scope query ≡ page a scope query }
 {}
 
-/// A page has only records that were posted, and lists a buffer only by the moment of a record that was posted in it.
+/// A page has only records that were posted in the buffer that the query names. TARGETS lists only buffers of the scope's
+/// account and network, each by the moment of a record that was posted in it.
 pub fn pages_are_of_posts()
     ensures { (changes : List Change) (scope : Scope) (query : Query) →
-        IfSome (page changes scope query) (IsOfPosts changes) }
+        IfSome (page changes scope query) (IsOfPosts changes scope query) }
+{}
+
+/// A page depends on the changes of the asker's own account and network alone, and is the same whatever happens in other
+/// buffers: two sets of changes have equal pages where those changes have one normal form, so also where they are the same.
+pub fn pages_are_of_the_own_past()
+    ensures alone { (changes : List Change) (scope : Scope) (query : Query) →
+        page (own_past scope changes) scope query ≡ page changes scope query }
+    ensures normal { (a b : List Change) (scope : Scope) (query : Query) →
+        norm (own_past scope a) ≡ norm (own_past scope b) →
+        page a scope query ≡ page b scope query }
+    ensures members { (a b : List Change) (scope : Scope) (query : Query) →
+        SameOwnPast scope a b → page a scope query ≡ page b scope query }
+{}
+
+/// What TARGETS finds between two moments is one list: the buffers of the scope whose latest visible record lies strictly
+/// between them, each once, by the moment of that record and then by target. The page is the first of these where the
+/// moments rise and the last where they fall, as many as the limits allow, and empty where the moments are equal (IRCv3
+/// draft/chathistory, "TARGETS").
+pub fn targets_lists_buffers_by_their_latest()
+    ensures list { (changes : List Change) (scope : Scope) (t u : ℕ) →
+        (found : List (ℕ × List ℕ)) × IsListing changes scope t u found }
+    ensures rising { (changes : List Change) (scope : Scope) (t u limit : ℕ)
+        (found : List (ℕ × List ℕ)) → t < u → IsListing changes scope t u found →
+        page changes scope (Targets t u limit)
+        ≡ Some (of_buffers (take (min limit scope.maximum) found)) }
+    ensures falling { (changes : List Change) (scope : Scope) (t u limit : ℕ)
+        (found : List (ℕ × List ℕ)) → u < t → IsListing changes scope t u found →
+        page changes scope (Targets t u limit)
+        ≡ Some (of_buffers (last (min limit scope.maximum) found)) }
+    ensures equal { (changes : List Change) (scope : Scope) (t limit : ℕ) →
+        page changes scope (Targets t t limit) ≡ Some (of_buffers []) }
 {}
 
 /// With the set of changes unchanged, AFTER by the last message of the page before, repeated from a visible message until
