@@ -10,6 +10,7 @@ use Rattle.std.proofs.lemmas.List.{length-map}
 use Rattle.std.proofs.lemmas.List.Elements.{All-contains, All-contains_itself, All-weaker, All-from_recursion, recursion_from_All}
 use Rattle.irc_time.specs.Time.{greatest}
 use Rattle.irc_line.specs.declared.line.TagLimit.{TagLimit}
+use Rattle.irc_line.specs.declared.line.TagLimit.TheVariants.{Server}
 use Rattle.irc_line.specs.Line.{Reading, Reads, colon, space, begins_with, is_bad, HasNoSpace}
 use Rattle.irc_line.specs.Text.{middles_text}
 use Rattle.irc_line.specs.CanStand.{HasNoBadByte}
@@ -27,7 +28,8 @@ use Rattle.chat_change.specs.declared.change.Change.TheVariants.{Post, Mark}
 use Rattle.chat_history.specs.History.{norm, mark}
 use Rattle.chat_history.proofs.CallerLemmas.{mark_greatest}
 use Rattle.chat_page.specs.Page.{Page, of_records, of_buffers, targets_cut, buffers_in, page_in, page}
-use Rattle.chat_page.specs.Posted.{IsListed, IsOfPosts}
+use Rattle.chat_page.specs.Scope.{Scope}
+use Rattle.chat_page.specs.Posted.{IsListed, IsOfTarget}
 use Rattle.chat_page.specs.Parameters.{read_query}
 use Rattle.chat_page.specs.declared.query.Query.{Query}
 use Rattle.chat_page.specs.declared.query.Query.TheVariants.{Latest, Before, After, Around, Between, Targets}
@@ -47,18 +49,18 @@ module _ (changes : List Change) (all : AllByRecursion IsLawfulChange changes) w
   lawful_post : (r : Record) → Contains changes (Post r) → IsLawfulRecord r
   lawful_post r m = All-contains IsLawfulChange changes (Post r) (All-from_recursion IsLawfulChange changes all) m
 
-  pub lawful_records : (rs : List Record) → IsOfPosts changes (of_records rs) → AllByRecursion IsLawfulRecord rs
-  lawful_records rs posted =
-      recursion_from_All IsLawfulRecord rs (All-weaker (Contains rs) IsLawfulRecord (λ r m. lawful_post r (posted r m)) rs (All-contains_itself rs))
+  lawful_records : (scope : Scope) (target : List ℕ) (rs : List Record) → IsOfTarget changes scope (Some target) (of_records rs) → AllByRecursion IsLawfulRecord rs
+  lawful_records scope target rs posted =
+      recursion_from_All IsLawfulRecord rs (All-weaker (Contains rs) IsLawfulRecord (λ r m. lawful_post r (posted r m).0) rs (All-contains_itself rs))
 
-  lawful_listed : (e : ℕ × List ℕ) → IsListed changes e → CanBeListed e
-  lawful_listed e listed =
-      let r = lawful_post listed.0 listed.1 in
-      (subst (λ t. t ≤ greatest) listed.2 r.at, subst (λ l. is_target l ≡ true) listed.3 r.buffer.target)
+  lawful_listed : (scope : Scope) (e : ℕ × List ℕ) → IsListed changes scope e → CanBeListed e
+  lawful_listed scope e listed =
+      let r = lawful_post listed.0 listed.1.0 in
+      (subst (λ t. t ≤ greatest) listed.2 r.at, subst (λ (b : Buffer). is_target b.target ≡ true) listed.1.1 r.buffer.target)
 
-  pub lawful_buffers : (es : List (ℕ × List ℕ)) → IsOfPosts changes (of_buffers es) → AllByRecursion CanBeListed es
-  lawful_buffers es posted =
-      recursion_from_All CanBeListed es (All-weaker (Contains es) CanBeListed (λ e m. lawful_listed e (posted e m)) es (All-contains_itself es))
+  lawful_buffers : (scope : Scope) (es : List (ℕ × List ℕ)) → IsOfTarget changes scope None (of_buffers es) → AllByRecursion CanBeListed es
+  lawful_buffers scope es posted =
+      recursion_from_All CanBeListed es (All-weaker (Contains es) CanBeListed (λ e m. lawful_listed scope e (posted e m)) es (All-contains_itself es))
 
   lawful_mark : (b : Buffer) (o : Option ℕ) → mark changes b ≡ o → IfSome o (λ t. t ≤ greatest)
   lawful_mark b None e = tt
@@ -178,12 +180,13 @@ can_miss word given good t =
 
 -- ---- answers
 
-abbrev IsAnswer : TagLimit → Answer → Type 0
-IsAnswer limit answer = AreLines limit answer.text
+-- lines within the limits of a server's
+abbrev IsAnswer : Answer → Type 0
+IsAnswer answer = AreLines Server answer.text
 
-either : (limit : TagLimit) (b : Bool) (one other : Answer) → (b ≡ true → IsAnswer limit one) → IsAnswer limit other → IsAnswer limit (cond b one other)
-either limit true one other p q = p refl
-either limit false one other p q = q
+either : (b : Bool) (one other : Answer) → (b ≡ true → IsAnswer one) → IsAnswer other → IsAnswer (cond b one other)
+either true one other p q = p refl
+either false one other p q = q
 
 word_good : (parameters : List (List ℕ)) → AllByRecursion HasNoBadByte parameters → HasNoBadByte (word_of parameters)
 word_good [] good = refl
@@ -194,81 +197,80 @@ second_is [] = refl
 second_is (word ∷ []) = refl
 second_is (word ∷ given ∷ more) = refl
 
-module _ (limit : TagLimit) (changes : List Change) (facts : Facts) (all : AllByRecursion IsLawfulChange changes) (sound : IsSoundSession facts) where
-  refusal_lines : (parameters : List (List ℕ)) → AllByRecursion HasNoBadByte parameters → (fault : QueryFault) → IsAnswer limit (query_refusal facts parameters fault)
+module _ (changes : List Change) (facts : Facts) (all : AllByRecursion IsLawfulChange changes) (sound : IsSoundSession facts) where
+  refusal_lines : (parameters : List (List ℕ)) → AllByRecursion HasNoBadByte parameters → (fault : QueryFault) → IsAnswer (query_refusal facts parameters fault)
   refusal_lines parameters good fault =
-      fail_line limit facts.cluster sound.cluster (codes "CHATHISTORY") (code_of fault) (context_of (first_of parameters)) (reason_of fault) (can_refuse parameters good fault)
+      fail_line Server facts.cluster sound.cluster (codes "CHATHISTORY") (code_of fault) (context_of (first_of parameters)) (reason_of fault) (can_refuse parameters good fault)
 
-  -- a page of a target, or of none
-  page_lines : (given : List ℕ) → is_target given ≡ true → (p : Page) → IsOfPosts changes p → IsAnswer limit (page_answer facts given p)
-  page_lines given t (of_records rs) posted =
-      history_lines limit facts.cluster (reference_text facts.reference) sound.cluster (reference_stands facts.reference sound.reference) facts.caps given rs t (lawful_records changes all rs posted)
-  page_lines given t (of_buffers es) posted =
-      targets_lines limit facts.cluster (reference_text facts.reference) sound.cluster (reference_stands facts.reference sound.reference) facts.caps es (lawful_buffers changes all es posted)
+  -- a page of a target
+  page_lines : (given : List ℕ) → is_target given ≡ true → (target : List ℕ) (p : Page) → IsOfTarget changes (scope_of facts) (Some target) p → IsAnswer (page_answer facts given p)
+  page_lines given t target (of_records rs) posted =
+      history_lines facts.cluster (reference_text facts.reference) sound.cluster (reference_stands facts.reference sound.reference) facts.caps given rs t (lawful_records changes all (scope_of facts) target rs posted)
+  page_lines given t target (of_buffers es) posted = absurd posted
 
-  listing_lines : (given : List ℕ) (es : List (ℕ × List ℕ)) → IsOfPosts changes (of_buffers es) → IsAnswer limit (page_answer facts given (of_buffers es))
+  listing_lines : (given : List ℕ) (es : List (ℕ × List ℕ)) → IsOfTarget changes (scope_of facts) None (of_buffers es) → IsAnswer (page_answer facts given (of_buffers es))
   listing_lines given es posted =
-      targets_lines limit facts.cluster (reference_text facts.reference) sound.cluster (reference_stands facts.reference sound.reference) facts.caps es (lawful_buffers changes all es posted)
+      targets_lines Server facts.cluster (reference_text facts.reference) sound.cluster (reference_stands facts.reference sound.reference) facts.caps es (lawful_buffers changes all (scope_of facts) es posted)
 
   module _ (parameters : List (List ℕ)) (good : AllByRecursion HasNoBadByte parameters) where
-    either_page : is_target (given_of parameters) ≡ true → (o : Option Page) → IfSome o (IsOfPosts changes) → IsAnswer limit (page_or_unknown facts parameters o)
-    either_page t None posted =
-        fail_line limit facts.cluster sound.cluster (codes "CHATHISTORY") (codes "MESSAGE_ERROR") (subcommand_of (word_of parameters) ∷ given_of parameters ∷ []) (codes "No such message")
+    either_page : is_target (given_of parameters) ≡ true → (target : List ℕ) (o : Option Page) → IfSome o (IsOfTarget changes (scope_of facts) (Some target)) → IsAnswer (page_or_unknown facts parameters o)
+    either_page t target None posted =
+        fail_line Server facts.cluster sound.cluster (codes "CHATHISTORY") (codes "MESSAGE_ERROR") (subcommand_of (word_of parameters) ∷ given_of parameters ∷ []) (codes "No such message")
         (can_miss (word_of parameters) (given_of parameters) (word_good parameters good) t)
-    either_page t (Some p) posted = page_lines (given_of parameters) t p posted
+    either_page t target (Some p) posted = page_lines (given_of parameters) t target p posted
 
-    found_lines : (query : Query) → HasGiven (given_of parameters) query → IsAnswer limit (page_or_unknown facts parameters (page changes (scope_of facts) query))
+    found_lines : (query : Query) → HasGiven (given_of parameters) query → IsAnswer (page_or_unknown facts parameters (page changes (scope_of facts) query))
     unfolding page_in
-    found_lines (Latest target s n) t = either_page t (page changes (scope_of facts) (Latest target s n)) (page_posted changes (scope_of facts) (Latest target s n))
-    found_lines (Before target s n) t = either_page t (page changes (scope_of facts) (Before target s n)) (page_posted changes (scope_of facts) (Before target s n))
-    found_lines (After target s n) t = either_page t (page changes (scope_of facts) (After target s n)) (page_posted changes (scope_of facts) (After target s n))
-    found_lines (Around target s n) t = either_page t (page changes (scope_of facts) (Around target s n)) (page_posted changes (scope_of facts) (Around target s n))
-    found_lines (Between target s u n) t = either_page t (page changes (scope_of facts) (Between target s u n)) (page_posted changes (scope_of facts) (Between target s u n))
+    found_lines (Latest target s n) t = either_page t target (page changes (scope_of facts) (Latest target s n)) (page_posted changes (scope_of facts) (Latest target s n))
+    found_lines (Before target s n) t = either_page t target (page changes (scope_of facts) (Before target s n)) (page_posted changes (scope_of facts) (Before target s n))
+    found_lines (After target s n) t = either_page t target (page changes (scope_of facts) (After target s n)) (page_posted changes (scope_of facts) (After target s n))
+    found_lines (Around target s n) t = either_page t target (page changes (scope_of facts) (Around target s n)) (page_posted changes (scope_of facts) (Around target s n))
+    found_lines (Between target s u n) t = either_page t target (page changes (scope_of facts) (Between target s u n)) (page_posted changes (scope_of facts) (Between target s u n))
     found_lines (Targets s u n) t = listing_lines (given_of parameters) (targets_cut (min n facts.maximum) s u (buffers_in (norm changes) (scope_of facts))) (page_posted changes (scope_of facts) (Targets s u n))
 
-    query_lines : (r : Result Query QueryFault) → IfOk r (HasGiven (given_of parameters)) → IsAnswer limit (query_or_refusal changes facts parameters r)
-    query_lines (Ok query) t = either limit (has_buffers facts) _ _ (λ _. found_lines query t) (refusal_lines parameters good InvalidTarget)
+    query_lines : (r : Result Query QueryFault) → IfOk r (HasGiven (given_of parameters)) → IsAnswer (query_or_refusal changes facts parameters r)
+    query_lines (Ok query) t = either (has_buffers facts) _ _ (λ _. found_lines query t) (refusal_lines parameters good InvalidTarget)
     query_lines (Err fault) t = refusal_lines parameters good fault
 
-    history_answered : IsAnswer limit (history_answer changes facts parameters)
+    history_answered : IsAnswer (history_answer changes facts parameters)
     history_answered =
-        either limit facts.caps.chathistory _ _
+        either facts.caps.chathistory _ _
         (λ _. query_lines (read_query parameters) (subst (λ g. IfOk (read_query parameters) (HasGiven g)) (second_is parameters) (query_given parameters)))
-        (unknown_line limit facts.cluster sound.cluster facts.nick (codes "CHATHISTORY") sound.nick (middle_from (codes "CHATHISTORY") refl, lit≤ tt))
+        (unknown_line Server facts.cluster sound.cluster facts.nick (codes "CHATHISTORY") sound.nick (middle_from (codes "CHATHISTORY") refl, lit≤ tt))
 
   -- ---- markers
 
-  missing_lines : IsAnswer limit (marker_refusal facts (codes "NEED_MORE_PARAMS") (codes "Missing parameters"))
+  missing_lines : IsAnswer (marker_refusal facts (codes "NEED_MORE_PARAMS") (codes "Missing parameters"))
   missing_lines =
-      fail_line limit facts.cluster sound.cluster (codes "MARKREAD") (codes "NEED_MORE_PARAMS") [] (codes "Missing parameters")
+      fail_line Server facts.cluster sound.cluster (codes "MARKREAD") (codes "NEED_MORE_PARAMS") [] (codes "Missing parameters")
       (record { words_stand = (middle_from (codes "MARKREAD") refl, (middle_from (codes "NEED_MORE_PARAMS") refl, tt)); text_stands = refl; count = lit≤ tt; size = lit≤ tt })
 
-  invalid_lines : IsAnswer limit (marker_refusal facts (codes "INVALID_PARAMS") (codes "Invalid parameters"))
+  invalid_lines : IsAnswer (marker_refusal facts (codes "INVALID_PARAMS") (codes "Invalid parameters"))
   invalid_lines =
-      fail_line limit facts.cluster sound.cluster (codes "MARKREAD") (codes "INVALID_PARAMS") [] (codes "Invalid parameters")
+      fail_line Server facts.cluster sound.cluster (codes "MARKREAD") (codes "INVALID_PARAMS") [] (codes "Invalid parameters")
       (record { words_stand = (middle_from (codes "MARKREAD") refl, (middle_from (codes "INVALID_PARAMS") refl, tt)); text_stands = refl; count = lit≤ tt; size = lit≤ tt })
 
-  marker_lines : (given : List ℕ) → is_target given ≡ true → IsAnswer limit (marker_answer changes facts given)
+  marker_lines : (given : List ℕ) → is_target given ≡ true → IsAnswer (marker_answer changes facts given)
   marker_lines given t =
       let b = buffer_of facts.account facts.network given in
-      mark_line limit facts.cluster given (mark changes b) sound.cluster (target_word given t) (lawful_mark changes all b (mark changes b) refl)
+      mark_line Server facts.cluster given (mark changes b) sound.cluster (target_word given t) (lawful_mark changes all b (mark changes b) refl)
 
-  marker_answered : (parameters : List (List ℕ)) → IsAnswer limit (marker_or_refusal changes facts parameters)
+  marker_answered : (parameters : List (List ℕ)) → IsAnswer (marker_or_refusal changes facts parameters)
   marker_answered [] = missing_lines
   marker_answered (given ∷ more) =
-      either limit (asks_or_sets more && has_buffer facts given) _ _
+      either (asks_or_sets more && has_buffer facts given) _ _
       (λ e. marker_lines given (and_parts (has_buffers facts) (is_target given) (and_parts (asks_or_sets more) (has_buffer facts given) e).1).1) invalid_lines
 
-  markread_answered : (parameters : List (List ℕ)) → IsAnswer limit (markread_answer changes facts parameters)
+  markread_answered : (parameters : List (List ℕ)) → IsAnswer (markread_answer changes facts parameters)
   markread_answered parameters =
-      either limit facts.caps.read_marker _ _ (λ _. marker_answered parameters)
-      (unknown_line limit facts.cluster sound.cluster facts.nick (codes "MARKREAD") sound.nick (middle_from (codes "MARKREAD") refl, lit≤ tt))
+      either facts.caps.read_marker _ _ (λ _. marker_answered parameters)
+      (unknown_line Server facts.cluster sound.cluster facts.nick (codes "MARKREAD") sound.nick (middle_from (codes "MARKREAD") refl, lit≤ tt))
 
-  pub answer_lines : (line : Reading) → AllByRecursion HasNoBadByte line.parameters → IsAnswer limit (answer_of changes facts line)
+  pub answer_lines : (line : Reading) → AllByRecursion HasNoBadByte line.parameters → IsAnswer (answer_of changes facts line)
   answer_lines line good =
-      either limit (str_eq_ignore_ascii_case line.command (codes "CHATHISTORY")) _ _ (λ _. history_answered line.parameters good)
-      (either limit (str_eq_ignore_ascii_case line.command (codes "MARKREAD")) _ _ (λ _. markread_answered line.parameters) (no_lines limit))
+      either (str_eq_ignore_ascii_case line.command (codes "CHATHISTORY")) _ _ (λ _. history_answered line.parameters good)
+      (either (str_eq_ignore_ascii_case line.command (codes "MARKREAD")) _ _ (λ _. markread_answered line.parameters) (no_lines Server))
 
-pub read_answer_lines : (limit other : TagLimit) (changes : List Change) (facts : Facts) (bytes : List ℕ) (line : Reading) → AllByRecursion IsLawfulChange changes → IsSoundSession facts
-    → Reads other bytes line → AreLines limit (answer_of changes facts line).text
-read_answer_lines limit other changes facts bytes line all sound reads = answer_lines limit changes facts all sound line (read_parameters_whole other bytes line reads)
+pub read_answer_lines : (limit : TagLimit) (changes : List Change) (facts : Facts) (bytes : List ℕ) (line : Reading) → AllByRecursion IsLawfulChange changes → IsSoundSession facts
+    → Reads limit bytes line → AreLines Server (answer_of changes facts line).text
+read_answer_lines limit changes facts bytes line all sound reads = answer_lines changes facts all sound line (read_parameters_whole limit bytes line reads)

@@ -1,6 +1,8 @@
 mod AnswerLemmas
+mod OwnPastLemmas
 mod TagLemmas
 mod WordLemmas
 mod LinesLemmas
+mod ToldLemmas
 mod AnswerLinesLemmas
 pub mod CallerLemmas

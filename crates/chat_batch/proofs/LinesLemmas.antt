@@ -26,23 +26,23 @@ use Rattle.chat_change.specs.Words.{is_target}
 use Rattle.chat_change.specs.Message.{kind_word}
 use Rattle.chat_change.specs.Record.{Record}
 use Rattle.chat_change.specs.Lawful.{IsLawfulRecord}
-use Rattle.chat_batch.specs.Tags.{more_tags, tag_part, only_if, batch_tags, message_tags}
+use Rattle.chat_batch.specs.Tags.{more_tags, tag_part, only_if, has_own_tags, own_tags, batch_tags, message_tags}
 use Rattle.chat_batch.specs.Message.{record_text, live_text}
 use Rattle.chat_batch.specs.Batch.{opening, closing, batch_text, records_text, history_text, buffer_text, buffers_text, targets_text}
 use Rattle.chat_batch.specs.Standing.{IsReference, CanBeListed}
-use Rattle.chat_batch.proofs.WordLemmas.{target_word, id_bytes, body_stands, kind_is_command}
+use Rattle.chat_batch.proofs.WordLemmas.{target_word, id_bytes, own_bytes, body_stands, kind_is_command}
 
 -- ---- tags
 
 -- a tag without a byte that ends tag data
-abbrev IsTag : List ℕ → Type 0
+abbrev pub IsTag : List ℕ → Type 0
 IsTag tag = HasNoSpace tag × HasNoBadByte tag
 
-behind : List (List ℕ) → List ℕ
+unfoldable pub behind : List (List ℕ) → List ℕ
 behind [] = []
 behind (tag ∷ tags) = codes ";" ++ (tag ++ behind tags)
 
-data_of : List (List ℕ) → Option (List ℕ)
+unfoldable pub data_of : List (List ℕ) → Option (List ℕ)
 data_of [] = None
 data_of (tag ∷ tags) = Some (tag ++ behind tags)
 
@@ -51,13 +51,13 @@ unfolding behind
 more_is [] = refl
 more_is (tag ∷ tags) = ap (λ l. codes ";" ++ l) (ap (λ l. tag ++ l) (more_is tags) ∙ sym (append_assoc tag (behind tags) (codes " ")))
 
-part_is : (tags : List (List ℕ)) → tag_part tags ≡ tags_text (data_of tags)
+pub part_is : (tags : List (List ℕ)) → tag_part tags ≡ tags_text (data_of tags)
 unfolding data_of
 part_is [] = refl
 part_is (tag ∷ tags) = ap (λ l. codes "@" ++ l) (ap (λ l. tag ++ l) (more_is tags) ∙ sym (append_assoc tag (behind tags) (codes " ")))
 
 -- the bytes of tags with one more for each
-total : List (List ℕ) → ℕ
+unfoldable pub total : List (List ℕ) → ℕ
 total [] = 0
 total (tag ∷ tags) = length tag + 1 + total tags
 
@@ -73,16 +73,11 @@ behind_stands (tag ∷ tags) all =
     let rest = behind_stands tags all.1 in
     ((refl, no_space_append tag (behind tags) all.0.0 rest.0), good_append tag (behind tags) all.0.1 rest.1)
 
-least_limit : (limit : TagLimit) → 4094 ≤ tag_limit limit
-least_limit Client = lit≤ tt
-least_limit Server = lit≤ tt
-
-data_stands : (limit : TagLimit) (tags : List (List ℕ)) → AllByRecursion IsTag tags → total tags ≤ 4094 → IfSome (data_of tags) (CanBeTags limit)
+pub data_stands : (limit : TagLimit) (tags : List (List ℕ)) → AllByRecursion IsTag tags → total tags ≤ tag_limit limit → IfSome (data_of tags) (CanBeTags limit)
 unfolding data_of total
 data_stands limit [] all most = tt
 data_stands limit (tag ∷ tags) all most =
     let rest = behind_stands tags all.1 in
-    let least = least_limit limit in
     let size = length-behind tags in (
       no_space_append tag (behind tags) all.0.0 rest.0,
       good_append tag (behind tags) all.0.1 rest.1,
@@ -93,7 +88,7 @@ data_stands limit (tag ∷ tags) all most =
 abbrev with_tags : Option (List ℕ) → Parts → Parts
 with_tags tags parts = record parts { tags = tags }
 
-tagged_line : (limit : TagLimit) (tags : List (List ℕ)) (parts : Parts) → AllByRecursion IsTag tags → total tags ≤ 4094 → CanStand limit (with_tags None parts)
+tagged_line : (limit : TagLimit) (tags : List (List ℕ)) (parts : Parts) → AllByRecursion IsTag tags → total tags ≤ tag_limit limit → CanStand limit (with_tags None parts)
     → AreLines limit (tag_part tags ++ line_text (with_tags None parts))
 tagged_line limit tags parts all most can =
     subst (λ l. AreLines limit (l ++ line_text (with_tags None parts))) (sym (part_is tags))
@@ -126,6 +121,10 @@ total-only_if : (flag : Bool) (tag : List ℕ) → total (only_if flag tag) ≤ 
 unfolding total
 total-only_if true tag = omega arith
 total-only_if false tag = omega arith
+
+least_limit : (limit : TagLimit) → 39 ≤ tag_limit limit
+least_limit Client = lit≤ tt
+least_limit Server = lit≤ tt
 
 module _ (caps : CapSet) (reference : List ℕ) (is : IsReference reference) where
   batch_stand : AllByRecursion IsTag (batch_tags caps reference)
@@ -173,22 +172,42 @@ module _ (caps : CapSet) (r : Record) (is : IsLawfulRecord r) where
         good_append (codes "time=") (time_text r.at) refl (no_bad_above (time_text r.at) low),
       )
 
-  message_stand : AllByRecursion IsTag (message_tags caps r)
+  pub message_stand : AllByRecursion IsTag (message_tags caps r)
   message_stand =
-      all-append (only_if caps.message_tags (codes "msgid=" ++ value_text r.id)) (only_if caps.server_time (codes "time=" ++ time_text r.at))
-      (only_stands caps.message_tags _ id_stands) (only_stands caps.server_time _ time_stands)
+      all-append (only_if caps.message_tags (codes "msgid=" ++ value_text r.id)) (only_if caps.server_time (codes "time=" ++ time_text r.at) ++ own_tags caps r)
+      (only_stands caps.message_tags _ id_stands)
+      (all-append (only_if caps.server_time (codes "time=" ++ time_text r.at)) (own_tags caps r)
+      (only_stands caps.server_time _ time_stands) (only_stands (has_own_tags caps r) _ (own_bytes r.tags is.tags).0))
 
-  message_size : total (message_tags caps r) ≤ 547
+  message_size : total (message_tags caps r) ≤ 4642
   message_size =
-      let sum = total-append (only_if caps.message_tags (codes "msgid=" ++ value_text r.id)) (only_if caps.server_time (codes "time=" ++ time_text r.at)) in
+      let all = total-append (only_if caps.message_tags (codes "msgid=" ++ value_text r.id)) (only_if caps.server_time (codes "time=" ++ time_text r.at) ++ own_tags caps r) in
+      let rest = total-append (only_if caps.server_time (codes "time=" ++ time_text r.at)) (own_tags caps r) in
       let one = total-only_if caps.message_tags (codes "msgid=" ++ value_text r.id) in
       let two = total-only_if caps.server_time (codes "time=" ++ time_text r.at) in
+      let three = total-only_if (has_own_tags caps r) r.tags in
+      let own = (own_bytes r.tags is.tags).1 in
       let long = length-value_text r.id in
       let id = (id_bytes r.id is.id).1 in
       let time = (time_shape r.at is.at).size in
       let a = length-append (codes "msgid=") (value_text r.id) in
       let b = length-append (codes "time=") (time_text r.at) in
       omega arith
+
+  pub live_size : total (message_tags caps r) ≤ tag_limit Server
+  live_size = (let own = message_size in omega arith)
+
+  -- with the tag of a batch
+  module _ (reference : List ℕ) (ref : IsReference reference) where
+    pub record_stand : AllByRecursion IsTag (batch_tags caps reference ++ message_tags caps r)
+    record_stand = all-append (batch_tags caps reference) (message_tags caps r) (batch_stand caps reference ref) message_stand
+
+    pub record_size : total (batch_tags caps reference ++ message_tags caps r) ≤ tag_limit Server
+    record_size =
+        let sum = total-append (batch_tags caps reference) (message_tags caps r) in
+        let one = batch_size caps reference ref in
+        let own = message_size in
+        omega arith
 
   -- ---- the line of a message
 
@@ -221,15 +240,11 @@ module _ (caps : CapSet) (r : Record) (is : IsLawfulRecord r) where
         size = omega arith;
       }
 
-  pub record_lines : (limit : TagLimit) (reference : List ℕ) → IsReference reference → AreLines limit (record_text caps reference r)
-  record_lines limit reference ref =
-      tagged_line limit (batch_tags caps reference ++ message_tags caps r) parts_of
-      (all-append (batch_tags caps reference) (message_tags caps r) (batch_stand caps reference ref) message_stand)
-      (let sum = total-append (batch_tags caps reference) (message_tags caps r) in let one = batch_size caps reference ref in let two = message_size in omega arith)
-      (line_stands limit)
+  pub record_lines : (reference : List ℕ) → IsReference reference → AreLines Server (record_text caps reference r)
+  record_lines reference ref = tagged_line Server (batch_tags caps reference ++ message_tags caps r) parts_of (record_stand reference ref) (record_size reference ref) (line_stands Server)
 
-  pub live_lines : (limit : TagLimit) → AreLines limit (live_text caps r)
-  live_lines limit = tagged_line limit (message_tags caps r) parts_of message_stand (let two = message_size in omega arith) (line_stands limit)
+  pub live_lines : AreLines Server (live_text caps r)
+  live_lines = tagged_line Server (message_tags caps r) parts_of message_stand live_size (line_stands Server)
 
 -- ---- references
 
@@ -300,18 +315,7 @@ module _ (limit : TagLimit) (cluster reference : List ℕ) (name : IsCluster clu
       lines-append limit _ _ (lines-if limit caps.batch _ _ o (no_lines limit))
       (lines-append limit _ _ m (lines-if limit caps.batch _ _ closing_lines (no_lines limit)))
 
-  -- ---- pages
-
-  records_lines : (caps : CapSet) (records : List Record) → AllByRecursion IsLawfulRecord records → AreLines limit (records_text caps reference records)
-  records_lines caps records all = lines-flat_map limit (record_text caps reference) records (each records all) where
-    each : (rs : List Record) → AllByRecursion IsLawfulRecord rs → AllByRecursion (λ r. AreLines limit (record_text caps reference r)) rs
-    each [] all = tt
-    each (r ∷ rs) all = (record_lines caps r all.0 limit reference is, each rs all.1)
-
-  pub history_lines : (caps : CapSet) (given : List ℕ) (records : List Record) → is_target given ≡ true → AllByRecursion IsLawfulRecord records
-      → AreLines limit (history_text caps cluster reference given records)
-  history_lines caps given records t all =
-      batch_lines caps (codes " chathistory " ++ given) (records_text caps reference records) (history_opening given t) (records_lines caps records all)
+  -- ---- lists of buffers
 
   -- the line of a listed buffer
   listed_lines : (caps : CapSet) (e : ℕ × List ℕ) → CanBeListed e → AreLines limit (buffer_text caps cluster reference e)
@@ -323,7 +327,7 @@ module _ (limit : TagLimit) (cluster reference : List ℕ) (name : IsCluster clu
       let a = length-append e.1 (32 ∷ (time_text e.0 ++ [])) in
       let b = length-append (time_text e.0) [] in
       tagged_line limit (batch_tags caps reference) (reply_parts cluster (codes "CHATHISTORY") (codes "TARGETS" ∷ e.1 ∷ time_text e.0 ∷ []) None)
-      (batch_stand caps reference is) (let one = batch_size caps reference is in omega arith)
+      (batch_stand caps reference is) (let one = batch_size caps reference is in let least = least_limit limit in omega arith)
       (reply_stands limit cluster name (codes "CHATHISTORY") (codes "TARGETS" ∷ e.1 ∷ time_text e.0 ∷ []) None refl
       (middle_from (codes "TARGETS") refl, (word.0, (time_middle (time_text e.0) shape, tt))) tt (lit≤ tt) (omega arith))
 
@@ -337,3 +341,18 @@ module _ (limit : TagLimit) (cluster reference : List ℕ) (name : IsCluster clu
       → AreLines limit (targets_text caps cluster reference buffers)
   targets_lines caps buffers all =
       batch_lines caps (codes " draft/chathistory-targets") (buffers_text caps cluster reference buffers) targets_opening (buffers_lines caps buffers all)
+
+-- ---- pages
+
+module _ (cluster reference : List ℕ) (name : IsCluster cluster) (is : IsReference reference) where
+  records_lines : (caps : CapSet) (records : List Record) → AllByRecursion IsLawfulRecord records → AreLines Server (records_text caps reference records)
+  records_lines caps records all = lines-flat_map Server (record_text caps reference) records (each records all) where
+    each : (rs : List Record) → AllByRecursion IsLawfulRecord rs → AllByRecursion (λ r. AreLines Server (record_text caps reference r)) rs
+    each [] all = tt
+    each (r ∷ rs) all = (record_lines caps r all.0 reference is, each rs all.1)
+
+  pub history_lines : (caps : CapSet) (given : List ℕ) (records : List Record) → is_target given ≡ true → AllByRecursion IsLawfulRecord records
+      → AreLines Server (history_text caps cluster reference given records)
+  history_lines caps given records t all =
+      batch_lines Server cluster reference name is caps (codes " chathistory " ++ given) (records_text caps reference records)
+      (history_opening Server cluster reference name is given t) (records_lines caps records all)

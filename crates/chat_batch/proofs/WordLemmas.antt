@@ -1,16 +1,17 @@
 -- Lawful fields may stand in a line.
-use Rattle.std.proofs.Common.{◌≡◌, ℕ, ◌<◌, ◌≤◌, Bool, true, false, ◌&&◌, ◌||◌, ◌==◌, not, nat_lt, nat_le, List, [], ◌∷◌, length, refl}
+use Rattle.std.proofs.Common.{◌≡◌, ℕ, ◌<◌, ◌≤◌, Bool, true, false, ◌&&◌, ◌||◌, ◌==◌, not, nat_lt, nat_le, List, [], ◌∷◌, length, refl, sym, subst, inl, inr, lit≤}
 use Rattle.std.specs.List.{list_any}
 use Rattle.std.proofs.lemmas.Bool.{and_parts, or_parts, ltb-true, leb-true, not-true}
 use Rattle.irc_line.specs.Line.{colon, begins_with as begins_with_byte, is_bad, is_command, HasNoSpace}
 use Rattle.irc_line.specs.CanStand.{HasNoBadByte, CanBeSource}
 use Rattle.irc_line.proofs.CallerLemmas.{no_space_from}
+use Rattle.irc_tags.specs.ClientOnly.{is_client_only_text}
 use Rattle.irc_reply.specs.Standing.{IsWordTo, target_limit}
-use Rattle.chat_change.specs.declared.words.TheConstants.{TARGET_LIMIT, ID_LIMIT}
+use Rattle.chat_change.specs.declared.words.TheConstants.{TARGET_LIMIT, ID_LIMIT, TAGS_LIMIT}
 use Rattle.chat_change.specs.declared.message.Kind.{Kind}
 use Rattle.chat_change.specs.declared.message.Kind.TheVariants.{Privmsg, Notice}
 use Rattle.chat_change.specs.Message.{kind_word}
-use Rattle.chat_change.specs.Words.{has_length_to, begins_with_colon, ends_line, ends_word, ends_target, is_star, is_target, is_id, is_body}
+use Rattle.chat_change.specs.Words.{has_length_to, begins_with_colon, ends_line, ends_word, ends_target, is_star, is_target, is_id, is_body, MayBeTags}
 
 any_weaker : (p q : ℕ → Bool) → ((b : ℕ) → p b ≡ false → q b ≡ false) → (text : List ℕ) → list_any p text ≡ false → list_any q text ≡ false
 any_weaker p q h [] e = refl
@@ -51,6 +52,14 @@ id_bytes text e =
     let size = some_to ID_LIMIT text b.0 in
     let bytes = word_bytes text (not-true (list_any ends_word text) b.1) in
     ((size.0, bytes.0, bytes.1), size.1)
+
+-- a record's own tags
+pub own_bytes : (text : List ℕ) → MayBeTags text → (HasNoSpace text × HasNoBadByte text) × (length text ≤ TAGS_LIMIT)
+own_bytes text (inl none) = subst (λ l. (HasNoSpace l × HasNoBadByte l) × (length l ≤ TAGS_LIMIT)) (sym none) ((tt, refl), lit≤ tt)
+own_bytes text (inr is) =
+    let a = and_parts (has_length_to TAGS_LIMIT text && not (list_any ends_word text)) (is_client_only_text text) is in
+    let b = and_parts (has_length_to TAGS_LIMIT text) (not (list_any ends_word text)) a.0 in
+    (word_bytes text (not-true (list_any ends_word text) b.1), (some_to TAGS_LIMIT text b.0).1)
 
 pub body_stands : (text : List ℕ) → is_body text ≡ true → HasNoBadByte text
 body_stands text e = not-true (list_any ends_line text) e

@@ -3,6 +3,7 @@
 pub mod Tags
 pub mod Message
 pub mod Batch
+pub mod Told
 pub mod Reference
 pub mod Answers
 pub mod Standing

@@ -1,5 +1,5 @@
 -- The tags of the lines that are written (IRCv3 message-tags, "Format").
-use Rattle.std.specs.Prelude.{ℕ, Bool, List, [], ◌∷◌, ◌++◌, codes, if◌then◌else◌}
+use Rattle.std.specs.Prelude.{ℕ, Bool, not, ◌&&◌, ◌==◌, List, [], ◌∷◌, ◌++◌, length, codes, if◌then◌else◌}
 use Rattle.irc_caps.specs.declared.CapSet.{CapSet}
 use Rattle.irc_tags.specs.Value.{value_text}
 use Rattle.irc_time.specs.Text.{time_text}
@@ -21,11 +21,19 @@ only_if b tag = if b then tag ∷ [] else []
 abbrev pub batch_tags : CapSet → List ℕ → List (List ℕ)
 batch_tags caps reference = only_if caps.batch (codes "batch=" ++ reference)
 
--- the tags of a message: its id (IRCv3 message-ids) and its moment (IRCv3 server-time)
+-- whether a record's own tags are written: a session with `message-tags` gets those of a record that has some
+abbrev pub has_own_tags : CapSet → Record → Bool
+has_own_tags caps r = caps.message_tags && not (length r.tags == 0)
+
+-- the record's own tags (IRCv3 message-tags, "Client-only tags"), which stand as they are in the record
+abbrev pub own_tags : CapSet → Record → List (List ℕ)
+own_tags caps r = only_if (has_own_tags caps r) r.tags
+
+-- the tags of a message: its id (IRCv3 message-ids), its moment (IRCv3 server-time), and its own
 abbrev pub message_tags : CapSet → Record → List (List ℕ)
 message_tags caps r =
     only_if caps.message_tags (codes "msgid=" ++ value_text r.id)
-    ++ only_if caps.server_time (codes "time=" ++ time_text r.at)
+    ++ (only_if caps.server_time (codes "time=" ++ time_text r.at) ++ own_tags caps r)
 
 -- ---- one tag after another
 

@@ -9,8 +9,8 @@ use Rattle.chat_batch.specs.declared.facts.Answered.{Answered}
 use Rattle.chat_batch.specs.declared.answers.AnswerFault.{AnswerFault}
 use Rattle.chat_batch.specs.declared.answers.AnswerFault.TheVariants.{NoMemory, Write}
 
--- at `Ok` the whole text was written, and the call says what the answer was; where the writer failed a prefix of the text
--- was written
+-- at `Ok` the whole text was written, and the call says what the answer was; where the writer failed a prefix of the
+-- text was written
 abbrev pub WritesAnswer : {W : Type 0}
     → (W → Option (List ℕ)) → W → W → Result Answered AnswerFault → Answer → Type 0
 WritesAnswer contents old new (Ok answered) answer =

@@ -167,8 +167,11 @@ fn put_buffers<W: Write>(
 /// Writes a page of records as a batch of the type `chathistory` under the reference: the line
 /// `:cluster BATCH +reference chathistory given`, a line for each record in the order of the page, tagged with the
 /// reference, and the line `:cluster BATCH -reference`. `given` is the target as the client spelled it. A session
-/// without the capability `batch` gets the records alone, without that tag. Names, target and reference are written as they
-/// are: that each may stand in its place of a line is the caller's to see to. Fails where the writer fails.
+/// without the capability `batch` gets the records alone, without that tag. A record's line has the tags `batch`, `msgid`
+/// and `time` in this order, and then the record's own client-only tags as they stand in it; `msgid` and the record's own
+/// are for a session that holds `message-tags`, and `time` for one that holds `server-time`. Names, target and reference are
+/// written as they are: that each may stand in its place of a line is the caller's to see to. Writing takes no memory. Fails
+/// where the writer fails.
 pub fn write_page<W: Write>(
     records: &[&Record],
     given: &[u8],

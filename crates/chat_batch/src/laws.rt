@@ -1,20 +1,25 @@
 //! Laws of answers and of what is written. Their contracts are the laws, and their bodies are empty.
-ghost use Rattle.std.specs.Prelude.{◌≡◌, ℕ, List, true};
+ghost use Rattle.std.specs.Prelude.{◌≡◌, ◌≤◌, ℕ, List, true};
 ghost use Rattle.std.specs.List.{AllByRecursion};
 ghost use Rattle.irc_line.specs.declared.line.TagLimit.{TagLimit};
+ghost use Rattle.irc_line.specs.declared.line.TagLimit.TheVariants.{Server};
 ghost use Rattle.irc_line.specs.Line.{Reading, Reads};
 ghost use Rattle.irc_line.specs.Lines.{AreLines};
 ghost use Rattle.irc_caps.specs.declared.CapSet.{CapSet};
+ghost use Rattle.irc_tags.specs.TagList.{Tag};
 ghost use Rattle.irc_reply.specs.Standing.{IsCluster};
 ghost use Rattle.chat_change.specs.Words.{is_target};
 ghost use Rattle.chat_change.specs.Record.{Record};
 ghost use Rattle.chat_change.specs.Lawful.{IsLawfulRecord, IsLawfulChange};
 ghost use Rattle.chat_change.specs.declared.change.Change.{Change};
 ghost use Rattle.chat_history.specs.History.{norm, changes_of};
+ghost use Rattle.chat_page.specs.OwnPast.{own_past, SameOwnPast};
 ghost use Rattle.chat_batch.specs.declared.facts.Facts.{Facts};
-ghost use Rattle.chat_batch.specs.Message.{live_text};
+ghost use Rattle.chat_batch.specs.Message.{message_line, record_text, live_text};
 ghost use Rattle.chat_batch.specs.Batch.{history_text, targets_text};
-ghost use Rattle.chat_batch.specs.Answers.{answer_of};
+ghost use Rattle.chat_batch.specs.Reference.{reference_text, greatest_reference};
+ghost use Rattle.chat_batch.specs.Told.{HasOwn, told_of, told_in_batch, TellsTags};
+ghost use Rattle.chat_batch.specs.Answers.{answer_of, scope_of};
 ghost use Rattle.chat_batch.specs.Standing.{IsReference, CanBeListed, IsSoundSession};
 
 /// An answer depends on the normal form of the set of changes alone, for every line: also for a selector that names a
@@ -26,27 +31,54 @@ pub fn answers_are_of_the_normal_form()
         → answer_of (changes_of (norm a)) facts line ≡ answer_of a facts line }
 {}
 
+/// An answer depends on the changes of the asker's own account and network alone, and is the same whatever happens in other
+/// buffers: two sets of changes give equal answers where those changes have one normal form, so also where they are the
+/// same.
+pub fn answers_are_of_the_own_past()
+    ensures alone { (changes : List Change) (facts : Facts) (line : Reading) →
+        answer_of (own_past (scope_of facts) changes) facts line ≡ answer_of changes facts line }
+    ensures normal { (a b : List Change) (facts : Facts) (line : Reading) →
+        norm (own_past (scope_of facts) a) ≡ norm (own_past (scope_of facts) b) →
+        answer_of a facts line ≡ answer_of b facts line }
+    ensures members { (a b : List Change) (facts : Facts) (line : Reading) →
+        SameOwnPast (scope_of facts) a b → answer_of a facts line ≡ answer_of b facts line }
+{}
+
 /// What is written of lawful records, and of buffers with lawful targets and moments, is lines that read back as the parts
-/// that they were written from, within the limits of a line: each page of records, each list of buffers and each record
-/// that is sent as it comes, whatever capabilities the session holds.
+/// that they were written from, within the limits of a server's line: each page of records, each list of buffers and each
+/// record that is sent as it comes, whatever capabilities the session holds. Lists of buffers are within those of a
+/// client's line too; a record with tags of its own need not be.
 pub fn what_is_written_is_lines()
-    ensures history { (limit : TagLimit) (caps : CapSet) (cluster reference given : List ℕ)
+    ensures history { (caps : CapSet) (cluster reference given : List ℕ)
         (records : List Record) → IsCluster cluster → IsReference reference
         → is_target given ≡ true → AllByRecursion IsLawfulRecord records
-        → AreLines limit (history_text caps cluster reference given records) }
+        → AreLines Server (history_text caps cluster reference given records) }
     ensures targets { (limit : TagLimit) (caps : CapSet) (cluster reference : List ℕ)
         (buffers : List (ℕ × List ℕ)) → IsCluster cluster → IsReference reference
         → AllByRecursion CanBeListed buffers
         → AreLines limit (targets_text caps cluster reference buffers) }
-    ensures live { (limit : TagLimit) (caps : CapSet) (r : Record) → IsLawfulRecord r
-        → AreLines limit (live_text caps r) }
+    ensures live { (caps : CapSet) (r : Record) → IsLawfulRecord r
+        → AreLines Server (live_text caps r) }
 {}
 
-/// Each answer is lines that read back, whatever line that reads asks for it, where the changes taken are lawful and the
-/// session's nick and cluster may stand in a line.
+/// What a client reads of the tags of a lawful record's line by [`irc_tags::read_tags`]: in a batch its reference, then the
+/// message's id and its moment, and behind these the record's own client-only tags, each as the session's capabilities give
+/// it, and nothing else. Their values are as they were before any escape.
+pub fn what_tags_tell()
+    ensures page { (caps : CapSet) (n : ℕ) (r : Record) (own : List Tag)
+        → n ≤ greatest_reference → IsLawfulRecord r → HasOwn r own
+        → TellsTags (record_text caps (reference_text n) r) (message_line r)
+        (told_in_batch caps (reference_text n) r own) }
+    ensures live { (caps : CapSet) (r : Record) (own : List Tag)
+        → IsLawfulRecord r → HasOwn r own
+        → TellsTags (live_text caps r) (message_line r) (told_of caps r own) }
+{}
+
+/// Each answer is lines that read back within the limits of a server's line, whatever line that reads asks for it, where
+/// the changes taken are lawful and the session's nick and cluster may stand in a line.
 pub fn answers_are_lines()
-    ensures { (limit asked : TagLimit) (changes : List Change) (facts : Facts)
+    ensures { (asked : TagLimit) (changes : List Change) (facts : Facts)
         (bytes : List ℕ) (line : Reading) → AllByRecursion IsLawfulChange changes
         → IsSoundSession facts → Reads asked bytes line
-        → AreLines limit (answer_of changes facts line).text }
+        → AreLines Server (answer_of changes facts line).text }
 {}

@@ -38,8 +38,9 @@ pub(crate) fn put_record<W: Write>(
     put_message(writer, message)
 }
 
-/// Writes a record as it comes, without a batch: the line `:source KIND target :body`, with the tags `msgid` and `time`
-/// for a session that holds `message-tags` and `server-time`. Fails where the writer fails.
+/// Writes a record as it comes, without a batch: the line `:source KIND target :body`. A session that holds
+/// `message-tags` gets the tag `msgid`, one that holds `server-time` the tag `time`, and behind them one that holds
+/// `message-tags` gets the record's own client-only tags. Writing takes no memory. Fails where the writer fails.
 pub fn write_live<W: Write>(message: &Record, caps: &CapSet, writer: &mut W) -> io::Result<()>
     ensures { Writes W.contents writer.old writer.new result (live_text caps.now message.now) }
 {

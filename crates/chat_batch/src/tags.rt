@@ -2,7 +2,7 @@
 ghost use Rattle.std.specs.Prelude.{◌≡◌, ◌++◌, ◌||◌, [], codes, if◌then◌else◌, OnOk};
 ghost use Rattle.byte_text.specs.Writes.{Writes};
 ghost use Rattle.irc_tags.specs.Value.{value_text};
-ghost use Rattle.chat_batch.specs.Tags.{next_tag, tag_part, batch_tags, message_tags, separator};
+ghost use Rattle.chat_batch.specs.Tags.{next_tag, tag_part, has_own_tags, batch_tags, message_tags, separator};
 
 use byte_text::put;
 use chat_change::Record;
@@ -97,6 +97,15 @@ impl TagWriter {
         put_escaped(writer, separator, key, value)
     }
 
+    /// Writes tags that stand as they are written, where the flag is set.
+    fn written_tags<W: Write>(&mut self, writer: &mut W, flag: bool, tags: &[u8]) -> io::Result<()>
+        ensures text { Writes W.contents writer.old writer.new result
+            (next_tag self.old.begun flag tags.now) }
+        ensures begun { OnOk result (self.new.begun ≡ (self.old.begun || flag)) }
+    {
+        self.tag(writer, flag, b"", tags)
+    }
+
     /// Writes the space behind the tags, where there are any.
     fn end<W: Write>(&self, writer: &mut W) -> io::Result<()>
         ensures { Writes W.contents writer.old writer.new result (if self.now.begun then codes " "
@@ -110,8 +119,15 @@ impl TagWriter {
     }
 }
 
-/// Writes the tags of a record in a batch, in the order `batch`, `msgid`, `time`. Where there is none nothing is
-/// written.
+/// Whether a record's own tags are written: a session with `message-tags` gets those of a record that has some.
+fn has_own_tags(caps: CapSet, message: &Record) -> bool
+    ensures { result ≡ has_own_tags caps message.now }
+{
+    caps.message_tags && !message.tags().is_empty()
+}
+
+/// Writes the tags of a record in a batch, in the order `batch`, `msgid`, `time`, and then the record's own as they
+/// stand in it. Where there is none nothing is written. It takes no memory.
 pub(crate) fn put_tags<W: Write>(
     writer: &mut W,
     caps: CapSet,
@@ -127,5 +143,6 @@ pub(crate) fn put_tags<W: Write>(
     tags.tag(writer, caps.batch, b"batch=", reference)?;
     tags.escaped_tag(writer, caps.message_tags, b"msgid=", id)?;
     tags.tag(writer, caps.server_time, b"time=", time.as_slice())?;
+    tags.written_tags(writer, has_own_tags(caps, message), message.tags())?;
     tags.end(writer)
 }
