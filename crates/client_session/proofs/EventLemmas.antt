@@ -12,12 +12,12 @@ use Rattle.chat_batch.specs.declared.facts.Facts.{Facts}
 use Rattle.client_directory.specs.Directory.{Directory, account_in, entry_in}
 use Rattle.client_session.specs.Command.{command_of}
 use Rattle.client_session.specs.declared.command.ClientCommand.{ClientCommand}
-use Rattle.client_session.specs.declared.command.ClientCommand.TheVariants.{Cap, Pass, Nick, User, Ping, Pong, Quit, Chathistory, Markread, Redact, Tagmsg, Other}
+use Rattle.client_session.specs.declared.command.ClientCommand.TheVariants.{Cap, Pass, Nick, User, Ping, Pong, Quit, Chathistory, Markread, Redact, Message, Other}
 use Rattle.client_session.specs.Step.{Step}
 use Rattle.chat_batch.specs.Answers.{has_buffer}
 use Rattle.client_session.specs.Session.{step, reading_step}
 use Rattle.client_session.specs.Lookup.{MessageName, name_by_command, name_in, name_sought}
-use Rattle.client_session.specs.Events.{ClientEvent, Claim, after, effects_of, run, claim_by_reading, claim_by_event, claim_after, HasSecret, IsUserOf, IsLetIn, IsRegistered, IsAnswer, IsGreeting, IsOwnEffect, IsOfSame, HasClose}
+use Rattle.client_session.specs.Events.{ClientEvent, Claim, after, effects_of, run, claim_by_reading, claim_by_event, claim_after, HasSecret, IsUserOf, IsLetIn, IsRegistered, IsAnswer, IsGreeting, IsOwnEffect, IsOfSame, HasClose, EndsAtClose, IsClosed}
 use Rattle.client_session.specs.Events as event
 use Rattle.client_session.specs.declared.effect.Effect.{Effect}
 use Rattle.client_session.specs.declared.effect.Effect.TheVariants.{Send, Put, Ask, Upstream, Close}
@@ -84,7 +84,7 @@ same_next : (f : Facts) (e : ClientEvent) (events : List ClientEvent) → ((g : 
     → Course f (step_by (stage.Registered f) e) → IsOfSame f (run (after (stage.Registered f) e) events)
 same_next f e events rest (course.registered g is same all) =
     subst (λ (s : Stage). IsOfSame f (run s events)) (sym is) (same_from f g _ same (rest g))
-same_next f e events rest (course.closed is all) =
+same_next f e events rest (course.closed is all end) =
     subst (λ (s : Stage). IsOfSame f (run s events)) (sym is) (subst (λ (s : Stage). IsOfSame f s) (sym (closed_run events)) tt)
 
 pub same_run : (f : Facts) (events : List ClientEvent) → IsOfSame f (run (stage.Registered f) events)
@@ -134,7 +134,7 @@ entered_next : (w : Waiting) (e : ClientEvent) (events : List ClientEvent) (f : 
 entered_next w e events f rest p (before.waiting v is facts all) h =
     let known = facts p in
     later (claim_of w) e events f (subst (λ (g : Claim). LetInFrom g events f) known.0 (rest v known.1 (ap (λ (s : Stage). run s events) (sym is) ∙ h)))
-entered_next w e events f rest p (before.closed is all) h =
+entered_next w e events f rest p (before.closed is all end) h =
     let never : stage.Closed ≡ stage.Registered f = sym (closed_run events) ∙ ap (λ (s : Stage). run s events) (sym is) ∙ h in absurd (cc)
 entered_next w e events f rest p (before.registered g is known all) h = entered_at w e events f g p is (known p) h
 
@@ -144,7 +144,7 @@ entered w (e ∷ events) f p h = entered_next w e events f (λ v q k. entered v 
 
 -- ---- effects
 
-all_map : {P Q : Effect → Type 0} → ((e : Effect) → P e → Q e) → (effects : List Effect) → AllByRecursion P effects → AllByRecursion Q effects
+pub all_map : {P Q : Effect → Type 0} → ((e : Effect) → P e → Q e) → (effects : List Effect) → AllByRecursion P effects → AllByRecursion Q effects
 all_map f [] all = tt
 all_map f (e ∷ effects) all = (f e all.0, all_map f effects all.1)
 
@@ -160,7 +160,7 @@ AreAnswers effects = AllByRecursion IsAnswer effects
 
 answers_alone : (P : Type 0) (directory : Directory) (g : Claim) (s : Step) → Outcome P directory g s → ¬ IsRegistered s.session → AreAnswers s.effects
 answers_alone P directory g s (before.waiting w is facts all) out = all_map send_is_answer s.effects all
-answers_alone P directory g s (before.closed is all) out = all
+answers_alone P directory g s (before.closed is all end) out = all
 answers_alone P directory g s (before.registered f is known all) out = absurd (out (subst IsRegistered (sym is) tt))
 
 pub outside : (session : Stage) (e : ClientEvent) → ¬ IsRegistered session → ¬ IsRegistered (after session e) → AreAnswers (effects_of session e)
@@ -170,7 +170,7 @@ outside stage.Closed e here next = subst AreAnswers (sym (closed_effects e)) tt
 
 greets_alone : (P : Type 0) (directory : Directory) (g : Claim) (s : Step) → Outcome P directory g s → IsRegistered s.session → AllByRecursion IsGreeting s.effects
 greets_alone P directory g s (before.waiting w is facts all) h = absurd (subst IsRegistered is h)
-greets_alone P directory g s (before.closed is all) h = absurd (subst IsRegistered is h)
+greets_alone P directory g s (before.closed is all end) h = absurd (subst IsRegistered is h)
 greets_alone P directory g s (before.registered f is known all) h = all
 
 pub entering : (session : Stage) (e : ClientEvent) → ¬ IsRegistered session → IsRegistered (after session e) → AllByRecursion IsGreeting (effects_of session e)
@@ -211,12 +211,12 @@ AreOwn session effects = AllByRecursion (IsOwnEffect session) effects
 
 own_before : (w : Waiting) (P : Type 0) (directory : Directory) (g : Claim) (s : Step) → Outcome P directory g s → AreOwn (stage.Waiting w) s.effects
 own_before w P directory g s (before.waiting v is facts all) = all_map (send_is_own w) s.effects all
-own_before w P directory g s (before.closed is all) = all_map (answer_is_own (stage.Waiting w)) s.effects all
+own_before w P directory g s (before.closed is all end) = all_map (answer_is_own (stage.Waiting w)) s.effects all
 own_before w P directory g s (before.registered f is known all) = all_map (greeting_is_own w) s.effects all
 
 own_after : (f : Facts) (s : Step) → Course f s → AreOwn (stage.Registered f) s.effects
 own_after f s (course.registered g is same all) = all_map (served_is_own f) s.effects all
-own_after f s (course.closed is all) = all_map (answer_is_own (stage.Registered f)) s.effects all
+own_after f s (course.closed is all end) = all_map (answer_is_own (stage.Registered f)) s.effects all
 
 pub own_effects : (session : Stage) (e : ClientEvent) → AreOwn session (effects_of session e)
 own_effects (stage.Waiting w) e = own_before w (ToCome w) (directory_of e) _ _ (waiting_outcome w e)
@@ -246,7 +246,7 @@ own_place_of f Pong ps = tt
 own_place_of f Quit ps = tt
 own_place_of f Chathistory ps = tt
 own_place_of f Markread ps = tt
-own_place_of f Tagmsg ps = tt
+own_place_of f Message ps = tt
 own_place_of f Other ps = tt
 
 own_place_in : (f : Facts) (reading : Result Reading LineFault) → IsOwnName f (name_in f reading)
@@ -268,14 +268,50 @@ no_close P never (Close ∷ effects) all h = never all.0
 
 closes_before : (P : Type 0) (directory : Directory) (g : Claim) (s : Step) → Outcome P directory g s → HasClose s.effects → s.session ≡ stage.Closed
 closes_before P directory g s (before.waiting v is facts all) h = absurd (no_close IsSend (λ x. x) s.effects all h)
-closes_before P directory g s (before.closed is all) h = is
+closes_before P directory g s (before.closed is all end) h = is
 closes_before P directory g s (before.registered f is known all) h = absurd (no_close IsGreeting (λ x. x) s.effects all h)
 
 closes_after : (f : Facts) (s : Step) → Course f s → HasClose s.effects → s.session ≡ stage.Closed
 closes_after f s (course.registered g is same all) h = absurd (no_close (IsServed f) (λ x. x) s.effects all h)
-closes_after f s (course.closed is all) h = is
+closes_after f s (course.closed is all end) h = is
 
 pub closes : (session : Stage) (e : ClientEvent) → HasClose (effects_of session e) → after session e ≡ stage.Closed
 closes (stage.Waiting w) e h = closes_before (ToCome w) (directory_of e) _ _ (waiting_outcome w e) h
 closes (stage.Registered f) e h = closes_after f _ (registered_course f e) h
 closes stage.Closed e h = closed_after e
+
+never_ends : (P : Effect → Type 0) → ¬ P Close → (effects : List Effect) → AllByRecursion P effects → EndsAtClose effects
+never_ends P never [] all = tt
+never_ends P never (Send bytes ∷ effects) all = never_ends P never effects all.1
+never_ends P never (Put change ∷ effects) all = never_ends P never effects all.1
+never_ends P never (Ask line ∷ effects) all = never_ends P never effects all.1
+never_ends P never (Upstream bytes ∷ effects) all = never_ends P never effects all.1
+never_ends P never (Close ∷ effects) all = absurd (never all.0)
+
+ends_before : (P : Type 0) (directory : Directory) (g : Claim) (s : Step) → Outcome P directory g s → EndsAtClose s.effects
+ends_before P directory g s (before.waiting v is facts all) = never_ends IsSend (λ x. x) s.effects all
+ends_before P directory g s (before.closed is all end) = end.0
+ends_before P directory g s (before.registered f is known all) = never_ends IsGreeting (λ x. x) s.effects all
+
+ends_after : (f : Facts) (s : Step) → Course f s → EndsAtClose s.effects
+ends_after f s (course.registered g is same all) = never_ends (IsServed f) (λ x. x) s.effects all
+ends_after f s (course.closed is all end) = end.0
+
+pub ends : (session : Stage) (e : ClientEvent) → EndsAtClose (effects_of session e)
+ends (stage.Waiting w) e = ends_before (ToCome w) (directory_of e) _ _ (waiting_outcome w e)
+ends (stage.Registered f) e = ends_after f _ (registered_course f e)
+ends stage.Closed e = subst EndsAtClose (sym (closed_effects e)) tt
+
+told_before : (P : Type 0) (directory : Directory) (g : Claim) (s : Step) → Outcome P directory g s → IsClosed s.session → HasClose s.effects
+told_before P directory g s (before.waiting v is facts all) h = absurd (subst IsClosed is h)
+told_before P directory g s (before.closed is all end) h = end.1
+told_before P directory g s (before.registered f is known all) h = absurd (subst IsClosed is h)
+
+told_after : (f : Facts) (s : Step) → Course f s → IsClosed s.session → HasClose s.effects
+told_after f s (course.registered g is same all) h = absurd (subst IsClosed is h)
+told_after f s (course.closed is all end) h = end.1
+
+pub told : (session : Stage) (e : ClientEvent) → ¬ IsClosed session → IsClosed (after session e) → HasClose (effects_of session e)
+told (stage.Waiting w) e here next = told_before (ToCome w) (directory_of e) _ _ (waiting_outcome w e) next
+told (stage.Registered f) e here next = told_after f _ (registered_course f e) next
+told stage.Closed e here next = absurd (here tt)

@@ -4,4 +4,5 @@ mod RegisteredLemmas
 mod EventLemmas
 mod SightLemmas
 mod LinesLemmas
+mod SentLemmas
 pub mod CallerLemmas

@@ -1,5 +1,5 @@
 -- What a registered session sends is lines that read back, and its markers are of lawful buffers and of times.
-use Rattle.std.proofs.Common.{◌≡◌, ℕ, ◌+◌, ◌*◌, ◌≤◌, ◌<◌, Bool, true, false, cond, List, [], ◌∷◌, ◌++◌, length, map, take, drop, filter, codes, Option, None, Some, Result, Ok, Err, refl, sym, ap, ◌∙◌, arith, length-append, take-append-drop, lit≤}
+use Rattle.std.proofs.Common.{◌≡◌, ℕ, ◌+◌, ◌*◌, ◌≤◌, Bool, true, false, cond, List, [], ◌∷◌, ◌++◌, length, map, take, drop, filter, codes, Option, None, Some, Result, Ok, Err, refl, sym, ap, ◌∙◌, arith, length-append, take-append-drop, lit≤}
 use Rattle.std.specs.Prelude.{◌==◌, ◌&&◌, ◌||◌, not, nat_lt, nat_le, IfSome, IfOk, is_some}
 use Rattle.std.specs.List.{AllByRecursion, list_any, list_all, slice_split, onto_first}
 use Rattle.std.proofs.lemmas.Bool.{and_parts, or_parts, leb-true}
@@ -43,14 +43,14 @@ use Rattle.chat_batch.proofs.CallerLemmas.{echoed_word, target_word}
 use Rattle.client_directory.specs.Entry.{Entry}
 use Rattle.client_directory.specs.Directory.{Directory, entry_in}
 use Rattle.irc_reply.specs.ToClient.{no_nick_given, erroneous_nick, may_not_reregister, pong, not_connected, closing_link}
-use Rattle.irc_reply.specs.ToServer.{passed_line}
+use Rattle.irc_reply.specs.ToServer.{passed_line, tagged_line}
 use Rattle.client_session.specs.Command.{command_of}
 use Rattle.client_session.specs.Step.{Step, answer, refusal, ping, nick_refusal}
 use Rattle.client_session.specs.Registration.{user_name}
 use Rattle.client_session.specs.Registered.{stays, is_up, takes_redact, with_nick_of, upstream, answer_if, need_more, pass, user_if, nick_unless, with_capability, marker_put, markread_put, redact_named, redact_of, after_registration}
 use Rattle.client_session.specs.Session.{facts_now, refuse, reading_step, step, too_long}
 use Rattle.client_session.specs.declared.command.ClientCommand.{ClientCommand}
-use Rattle.client_session.specs.declared.command.ClientCommand.TheVariants.{Cap, Pass, Nick, User, Ping, Pong, Quit, Chathistory, Markread, Redact, Tagmsg, Other}
+use Rattle.client_session.specs.declared.command.ClientCommand.TheVariants.{Cap, Pass, Nick, User, Ping, Pong, Quit, Chathistory, Markread, Redact, Message, Other}
 use Rattle.client_session.specs.declared.effect.Effect.{Effect}
 use Rattle.client_session.specs.declared.effect.Effect.TheVariants.{Send, Put, Ask, Upstream, Close}
 use Rattle.client_session.specs.declared.stage.Stage.{Stage}
@@ -100,7 +100,7 @@ either_effects : (limit : TagLimit) (b : Bool) (one two : List Effect) → (b �
 either_effects limit true one two p q = p refl
 either_effects limit false one two p q = q refl
 
-effects-append : (limit : TagLimit) (one two : List Effect) → EffectsStand limit one → EffectsStand limit two → EffectsStand limit (one ++ two)
+pub effects-append : (limit : TagLimit) (one two : List Effect) → EffectsStand limit one → EffectsStand limit two → EffectsStand limit (one ++ two)
 effects-append limit [] two p q = q
 effects-append limit (effect ∷ one) two p q = (p.0, effects-append limit one two p.1 q)
 
@@ -151,7 +151,7 @@ all_above : (text : List ℕ) → list_all is_name_byte text ≡ true → AllByR
 all_above [] e = tt
 all_above (b ∷ text) e = (let both = and_parts (is_name_byte b) (list_all is_name_byte text) e in (above b both.0, all_above text both.1))
 
-name_stands : (text : List ℕ) → is_name text ≡ true → HasNoBadByte text × (length text ≤ 32)
+pub name_stands : (text : List ℕ) → is_name text ≡ true → HasNoBadByte text × (length text ≤ 32)
 name_stands text e =
     let a = and_parts (has_length_to NAME_LIMIT text) (list_all is_name_byte text) e in
     let b = and_parts (nat_lt 0 (length text)) (nat_le (length text) NAME_LIMIT) a.0 in
@@ -197,7 +197,7 @@ caps_good caps =
 -- ---- replies
 
 module _ (limit : TagLimit) (cluster : List ℕ) (is : IsCluster cluster) where
-  one_word : (command word text : List ℕ) → is_command command ≡ true → CanBeMiddle word → HasNoBadByte text → length command + (length word + length text) ≤ 442
+  pub one_word : (command word text : List ℕ) → is_command command ≡ true → CanBeMiddle word → HasNoBadByte text → length command + (length word + length text) ≤ 442
       → AreLines limit (reply cluster command (word ∷ []) (Some text))
   one_word command word text c w t size =
       let a = length-append word [] in
@@ -210,8 +210,18 @@ module _ (limit : TagLimit) (cluster : List ℕ) (is : IsCluster cluster) where
       let b = length-append other [] in
       reply_line limit cluster is command (word ∷ other ∷ []) (Some text) c (w, (o, tt)) t (lit≤ tt) (omega arith)
 
+  pong_line : CanBeMiddle cluster → (word : List ℕ) → HasNoBadByte word → AreLines limit (pong cluster word)
+  pong_line middle word good =
+      let few = is.1 in
+      let short = short_take 300 word in
+      one_word (codes "PONG") cluster (take 300 word) refl middle (good_take 300 word good) (omega arith)
+
+  either_refusal : (b : Bool) (one two : Option (List ℕ)) → IfSome one (AreLines limit) → IfSome two (AreLines limit) → IfSome (cond b one two) (AreLines limit)
+  either_refusal true one two p q = p
+  either_refusal false one two p q = q
+
   module _ (nick : List ℕ) (n : IsWordTo target_limit nick) where
-    need_more_line : (command : List ℕ) → CanBeMiddle command → length command ≤ 64 → AreLines limit (need_more_params cluster nick command)
+    pub need_more_line : (command : List ℕ) → CanBeMiddle command → length command ≤ 64 → AreLines limit (need_more_params cluster nick command)
     need_more_line command c short = (let long = n.1 in two_words (codes "461") nick command (codes "Not enough parameters") refl n.0 c refl (omega arith))
 
     no_nick_line : AreLines limit (no_nick_given cluster nick)
@@ -235,12 +245,22 @@ module _ (limit : TagLimit) (cluster : List ℕ) (is : IsCluster cluster) where
         let size = length-append (codes "Not connected to ") network in
         one_word (codes "NOTICE") nick (codes "Not connected to " ++ network) refl n.0 (good_append (codes "Not connected to ") network refl name.0) (omega arith)
 
-    refusal_stands : (fault : LineFault) → EffectsStand limit (refusal cluster nick fault)
+    pub refusal_stands : (fault : LineFault) → EffectsStand limit (refusal cluster nick fault)
     refusal_stands Empty = tt
     refusal_stands TagsTooLong = (too_long_line limit cluster is nick n, tt)
     refusal_stands TooLong = (too_long_line limit cluster is nick n, tt)
     refusal_stands BadByte = (unknown_line limit cluster is nick (codes "*") n (middle_from (codes "*") refl, lit≤ tt), tt)
     refusal_stands NoCommand = (unknown_line limit cluster is nick (codes "*") n (middle_from (codes "*") refl, lit≤ tt), tt)
+
+    pub nick_refusal_stands : (ps : List (List ℕ)) → AllByRecursion HasNoBadByte ps → IfSome (nick_refusal cluster nick ps) (AreLines limit)
+    nick_refusal_stands [] p = no_nick_line
+    nick_refusal_stands (given ∷ more) p =
+        either_refusal (length given == 0) (Some (no_nick_given cluster nick)) _ no_nick_line
+        (either_refusal (not (is_target given)) (Some (erroneous_nick cluster nick given)) None (erroneous_line given p.0) tt)
+
+    pub ping_stands : CanBeMiddle cluster → (ps : List (List ℕ)) → AllByRecursion HasNoBadByte ps → EffectsStand limit (ping cluster nick ps)
+    ping_stands middle [] p = (need_more_line (codes "PING") (middle_from (codes "PING") refl) (lit≤ tt), tt)
+    ping_stands middle (word ∷ more) p = (pong_line middle word p.0, tt)
 
     -- ---- CAP
 
@@ -278,19 +298,13 @@ module _ (limit : TagLimit) (cluster : List ℕ) (is : IsCluster cluster) where
         let short = word.1 in
         two_words (codes "410") nick (echoed subcommand) (codes "Invalid CAP command") refl n.0 word.0 refl (omega arith)
 
-    cap_told : (m : Negotiation) (ps : List (List ℕ)) → AllByRecursion HasNoBadByte ps → IsTold (cap_answer cluster nick m ps)
+    pub cap_told : (m : Negotiation) (ps : List (List ℕ)) → AllByRecursion HasNoBadByte ps → IsTold (cap_answer cluster nick m ps)
     cap_told m [] p = need_more_line (codes "CAP") (middle_from (codes "CAP") refl) (lit≤ tt)
     cap_told m (subcommand ∷ more) p =
         either_told (is_same_word subcommand (codes "LS")) (ls cluster nick m) _ (λ e. names_told (codes "LS") all_capabilities (middle_from (codes "LS") refl) (lit≤ tt))
         (either_told (is_same_word subcommand (codes "LIST")) (list cluster nick m) _ (λ e. names_told (codes "LIST") m.caps (middle_from (codes "LIST") refl) (lit≤ tt))
         (either_told (is_same_word subcommand (codes "REQ")) (req cluster nick m more) _ (λ e. words_told m (words_of (list_in more)) (good_words (list_in more) (list_good more p.1)))
         (either_told (is_same_word subcommand (codes "END")) (ended m) (invalid cluster nick m subcommand) (λ e. tt) (invalid_told m subcommand p.0))))
-
-  pong_line : CanBeMiddle cluster → (word : List ℕ) → HasNoBadByte word → AreLines limit (pong cluster word)
-  pong_line middle word good =
-      let few = is.1 in
-      let short = short_take 300 word in
-      one_word (codes "PONG") cluster (take 300 word) refl middle (good_take 300 word good) (omega arith)
 
   plain_fail : (code text : List ℕ) → CanBeMiddle code → HasNoBadByte text → length code + length text ≤ 60 → AreLines limit (reply cluster (codes "FAIL") (codes "REDACT" ∷ code ∷ []) (Some text))
   plain_fail code text c t size = two_words (codes "FAIL") (codes "REDACT") code text refl (middle_from (codes "REDACT") refl) c t (omega arith)
@@ -304,7 +318,7 @@ module _ (limit : TagLimit) (cluster : List ℕ) (is : IsCluster cluster) where
       let b = length-append target [] in
       reply_line limit cluster is (codes "FAIL") (codes "REDACT" ∷ code ∷ target ∷ []) (Some text) refl (middle_from (codes "REDACT") refl, (c, (word.0, tt))) t (lit≤ tt) (omega arith)
 
-closing_line : (limit : TagLimit) → AreLines limit closing_link
+pub closing_line : (limit : TagLimit) → AreLines limit closing_link
 closing_line limit =
     one_line limit (record { tags = None; source = None; command = codes "ERROR"; middles = []; trailing = Some (codes "Closing link") })
     (record { tags = tt; source = tt; command = refl; middles = tt; trailing = refl; count = lit≤ tt; size = lit≤ tt })
@@ -336,23 +350,9 @@ module _ (limit : TagLimit) (f : Facts) (sound : IsSoundFacts f) where
   user_stands None = need_more_stands (codes "USER") (middle_from (codes "USER") refl) (lit≤ tt)
   user_stands (Some name) = reregister_stands
 
-  ping_stands : (ps : List (List ℕ)) → AllByRecursion HasNoBadByte ps → EffectsStand limit (ping f.cluster f.nick ps)
-  ping_stands [] p = need_more_stands (codes "PING") (middle_from (codes "PING") refl) (lit≤ tt)
-  ping_stands (word ∷ more) p = (pong_line limit f.cluster sound.session.cluster sound.cluster word p.0, tt)
-
   nick_line_stands : (entry : Option Entry) (ps : List (List ℕ)) (refused : Option (List ℕ)) → IfSome refused (AreLines limit) → EffectsStand limit (nick_unless entry f ps refused)
   nick_line_stands entry ps None p = upstream_stands entry _
   nick_line_stands entry ps (Some line) p = (p, tt)
-
-  either_refusal : (b : Bool) (one two : Option (List ℕ)) → IfSome one (AreLines limit) → IfSome two (AreLines limit) → IfSome (cond b one two) (AreLines limit)
-  either_refusal true one two p q = p
-  either_refusal false one two p q = q
-
-  nick_refused : (ps : List (List ℕ)) → AllByRecursion HasNoBadByte ps → IfSome (nick_refusal f.cluster f.nick ps) (AreLines limit)
-  nick_refused [] p = no_nick_line limit f.cluster sound.session.cluster f.nick sound.session.nick
-  nick_refused (given ∷ more) p =
-      either_refusal (length given == 0) (Some (no_nick_given f.cluster f.nick)) _ (no_nick_line limit f.cluster sound.session.cluster f.nick sound.session.nick)
-      (either_refusal (not (is_target given)) (Some (erroneous_nick f.cluster f.nick given)) None (erroneous_line limit f.cluster sound.session.cluster f.nick sound.session.nick given p.0) tt)
 
   -- ---- markers
 
@@ -415,27 +415,27 @@ module _ (limit : TagLimit) (f : Facts) (sound : IsSoundFacts f) where
   on : (effects : List Effect) → EffectsStand limit effects → StepStands limit (stays f effects)
   on effects p = record { effects = p; session = sound }
 
-  command_stands : (entry : Option Entry) (shown : Bool) (bytes : List ℕ) (command : ClientCommand) (ps : List (List ℕ)) → AllByRecursion HasNoBadByte ps
-      → StepStands limit (after_registration entry f shown bytes command ps)
-  command_stands entry shown bytes Cap ps good = record {
-    effects = told_stands _ (cap_told limit f.cluster sound.session.cluster f.nick sound.session.nick (registered f.caps) ps good);
-    session = with_caps (cap_answer f.cluster f.nick (registered f.caps) ps).negotiation.caps;
+  command_stands : (entry : Option Entry) (shown : Bool) (bytes : List ℕ) (command : ClientCommand) (line : Reading) → AllByRecursion HasNoBadByte line.parameters
+      → StepStands limit (after_registration entry f shown bytes command line)
+  command_stands entry shown bytes Cap line good = record {
+    effects = told_stands _ (cap_told limit f.cluster sound.session.cluster f.nick sound.session.nick (registered f.caps) line.parameters good);
+    session = with_caps (cap_answer f.cluster f.nick (registered f.caps) line.parameters).negotiation.caps;
   }
-  command_stands entry shown bytes Quit ps good = record { effects = (closing_line limit, (tt, tt)); session = tt }
-  command_stands entry shown bytes Pong ps good = on [] tt
-  command_stands entry shown bytes Tagmsg ps good = on [] tt
-  command_stands entry shown bytes Pass ps good = on _ (pass_stands ps)
-  command_stands entry shown bytes User ps good = on _ (user_stands (user_name ps))
-  command_stands entry shown bytes Ping ps good = on _ (ping_stands ps good)
-  command_stands entry shown bytes Nick ps good = on _ (nick_line_stands entry ps (nick_refusal f.cluster f.nick ps) (nick_refused ps good))
-  command_stands entry shown bytes Chathistory ps good = on _ (capable f.caps.chathistory (codes "CHATHISTORY") (Ask bytes ∷ []) (middle_from (codes "CHATHISTORY") refl) (lit≤ tt) (tt, tt))
-  command_stands entry shown bytes Markread ps good =
+  command_stands entry shown bytes Quit line good = record { effects = (closing_line limit, (tt, tt)); session = tt }
+  command_stands entry shown bytes Pong line good = on [] tt
+  command_stands entry shown bytes Pass line good = on _ (pass_stands line.parameters)
+  command_stands entry shown bytes User line good = on _ (user_stands (user_name line.parameters))
+  command_stands entry shown bytes Ping line good = on _ (ping_stands limit f.cluster sound.session.cluster f.nick sound.session.nick sound.cluster line.parameters good)
+  command_stands entry shown bytes Nick line good = on _ (nick_line_stands entry line.parameters (nick_refusal f.cluster f.nick line.parameters) (nick_refusal_stands limit f.cluster sound.session.cluster f.nick sound.session.nick line.parameters good))
+  command_stands entry shown bytes Chathistory line good = on _ (capable f.caps.chathistory (codes "CHATHISTORY") (Ask bytes ∷ []) (middle_from (codes "CHATHISTORY") refl) (lit≤ tt) (tt, tt))
+  command_stands entry shown bytes Markread line good =
       on _
-      (capable f.caps.read_marker (codes "MARKREAD") (markread_put f ps ++ Ask bytes ∷ []) (middle_from (codes "MARKREAD") refl) (lit≤ tt)
-      (effects-append limit (markread_put f ps) (Ask bytes ∷ []) (put_stands ps) (tt, tt)))
-  command_stands entry shown bytes Redact ps good =
-      on _ (capable f.caps.message_redaction (codes "REDACT") (redact_of entry f shown ps) (middle_from (codes "REDACT") refl) (lit≤ tt) (redact_stands entry shown ps))
-  command_stands entry shown bytes Other ps good = on _ (upstream_stands entry (passed_line bytes))
+      (capable f.caps.read_marker (codes "MARKREAD") (markread_put f line.parameters ++ Ask bytes ∷ []) (middle_from (codes "MARKREAD") refl) (lit≤ tt)
+      (effects-append limit (markread_put f line.parameters) (Ask bytes ∷ []) (put_stands line.parameters) (tt, tt)))
+  command_stands entry shown bytes Redact line good =
+      on _ (capable f.caps.message_redaction (codes "REDACT") (redact_of entry f shown line.parameters) (middle_from (codes "REDACT") refl) (lit≤ tt) (redact_stands entry shown line.parameters))
+  command_stands entry shown bytes Message line good = on _ (upstream_stands entry (tagged_line line.tags bytes))
+  command_stands entry shown bytes Other line good = on _ (upstream_stands entry (passed_line bytes))
 
 -- ---- steps
 
@@ -447,21 +447,21 @@ now_sound (Some entry) f sound n = record {
   network = sound.network;
 }
 
-good_reading : (bytes : List ℕ) (r : Result Reading LineFault) → IfOk r (Reads Client bytes) → IfOk r (λ line. AllByRecursion HasNoBadByte line.parameters)
+pub good_reading : (bytes : List ℕ) (r : Result Reading LineFault) → IfOk r (Reads Client bytes) → IfOk r (λ line. AllByRecursion HasNoBadByte line.parameters)
 good_reading bytes (Ok line) reads = read_parameters_whole Client bytes line reads
 good_reading bytes (Err fault) reads = tt
 
 module _ (limit : TagLimit) (directory : Directory) where
-  fault_stands : (f : Facts) (fault : LineFault) → IsSoundFacts f → NickStands (entry_in directory f.account f.network) → StepStands limit (refuse (facts_now directory f) fault)
+  pub fault_stands : (f : Facts) (fault : LineFault) → IsSoundFacts f → NickStands (entry_in directory f.account f.network) → StepStands limit (refuse (facts_now directory f) fault)
   fault_stands f fault sound n =
       let now = now_sound (entry_in directory f.account f.network) f sound n in
       record { effects = refusal_stands limit (facts_now directory f).cluster now.session.cluster (facts_now directory f).nick now.session.nick fault; session = now }
 
-  reading_stands : (shown : Bool) (f : Facts) (bytes : List ℕ) (r : Result Reading LineFault) → IfOk r (λ line. AllByRecursion HasNoBadByte line.parameters)
+  pub reading_stands : (shown : Bool) (f : Facts) (bytes : List ℕ) (r : Result Reading LineFault) → IfOk r (λ line. AllByRecursion HasNoBadByte line.parameters)
       → IsSoundFacts f → NickStands (entry_in directory f.account f.network) → StepStands limit (reading_step directory shown (stage.Registered f) bytes r)
   reading_stands shown f bytes (Err fault) good sound n = fault_stands f fault sound n
   reading_stands shown f bytes (Ok line) good sound n =
-      command_stands limit (facts_now directory f) (now_sound (entry_in directory f.account f.network) f sound n) (entry_in directory f.account f.network) shown bytes (command_of line.command) line.parameters good
+      command_stands limit (facts_now directory f) (now_sound (entry_in directory f.account f.network) f sound n) (entry_in directory f.account f.network) shown bytes (command_of line.command) line good
 
   closed_reading : (shown : Bool) (bytes : List ℕ) (r : Result Reading LineFault) → StepStands limit (reading_step directory shown stage.Closed bytes r)
   closed_reading shown bytes (Ok line) = record { effects = tt; session = tt }

@@ -17,11 +17,11 @@ use Rattle.client_session.specs.Registered.{stays, is_up, takes_redact, with_nic
 use Rattle.client_session.specs.Session.{facts_now, refuse, reading_step}
 use Rattle.client_session.specs.Events.{IsAnswer, IsMarkOf}
 use Rattle.client_session.specs.declared.command.ClientCommand.{ClientCommand}
-use Rattle.client_session.specs.declared.command.ClientCommand.TheVariants.{Cap, Pass, Nick, User, Ping, Pong, Quit, Chathistory, Markread, Redact, Tagmsg, Other}
+use Rattle.client_session.specs.declared.command.ClientCommand.TheVariants.{Cap, Pass, Nick, User, Ping, Pong, Quit, Chathistory, Markread, Redact, Message, Other}
 use Rattle.client_session.specs.declared.effect.Effect.{Effect}
 use Rattle.client_session.specs.declared.effect.Effect.TheVariants.{Send, Put, Ask, Upstream, Close}
 use Rattle.client_session.specs.declared.stage.Stage.TheVariants as stage
-use Rattle.client_session.proofs.RegistrationLemmas.{either}
+use Rattle.client_session.proofs.RegistrationLemmas.{IsEnd, either}
 
 -- an effect of a session that goes on
 abbrev pub IsServed : Facts → Effect → Type 0
@@ -40,7 +40,7 @@ SameNetwork g f = (g.account ≡ f.account) × (g.network ≡ f.network)
 -- still registered, as the same account on the same network, or closed
 pub data Course (f : Facts) (s : Step) : Type 0 where
   registered : (g : Facts) → s.session ≡ stage.Registered g → SameNetwork g f → AreServed f s.effects → Course f s
-  closed : s.session ≡ stage.Closed → AllByRecursion IsAnswer s.effects → Course f s
+  closed : s.session ≡ stage.Closed → AllByRecursion IsAnswer s.effects → IsEnd s.effects → Course f s
 
 stays_on : (f : Facts) (effects : List Effect) → AreServed f effects → Course f (stays f effects)
 stays_on f effects all = registered f refl (refl, refl) all
@@ -92,20 +92,20 @@ redact_served f entry shown [] = (tt, tt)
 redact_served f entry shown (a ∷ []) = (tt, tt)
 redact_served f entry shown (a ∷ b ∷ more) = named_served f entry shown a b (first_of more)
 
-row_after : (entry : Option Entry) (f : Facts) (shown : Bool) (bytes : List ℕ) (command : ClientCommand) (ps : List (List ℕ))
-    → Course f (after_registration entry f shown bytes command ps)
-row_after entry f shown bytes Cap ps = registered _ refl (refl, refl) (answer_served f _)
-row_after entry f shown bytes Quit ps = closed refl (tt, (tt, tt))
-row_after entry f shown bytes Ping ps = stays_on f _ (ping_served f _ _ ps)
-row_after entry f shown bytes Pass ps = stays_on f _ (pass_served f ps)
-row_after entry f shown bytes User ps = stays_on f _ (user_served f (user_name ps))
-row_after entry f shown bytes Pong ps = stays_on f _ tt
-row_after entry f shown bytes Tagmsg ps = stays_on f _ tt
-row_after entry f shown bytes Nick ps = stays_on f _ (nick_served f entry ps _)
-row_after entry f shown bytes Chathistory ps = stays_on f _ (capable_served f f.caps.chathistory (codes "CHATHISTORY") _ (tt, tt))
-row_after entry f shown bytes Markread ps = stays_on f _ (capable_served f f.caps.read_marker (codes "MARKREAD") _ (markread_served f bytes ps))
-row_after entry f shown bytes Redact ps = stays_on f _ (capable_served f f.caps.message_redaction (codes "REDACT") _ (redact_served f entry shown ps))
-row_after entry f shown bytes Other ps = stays_on f _ (upstream_served f entry _)
+row_after : (entry : Option Entry) (f : Facts) (shown : Bool) (bytes : List ℕ) (command : ClientCommand) (line : Reading)
+    → Course f (after_registration entry f shown bytes command line)
+row_after entry f shown bytes Cap line = registered _ refl (refl, refl) (answer_served f _)
+row_after entry f shown bytes Quit line = closed refl (tt, (tt, tt)) (refl, tt)
+row_after entry f shown bytes Ping line = stays_on f _ (ping_served f _ _ line.parameters)
+row_after entry f shown bytes Pass line = stays_on f _ (pass_served f line.parameters)
+row_after entry f shown bytes User line = stays_on f _ (user_served f (user_name line.parameters))
+row_after entry f shown bytes Pong line = stays_on f _ tt
+row_after entry f shown bytes Nick line = stays_on f _ (nick_served f entry line.parameters _)
+row_after entry f shown bytes Chathistory line = stays_on f _ (capable_served f f.caps.chathistory (codes "CHATHISTORY") _ (tt, tt))
+row_after entry f shown bytes Markread line = stays_on f _ (capable_served f f.caps.read_marker (codes "MARKREAD") _ (markread_served f bytes line.parameters))
+row_after entry f shown bytes Redact line = stays_on f _ (capable_served f f.caps.message_redaction (codes "REDACT") _ (redact_served f entry shown line.parameters))
+row_after entry f shown bytes Message line = stays_on f _ (upstream_served f entry _)
+row_after entry f shown bytes Other line = stays_on f _ (upstream_served f entry _)
 
 refusal_served : (f : Facts) (cluster nick : List ℕ) (fault : LineFault) → AreServed f (refusal cluster nick fault)
 refusal_served f cluster nick Empty = tt
@@ -118,7 +118,7 @@ refusal_served f cluster nick NoCommand = (tt, tt)
 with_nick : (entry : Option Entry) (f : Facts) (s : Step) → Course (with_nick_of entry f) s → Course f s
 with_nick None f s course = course
 with_nick (Some entry) f s (registered g is same all) = registered g is same all
-with_nick (Some entry) f s (closed is all) = closed is all
+with_nick (Some entry) f s (closed is all end) = closed is all end
 
 pub refused_after : (directory : Directory) (f : Facts) (fault : LineFault) → Course f (refuse (facts_now directory f) fault)
 refused_after directory f fault =
@@ -129,4 +129,4 @@ pub line_after : (directory : Directory) (shown : Bool) (f : Facts) (bytes : Lis
 line_after directory shown f bytes (Err fault) = refused_after directory f fault
 line_after directory shown f bytes (Ok line) =
     with_nick (entry_in directory f.account f.network) f _
-    (row_after (entry_in directory f.account f.network) (facts_now directory f) shown bytes (command_of line.command) line.parameters)
+    (row_after (entry_in directory f.account f.network) (facts_now directory f) shown bytes (command_of line.command) line)

@@ -19,9 +19,9 @@ use Rattle.client_session.specs.Command.{command_of}
 use Rattle.client_session.specs.Step.{Step, answer, refusal, ping, nick_refusal}
 use Rattle.client_session.specs.Registration.{waits, account_of, network_of, channels_lines, facts_of, let_in_if, register, settle_user, settle, answer_or_settle, cap, pass, nick_unless, nick, user_name, user_if, user, before_registration}
 use Rattle.client_session.specs.Session.{reading_step}
-use Rattle.client_session.specs.Events.{Claim, IsAnswer, IsGreeting, IsLetIn, IsUserOf, HasSecret, user_after, is_nick, claim_by_command, claim_by_reading}
+use Rattle.client_session.specs.Events.{Claim, IsAnswer, IsGreeting, IsLetIn, IsUserOf, HasSecret, HasClose, EndsAtClose, user_after, is_nick, claim_by_command, claim_by_reading}
 use Rattle.client_session.specs.declared.command.ClientCommand.{ClientCommand}
-use Rattle.client_session.specs.declared.command.ClientCommand.TheVariants.{Cap, Pass, Nick, User, Ping, Pong, Quit, Chathistory, Markread, Redact, Tagmsg, Other}
+use Rattle.client_session.specs.declared.command.ClientCommand.TheVariants.{Cap, Pass, Nick, User, Ping, Pong, Quit, Chathistory, Markread, Redact, Message, Other}
 use Rattle.client_session.specs.declared.effect.Effect.{Effect}
 use Rattle.client_session.specs.declared.effect.Effect.TheVariants.{Send, Put, Ask, Upstream, Close}
 use Rattle.client_session.specs.declared.stage.Waiting.{Waiting}
@@ -40,6 +40,10 @@ IsSend (Ask line) = ⊥
 IsSend (Upstream bytes) = ⊥
 IsSend Close = ⊥
 
+-- a list that ends with Close
+abbrev pub IsEnd : List Effect → Type 0
+IsEnd effects = EndsAtClose effects × HasClose effects
+
 -- what a waiting session knows of the lines
 abbrev pub claim_of : Waiting → Claim
 claim_of w = record { password = w.password; user = w.user; has_nick = w.has_nick; is_held = is_held w.negotiation.registration }
@@ -48,7 +52,7 @@ claim_of w = record { password = w.password; user = w.user; has_nick = w.has_nic
 pub data Outcome (P : Type 0) (directory : Directory) (g : Claim) (s : Step) : Type 0 where
   waiting : (w : Waiting) → s.session ≡ stage.Waiting w → (P → (claim_of w ≡ g) × IsToCome w.negotiation.registration)
       → AllByRecursion IsSend s.effects → Outcome P directory g s
-  closed : s.session ≡ stage.Closed → AllByRecursion IsAnswer s.effects → Outcome P directory g s
+  closed : s.session ≡ stage.Closed → AllByRecursion IsAnswer s.effects → IsEnd s.effects → Outcome P directory g s
   registered : (f : Facts) → s.session ≡ stage.Registered f → (P → IsLetIn directory f g) → AllByRecursion IsGreeting s.effects → Outcome P directory g s
 
 abbrev pub ToCome : Waiting → Type 0
@@ -59,7 +63,7 @@ goes_on directory w effects all = waiting w refl (λ h. (refl, h)) all
 
 moved : (P Q : Type 0) (directory : Directory) (g h : Claim) (s : Step) → (Q → P × (g ≡ h)) → Outcome P directory g s → Outcome Q directory h s
 moved P Q directory g h s k (waiting w is facts all) = waiting w is (λ q. ((facts (k q).0).0 ∙ (k q).1, (facts (k q).0).1)) all
-moved P Q directory g h s k (closed is all) = closed is all
+moved P Q directory g h s k (closed is all end) = closed is all end
 moved P Q directory g h s k (registered f is known all) = registered f is (λ q. subst (λ (x : Claim). IsLetIn directory f x) (k q).1 (known (k q).0)) all
 
 -- ---- the door
@@ -108,7 +112,7 @@ module _ (directory : Directory) (w : Waiting) (user : List ℕ) (came : w.user 
 
   registers : (found : Option Entry) → entry_by_secret directory (account_of user) (network_of user) w.password ≡ found
       → (w.has_nick && not (is_held w.negotiation.registration)) ≡ true → Outcome (ToCome w) directory (claim_of w) (let_in_if w user found)
-  registers None h ready = closed refl (tt, (tt, (tt, tt)))
+  registers None h ready = closed refl (tt, (tt, (tt, tt))) (refl, tt)
   registers (Some e) h ready = registered (facts_of w user e) refl (λ p. enters e h ready) (tt, (tt, (tt, greets e.nick w.negotiation.caps e.channels)))
 
   settles_if : (b : Bool) → (w.has_nick && not (is_held w.negotiation.registration)) ≡ b
@@ -195,11 +199,11 @@ row_before directory w Nick ps = nick_row_if directory w ps _ (nick_refused w.cl
 row_before directory w User ps = user_row_if directory w (user_name ps)
 row_before directory w Ping ps = ping_row directory w ps
 row_before directory w Pong ps = goes_on directory w _ tt
-row_before directory w Quit ps = closed refl (tt, (tt, tt))
+row_before directory w Quit ps = closed refl (tt, (tt, tt)) (refl, tt)
 row_before directory w Chathistory ps = goes_on directory w _ (tt, tt)
 row_before directory w Markread ps = goes_on directory w _ (tt, tt)
 row_before directory w Redact ps = goes_on directory w _ (tt, tt)
-row_before directory w Tagmsg ps = goes_on directory w _ (tt, tt)
+row_before directory w Message ps = goes_on directory w _ (tt, tt)
 row_before directory w Other ps = goes_on directory w _ (tt, tt)
 
 pub refused_before : (directory : Directory) (w : Waiting) (fault : LineFault) → Outcome (ToCome w) directory (claim_of w) (waits w (refusal w.cluster no_nick fault))

@@ -12,7 +12,7 @@ use Rattle.client_directory.specs.Entry.{Entry}
 use Rattle.client_directory.specs.Directory.{Directory, entry_in}
 use Rattle.client_session.specs.Command.{command_of}
 use Rattle.client_session.specs.declared.command.ClientCommand.{ClientCommand}
-use Rattle.client_session.specs.declared.command.ClientCommand.TheVariants.{Cap, Pass, Nick, User, Ping, Pong, Quit, Chathistory, Markread, Redact, Tagmsg, Other}
+use Rattle.client_session.specs.declared.command.ClientCommand.TheVariants.{Cap, Pass, Nick, User, Ping, Pong, Quit, Chathistory, Markread, Redact, Message, Other}
 use Rattle.client_session.specs.declared.effect.Effect.{Effect}
 use Rattle.client_session.specs.declared.stage.Stage.{Stage}
 use Rattle.client_session.specs.declared.stage.Stage.TheVariants as stage
@@ -39,28 +39,33 @@ redact_unseen None f shown target id more e =
 redact_unseen (Some entry) f shown target id more e =
     unasked f.caps.message_redaction (has_buffer f target) (is_id id) shown _ _ _ _ (no_name (f.caps.message_redaction && (has_buffer f target && is_id id)) _ e)
 
-command_unseen : (entry : Option Entry) (f : Facts) (shown : Bool) (bytes : List ℕ) (command : ClientCommand) (ps : List (List ℕ)) → name_by_command f command ps ≡ None
-    → after_registration entry (with_nick_of entry f) shown bytes command ps ≡ after_registration entry (with_nick_of entry f) false bytes command ps
-command_unseen entry f shown bytes Cap ps e = refl
-command_unseen entry f shown bytes Pass ps e = refl
-command_unseen entry f shown bytes Nick ps e = refl
-command_unseen entry f shown bytes User ps e = refl
-command_unseen entry f shown bytes Ping ps e = refl
-command_unseen entry f shown bytes Pong ps e = refl
-command_unseen entry f shown bytes Quit ps e = refl
-command_unseen entry f shown bytes Chathistory ps e = refl
-command_unseen entry f shown bytes Markread ps e = refl
-command_unseen entry f shown bytes Tagmsg ps e = refl
-command_unseen entry f shown bytes Other ps e = refl
-command_unseen entry f shown bytes Redact [] e = refl
-command_unseen entry f shown bytes Redact (target ∷ []) e = refl
-command_unseen entry f shown bytes Redact (target ∷ id ∷ more) e = ap (stays (with_nick_of entry f)) (redact_unseen entry f shown target id more e)
+-- a REDACT with fewer than two parameters asks nothing
+redact_unnamed : (entry : Option Entry) (f : Facts) (shown : Bool) (ps : List (List ℕ)) → name_by_command f Redact ps ≡ None
+    → redact entry (with_nick_of entry f) shown ps ≡ redact entry (with_nick_of entry f) false ps
+redact_unnamed entry f shown [] e = refl
+redact_unnamed entry f shown (target ∷ []) e = refl
+redact_unnamed entry f shown (target ∷ id ∷ more) e = redact_unseen entry f shown target id more e
+
+command_unseen : (entry : Option Entry) (f : Facts) (shown : Bool) (bytes : List ℕ) (command : ClientCommand) (line : Reading) → name_by_command f command line.parameters ≡ None
+    → after_registration entry (with_nick_of entry f) shown bytes command line ≡ after_registration entry (with_nick_of entry f) false bytes command line
+command_unseen entry f shown bytes Cap line e = refl
+command_unseen entry f shown bytes Pass line e = refl
+command_unseen entry f shown bytes Nick line e = refl
+command_unseen entry f shown bytes User line e = refl
+command_unseen entry f shown bytes Ping line e = refl
+command_unseen entry f shown bytes Pong line e = refl
+command_unseen entry f shown bytes Quit line e = refl
+command_unseen entry f shown bytes Chathistory line e = refl
+command_unseen entry f shown bytes Markread line e = refl
+command_unseen entry f shown bytes Message line e = refl
+command_unseen entry f shown bytes Other line e = refl
+command_unseen entry f shown bytes Redact line e = ap (stays (with_nick_of entry f)) (redact_unnamed entry f shown line.parameters e)
 
 reading_unseen : (directory : Directory) (shown : Bool) (f : Facts) (bytes : List ℕ) (r : Result Reading LineFault) → name_in f r ≡ None
     → reading_step directory shown (stage.Registered f) bytes r ≡ reading_step directory false (stage.Registered f) bytes r
 reading_unseen directory shown f bytes (Err fault) e = refl
 reading_unseen directory shown f bytes (Ok line) e =
-    command_unseen (entry_in directory f.account f.network) f shown bytes (command_of line.command) line.parameters e
+    command_unseen (entry_in directory f.account f.network) f shown bytes (command_of line.command) line e
 
 waiting_unseen : (directory : Directory) (shown : Bool) (session : Stage) (bytes : List ℕ) (r : Result Reading LineFault) → ((f : Facts) → session ≡ stage.Registered f → name_in f r ≡ None)
     → reading_step directory shown session bytes r ≡ reading_step directory false session bytes r

@@ -173,3 +173,14 @@ abbrev pub HasClose : List Effect → Type 0
 HasClose [] = ⊥
 HasClose (Close ∷ effects) = Unit {0}
 HasClose (_ ∷ effects) = HasClose effects
+
+-- nothing stands behind Close
+abbrev pub EndsAtClose : List Effect → Type 0
+EndsAtClose [] = Unit {0}
+EndsAtClose (Close ∷ effects) = effects ≡ []
+EndsAtClose (_ ∷ effects) = EndsAtClose effects
+
+abbrev pub IsClosed : Stage → Type 0
+IsClosed (Waiting w) = ⊥
+IsClosed (Registered f) = ⊥
+IsClosed Closed = Unit {0}

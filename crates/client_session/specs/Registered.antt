@@ -1,6 +1,7 @@
 -- A session after its registration: what each command does.
 use Rattle.std.specs.Prelude.{ℕ, Bool, false, not, ◌&&◌, List, [], ◌∷◌, ◌++◌, codes, take, Option, None, Some, if◌then◌else◌}
 use Rattle.irc_reply.specs.Reply.{unknown_text}
+use Rattle.irc_line.specs.Line.{Reading}
 use Rattle.irc_caps.specs.Negotiation.{registered, cap_answer}
 use Rattle.irc_reply.specs.Reply.{need_more_params}
 use Rattle.chat_change.specs.Words.{is_id}
@@ -12,9 +13,9 @@ use Rattle.chat_batch.specs.declared.facts.Facts.{Facts}
 use Rattle.client_directory.specs.Entry.{Entry}
 use Rattle.irc_reply.specs.ToClient.{may_not_reregister, not_connected, redact_needs_more, redact_bad_target, redact_unknown_id, redact_forbidden}
 use Rattle.irc_reply.specs.Reply.{plain_line}
-use Rattle.irc_reply.specs.ToServer.{passed_line}
+use Rattle.irc_reply.specs.ToServer.{passed_line, tagged_line}
 use Rattle.client_session.specs.declared.command.ClientCommand.{ClientCommand}
-use Rattle.client_session.specs.declared.command.ClientCommand.TheVariants.{Cap, Pass, Nick, User, Ping, Pong, Quit, Chathistory, Markread, Redact, Tagmsg, Other}
+use Rattle.client_session.specs.declared.command.ClientCommand.TheVariants.{Cap, Pass, Nick, User, Ping, Pong, Quit, Chathistory, Markread, Redact, Message, Other}
 use Rattle.client_session.specs.declared.effect.Effect.{Effect}
 use Rattle.client_session.specs.declared.effect.Effect.TheVariants.{Put, Ask, Upstream}
 use Rattle.client_session.specs.declared.stage.Stage.TheVariants as stage
@@ -123,26 +124,27 @@ redact entry f shown parameters =
 
 -- ---- the tables
 
--- what the commands do that leave the session as it is
+-- What the commands do that leave the session as it is. A message goes on with its client-only tags, any other line
+-- without tags.
 abbrev pub effects :
-    Option Entry → Facts → Bool → List ℕ → ClientCommand → List (List ℕ) → List Effect
-effects entry f shown bytes Cap parameters = []
-effects entry f shown bytes Quit parameters = []
-effects entry f shown bytes Pong parameters = []
-effects entry f shown bytes Tagmsg parameters = []
-effects entry f shown bytes Pass parameters = pass f parameters
-effects entry f shown bytes User parameters = user f parameters
-effects entry f shown bytes Ping parameters = ping f.cluster f.nick parameters
-effects entry f shown bytes Nick parameters = nick entry f parameters
-effects entry f shown bytes Chathistory parameters = chathistory f bytes
-effects entry f shown bytes Markread parameters = markread f bytes parameters
-effects entry f shown bytes Redact parameters = redact entry f shown parameters
-effects entry f shown bytes Other parameters = upstream entry f (passed_line bytes)
+    Option Entry → Facts → Bool → List ℕ → ClientCommand → Reading → List Effect
+effects entry f shown bytes Cap line = []
+effects entry f shown bytes Quit line = []
+effects entry f shown bytes Pong line = []
+effects entry f shown bytes Pass line = pass f line.parameters
+effects entry f shown bytes User line = user f line.parameters
+effects entry f shown bytes Ping line = ping f.cluster f.nick line.parameters
+effects entry f shown bytes Nick line = nick entry f line.parameters
+effects entry f shown bytes Chathistory line = chathistory f bytes
+effects entry f shown bytes Markread line = markread f bytes line.parameters
+effects entry f shown bytes Redact line = redact entry f shown line.parameters
+effects entry f shown bytes Message line = upstream entry f (tagged_line line.tags bytes)
+effects entry f shown bytes Other line = upstream entry f (passed_line bytes)
 
 -- the table of the commands after registration
 abbrev pub after_registration :
-    Option Entry → Facts → Bool → List ℕ → ClientCommand → List (List ℕ) → Step
-after_registration entry f shown bytes Cap parameters = cap f parameters
-after_registration entry f shown bytes Quit parameters = quit
-after_registration entry f shown bytes command parameters =
-    stays f (effects entry f shown bytes command parameters)
+    Option Entry → Facts → Bool → List ℕ → ClientCommand → Reading → Step
+after_registration entry f shown bytes Cap line = cap f line.parameters
+after_registration entry f shown bytes Quit line = quit
+after_registration entry f shown bytes command line =
+    stays f (effects entry f shown bytes command line)

@@ -48,7 +48,7 @@ line_step directory shown (Waiting w) bytes line =
     before_registration directory w (command_of line.command) line.parameters
 line_step directory shown (Registered f) bytes line =
     after_registration (entry_in directory f.account f.network) (facts_now directory f) shown bytes
-    (command_of line.command) line.parameters
+    (command_of line.command) line
 line_step directory shown Closed bytes line = silence
 
 abbrev pub reading_step : Directory → Bool → Stage → List ℕ → Result Reading LineFault → Step

@@ -1,12 +1,14 @@
 //! What holds of every list of lines, each with the directory of its moment, and of the lines that were too long and the
 //! answers between them.
-ghost use Rattle.std.specs.Prelude.{◌≡◌, ◌++◌, ◌∷◌, [], List, ℕ, Some, true, false};
+ghost use Rattle.std.specs.Prelude.{◌≡◌, ◌≤◌, ◌++◌, ◌∷◌, [], List, ℕ, Some, true, false};
 ghost use Rattle.std.specs.List.{AllByRecursion};
+ghost use Rattle.irc_line.specs.declared.line.TagLimit.{TagLimit};
 ghost use Rattle.chat_change.specs.Record.{Record};
 ghost use Rattle.client_session.specs.Hearers.{hears_message};
 ghost use Rattle.client_session.specs.Session.{new};
+ghost use Rattle.client_session.specs.Standing.{CanNameCluster, greatest_maximum, EventStands, SendsLines};
 ghost use Rattle.client_session.specs.Lookup.{MessageName, name_sought};
-ghost use Rattle.client_session.specs.Events.{ClientEvent, run, after, effects_of, WasLetIn, IsRegistered, IsAnswer, IsGreeting, IsOwnEffect, IsOfSame, HasClose};
+ghost use Rattle.client_session.specs.Events.{ClientEvent, run, after, effects_of, WasLetIn, IsRegistered, IsAnswer, IsGreeting, IsOwnEffect, IsOfSame, HasClose, EndsAtClose, IsClosed};
 ghost use Rattle.chat_batch.specs.declared.facts.Facts.{Facts};
 ghost use Rattle.client_session.specs.declared.stage.Stage.{Stage};
 ghost use Rattle.client_session.specs.declared.stage.Stage.TheVariants.{Registered, Closed};
@@ -43,12 +45,28 @@ pub fn each_reaches_its_own_past_alone()
         → IsOfSame f (run (Registered f) events) }
 {}
 
-/// After Close there are no effects, and nothing changes.
+/// Close comes last among the effects of a line, and closes the session; nothing else does. After it there are no effects,
+/// and nothing changes.
 pub fn nothing_follows_close()
+    ensures last { (session : Stage) (event : ClientEvent)
+        → EndsAtClose (effects_of session event) }
     ensures closed { (session : Stage) (event : ClientEvent)
         → HasClose (effects_of session event) → after session event ≡ Closed }
+    ensures only { (session : Stage) (event : ClientEvent) → ¬ IsClosed session
+        → IsClosed (after session event) → HasClose (effects_of session event) }
     ensures stays { (events : List ClientEvent) → run Closed events ≡ Closed }
     ensures silent { (event : ClientEvent) → effects_of Closed event ≡ [] }
+{}
+
+/// What a session sends is lines that read back (RFC 2812, section 2.3), before its registration and after it: the refusals
+/// and the greeting too. It is so where the cluster's name may stand in a line, and the names, nicks and channels of each
+/// directory are such as a configuration may have.
+pub fn what_is_sent_is_lines()
+    ensures { (limit : TagLimit) (cluster : List ℕ) (maximum : ℕ)
+        (events : List ClientEvent) (event : ClientEvent)
+        → CanNameCluster cluster → maximum ≤ greatest_maximum
+        → AllByRecursion EventStands events → EventStands event
+        → AllByRecursion (SendsLines limit) (effects_of (run (new cluster maximum) events) event) }
 {}
 
 /// A session without `echo-message` hears nothing of its own, which is what comes from the present nick.

@@ -91,7 +91,7 @@ pub(crate) fn look<P: Peek>(
             | ClientCommand::Quit
             | ClientCommand::Chathistory
             | ClientCommand::Markread
-            | ClientCommand::Tagmsg
+            | ClientCommand::Message
             | ClientCommand::Other => Ok(false),
         },
     }

@@ -21,10 +21,10 @@ use byte_text::{NoMemory, Text};
 use chat_batch::Facts;
 use client_directory::Entry;
 use irc_caps::Negotiation;
-use irc_line::LineFault;
+use irc_line::{Line, LineFault};
 use irc_reply::need_more_params;
 use irc_reply::to_client::{may_not_reregister, not_connected, unknown};
-use irc_reply::to_server::{nick_line, passed_line};
+use irc_reply::to_server::{nick_line, passed_line, tagged_line};
 use std::alloc::Global;
 use std::mem;
 
@@ -155,7 +155,27 @@ fn chathistory(alloc: Global, facts: &Facts, bytes: &[u8]) -> Result<Vec<Effect>
     }
 }
 
-/// Any other line, which goes to the network's server.
+/// PRIVMSG, NOTICE or TAGMSG, which goes to the network's server with its client-only tags.
+fn pass_message_on(
+    alloc: Global,
+    scratch: &mut Scratch,
+    entry: Option<&Entry>,
+    facts: &Facts,
+    bytes: &[u8],
+    tags: Option<&[u8]>,
+) -> Result<Vec<Effect>, NoMemory>
+    ensures { IfOk result (λ list. list.items ≡ spec.upstream (option_copied entry.entry)
+        facts.now (tagged_line (option_copied tags.entry) bytes.now)) }
+{
+    if is_up(entry) {
+        let line = tagged_line(scratch.text_room(alloc), tags, bytes)?;
+        scratch.one(alloc, Effect::Upstream(line))
+    } else {
+        not_up(alloc, facts)
+    }
+}
+
+/// Any other line, which goes to the network's server without its tags.
 fn pass_on(
     alloc: Global,
     scratch: &mut Scratch,
@@ -174,7 +194,7 @@ fn pass_on(
     }
 }
 
-ghost use Rattle.irc_reply.specs.ToServer.{passed_line};
+ghost use Rattle.irc_reply.specs.ToServer.{passed_line, tagged_line};
 
 /// What a command does that leaves the session as it is.
 fn effects(
@@ -185,14 +205,14 @@ fn effects(
     shown: bool,
     bytes: &[u8],
     command: ClientCommand,
-    parameters: &[&[u8]],
+    line: &Line<'_>,
 ) -> Result<Vec<Effect>, NoMemory>
     ensures { IfOk result (λ list. list.items ≡ spec.effects (option_copied entry.entry)
-        facts.now shown bytes.now command (map (λ p. p.now) parameters.now)) }
+        facts.now shown bytes.now command line.now) }
 {
+    let parameters = line.parameters();
     match command {
-        ClientCommand::Cap | ClientCommand::Quit | ClientCommand::Pong | ClientCommand::Tagmsg =>
-            Ok(Vec::new(alloc)),
+        ClientCommand::Cap | ClientCommand::Quit | ClientCommand::Pong => Ok(Vec::new(alloc)),
         ClientCommand::Pass => pass(alloc, facts, parameters),
         ClientCommand::User => user(alloc, facts, parameters),
         ClientCommand::Ping => {
@@ -203,6 +223,9 @@ fn effects(
         ClientCommand::Chathistory => chathistory(alloc, facts, bytes),
         ClientCommand::Markread => markread(alloc, facts, bytes, parameters),
         ClientCommand::Redact => redact(alloc, entry, facts, shown, parameters),
+        ClientCommand::Message => {
+            pass_message_on(alloc, scratch, entry, facts, bytes, line.tags())
+        }
         ClientCommand::Other => pass_on(alloc, scratch, entry, facts, bytes),
     }
 }
@@ -232,16 +255,16 @@ fn serve_named(
     shown: bool,
     bytes: &[u8],
     command: ClientCommand,
-    parameters: &[&[u8]],
+    line: &Line<'_>,
 ) -> Result<(Continuation, Vec<Effect>), NoMemory>
     ensures ok { IfOk result (λ r. record { session = stage_of r.0 facts.new; effects = r.1.items }
         ≡ spec.after_registration (option_copied entry.entry) facts.old shown bytes.now command
-        (map (λ p. p.now) parameters.now)) }
+        line.now) }
     ensures err { OnErr result (facts.new ≡ facts.old) }
 {
     match command {
         ClientCommand::Cap => {
-            let list = cap(alloc, facts, parameters)?;
+            let list = cap(alloc, facts, line.parameters())?;
             Ok((Continuation::Stays, list))
         }
         ClientCommand::Quit => {
@@ -252,15 +275,13 @@ fn serve_named(
         | ClientCommand::User
         | ClientCommand::Ping
         | ClientCommand::Pong
-        | ClientCommand::Tagmsg
         | ClientCommand::Nick
         | ClientCommand::Chathistory
         | ClientCommand::Markread
         | ClientCommand::Redact
+        | ClientCommand::Message
         | ClientCommand::Other => {
-            let list = effects(
-                alloc, scratch, entry, facts, shown, bytes, command, parameters,
-            )?;
+            let list = effects(alloc, scratch, entry, facts, shown, bytes, command, line)?;
             Ok((Continuation::Stays, list))
         }
     }
@@ -306,19 +327,17 @@ pub(crate) fn serve(
     shown: bool,
     bytes: &[u8],
     command: ClientCommand,
-    parameters: &[&[u8]],
+    line: &Line<'_>,
 ) -> Result<(Continuation, Vec<Effect>), NoMemory>
     ensures ok { IfOk result (λ r. record { session = stage_of r.0 facts.new; effects = r.1.items }
         ≡ spec.after_registration (option_copied entry.entry)
         (spec.with_nick_of (option_copied entry.entry) facts.old) shown bytes.now command
-        (map (λ p. p.now) parameters.now)) }
+        line.now) }
     ensures err { OnErr result (facts.new ≡ facts.old) }
 {
     let nick = changed_nick(alloc, entry, facts)?;
     let former = exchange_nick(facts, nick);
-    match serve_named(
-        alloc, scratch, entry, facts, shown, bytes, command, parameters,
-    ) {
+    match serve_named(alloc, scratch, entry, facts, shown, bytes, command, line) {
         Ok(turn) => {
             drop(former);
             Ok(turn)

@@ -316,7 +316,7 @@ impl Waiting {
             ClientCommand::Chathistory
             | ClientCommand::Markread
             | ClientCommand::Redact
-            | ClientCommand::Tagmsg
+            | ClientCommand::Message
             | ClientCommand::Other => self.not_yet(alloc),
         }
     }

@@ -6,6 +6,10 @@ use crate::shared::push;
 use byte_text::NoMemory;
 use std::alloc::Global;
 
+/// The most bytes of room that are kept for a line. One of 512 bytes, the most without tags (RFC 2812, section 2.3), grows
+/// into no more.
+const MOST_KEPT: usize = 1024;
+
 /// The room of a list and of the line in it that were given back, if any.
 #[derive(Drop)]
 pub(crate) struct Scratch {
@@ -22,11 +26,15 @@ impl Scratch {
         }
     }
 
-    /// Keeps the room of a line for the network's server, and of its list. An idle session has sent none, and keeps nothing.
+    /// Keeps the room of a line for the network's server, unless its tags were long, and of its list. An idle session has
+    /// sent none, and keeps nothing.
     pub(crate) fn recycle(&mut self, list: Vec<Effect>) {
         let mut list = list;
         if let Some(Effect::Upstream(line)) = list.pop() {
-            self.text = Some(line.into_bytes());
+            let room = line.into_bytes();
+            if room.capacity() <= MOST_KEPT {
+                self.text = Some(room);
+            }
             self.list = Some(list);
         }
     }

@@ -135,7 +135,6 @@ impl Session {
             }
             Stage::Registered(facts) => {
                 let entry = directory.entry(facts.account.as_bytes(), facts.network.as_bytes());
-                let parameters = line.parameters();
                 let (continuation, list) = registered::serve(
                     alloc,
                     &mut self.scratch,
@@ -144,7 +143,7 @@ impl Session {
                     shown,
                     bytes,
                     command,
-                    parameters,
+                    line,
                 )?;
                 match continuation {
                     Continuation::Stays => {}
@@ -201,7 +200,8 @@ impl Session {
     ///
     /// A step of a registered session that passes the line on copies it once. It copies nothing else, unless the directory
     /// has another nick than at the last step. Where the effects of earlier lines were given back
-    /// ([`recycle`](Session::recycle)), it asks for no memory. Other lines ask for that of their answers.
+    /// ([`recycle`](Session::recycle)), it asks for no memory, but for that of long tags. Other lines ask for that of their
+    /// answers.
     pub fn step<P: Peek>(
         &mut self,
         alloc: Global,
@@ -241,8 +241,8 @@ impl Session {
         self.refuse(alloc, directory, LineFault::TooLong)
     }
 
-    /// Takes back a list of effects, once they are done. The room of a line for the network's server, and of its list, is kept:
-    /// four effects and 1,024 bytes at most, as such a line has 512 without its tags (RFC 2812, section 2.3).
+    /// Takes back a list of effects, once they are done. The room of a line for the network's server, and of its list, is
+    /// kept: four effects and 1,024 bytes at most, which is enough for each line without tags. More room is let go.
     pub fn recycle(&mut self, list: Vec<Effect>)
         ensures { self.new ≡ self.old }
     {
