@@ -23,21 +23,21 @@ use Rattle.upstream_session.specs.Step.{ServerStep, stays, new}
 use Rattle.upstream_session.specs.Messages.{made_text, post}
 use Rattle.upstream_session.specs.Sayings.{without_ending, say_line}
 use Rattle.upstream_session.specs.Session.{start, opening, reading_step, step, say}
-use Rattle.upstream_session.specs.Events.{ServerEvent, step_by, after, effects_of, run, all_effects, IsOwnChange, IsOwnEffect, IsUnheard, IsWelcome, id_given, IsIdOf, HasPost, ids_made_by, ids_made, HasClose}
+use Rattle.upstream_session.specs.Events.{ServerEvent, step_by, after, effects_of, run, all_effects, IsOwnChange, IsOwnEffect, IsUnheard, IsWelcome, id_given, tags_read, tags_given, HasTags, IsIdOf, HasPost, ids_made_by, ids_made, HasClose}
 use Rattle.upstream_session.specs.Events as event
 use Rattle.upstream_session.proofs.CourseLemmas.{either, either_by, Course, IsSend, IsPassed, IsOwnRedaction, says, line_course, say_course}
 use Rattle.upstream_session.proofs.CourseLemmas as course
 
 -- ---- one event
 
-pub course_of : (u : Connection) (e : ServerEvent) → Course (IsWelcome e) (id_given e) u (step_by u e)
+pub course_of : (u : Connection) (e : ServerEvent) → Course (IsWelcome e) (id_given e) (tags_given u e) u (step_by u e)
 unfolding step say
 course_of u (event.Line now bytes) =
-    either (λ (s : ServerStep). Course (IsWelcome (event.Line now bytes)) (id_given (event.Line now bytes)) u s) u.is_closed
-    (says _ _ u [] tt) (line_course u now bytes (read Server bytes))
+    either (λ (s : ServerStep). Course (IsWelcome (event.Line now bytes)) (id_given (event.Line now bytes)) (tags_given u (event.Line now bytes)) u s) u.is_closed
+    (says _ _ _ u [] tt) (line_course u now bytes (read Server bytes))
 course_of u (event.Saying now bytes) =
-    either (λ (s : ServerStep). Course ⊥ None u s) u.is_closed
-    (says _ _ u [] tt) (say_course ⊥ None u now (without_ending bytes) (read Client (without_ending bytes)))
+    either (λ (s : ServerStep). Course ⊥ None (tags_given u (event.Saying now bytes)) u s) u.is_closed
+    (says _ _ _ u [] tt) (say_course ⊥ None _ u now (without_ending bytes) (read Client (without_ending bytes)) refl)
 
 closed_choice : {X : Type 0} (b : Bool) (x y : X) → b ≡ true → (if b then x else y) ≡ x
 closed_choice true x y h = refl
@@ -88,24 +88,24 @@ passed_is_own home Close h = tt
 abbrev pub AreOwn : Home → List UpEffect → Type 0
 AreOwn home effects = AllByRecursion (IsOwnEffect home) effects
 
-own : (W : Type 0) (id_of : Option (List ℕ)) (u : Connection) (s : ServerStep) → Course W id_of u s → AreOwn u.home s.effects
-own W id_of u s (course.quiet same all) = all_map (send_is_own u.home) s.effects all
-own W id_of u s (course.passing up same all) = all_map (passed_is_own u.home) s.effects all
-own W id_of u s (course.kept id at m up is session effects) = all_by (IsOwnEffect u.home) _ _ effects ((refl, refl), tt)
-own W id_of u s (course.made before at m up session more all effects) =
+own : (W : Type 0) (id_of : Option (List ℕ)) (borne : List ℕ) (u : Connection) (s : ServerStep) → Course W id_of borne u s → AreOwn u.home s.effects
+own W id_of borne u s (course.quiet same all) = all_map (send_is_own u.home) s.effects all
+own W id_of borne u s (course.passing up same all) = all_map (passed_is_own u.home) s.effects all
+own W id_of borne u s (course.kept id at m up is session effects) = all_by (IsOwnEffect u.home) _ _ effects ((refl, refl), tt)
+own W id_of borne u s (course.made before at m up session more all effects) =
     all_by (IsOwnEffect u.home) _ _ effects
-    (all_append (IsOwnEffect u.home) before (post u (made_text u.home u.serial) at m ∷ []) (all_map (send_is_own u.home) before all) ((refl, refl), tt))
-own W id_of u s (course.closed session effects) = all_by (IsOwnEffect u.home) _ _ effects (tt, tt)
+    (all_append (IsOwnEffect u.home) before (post u (made_text u.home u.serial) at borne m ∷ []) (all_map (send_is_own u.home) before all) ((refl, refl), tt))
+own W id_of borne u s (course.closed session effects) = all_by (IsOwnEffect u.home) _ _ effects (tt, tt)
 
-same_home : (W : Type 0) (id_of : Option (List ℕ)) (u : Connection) (s : ServerStep) → Course W id_of u s → s.session.home ≡ u.home
-same_home W id_of u s (course.quiet same all) = same.home
-same_home W id_of u s (course.passing up same all) = same.home
-same_home W id_of u s (course.kept id at m up is session effects) = ap (λ (v : Connection). v.home) session
-same_home W id_of u s (course.made before at m up session more all effects) = ap (λ (v : Connection). v.home) session
-same_home W id_of u s (course.closed session effects) = ap (λ (v : Connection). v.home) session
+same_home : (W : Type 0) (id_of : Option (List ℕ)) (borne : List ℕ) (u : Connection) (s : ServerStep) → Course W id_of borne u s → s.session.home ≡ u.home
+same_home W id_of borne u s (course.quiet same all) = same.home
+same_home W id_of borne u s (course.passing up same all) = same.home
+same_home W id_of borne u s (course.kept id at m up is session effects) = ap (λ (v : Connection). v.home) session
+same_home W id_of borne u s (course.made before at m up session more all effects) = ap (λ (v : Connection). v.home) session
+same_home W id_of borne u s (course.closed session effects) = ap (λ (v : Connection). v.home) session
 
 pub home_after : (u : Connection) (e : ServerEvent) → (after u e).home ≡ u.home
-home_after u e = same_home (IsWelcome e) (id_given e) u (step_by u e) (course_of u e)
+home_after u e = same_home (IsWelcome e) (id_given e) (tags_given u e) u (step_by u e) (course_of u e)
 
 pub home_run : (u : Connection) (events : List ServerEvent) → (run u events).home ≡ u.home
 home_run u [] = refl
@@ -115,7 +115,7 @@ pub own_effects : (u : Connection) (events : List ServerEvent) → AreOwn u.home
 own_effects u [] = tt
 own_effects u (e ∷ events) =
     all_append (IsOwnEffect u.home) (effects_of u e) (all_effects (after u e) events)
-    (own (IsWelcome e) (id_given e) u (step_by u e) (course_of u e))
+    (own (IsWelcome e) (id_given e) (tags_given u e) u (step_by u e) (course_of u e))
     (subst (λ (h : Home). AreOwn h (all_effects (after u e) events)) (home_after u e) (own_effects (after u e) events))
 
 -- ---- before the network is up
@@ -130,27 +130,27 @@ not_up : (b : Bool) → b ≡ false → ¬ (b ≡ true)
 not_up true down up = absurd (cc)
 not_up false down up = absurd (cc)
 
-unheard : (W : Type 0) (id_of : Option (List ℕ)) (u : Connection) (s : ServerStep) → ¬ (u.entry.is_up ≡ true) → Course W id_of u s → AllByRecursion IsUnheard s.effects
-unheard W id_of u s down (course.quiet same all) = all_map send_is_unheard s.effects all
-unheard W id_of u s down (course.passing up same all) = absurd (down up)
-unheard W id_of u s down (course.kept id at m up is session effects) = absurd (down up)
-unheard W id_of u s down (course.made before at m up session more all effects) = absurd (down up)
-unheard W id_of u s down (course.closed session effects) = all_by IsUnheard _ _ effects (tt, tt)
+unheard : (W : Type 0) (id_of : Option (List ℕ)) (borne : List ℕ) (u : Connection) (s : ServerStep) → ¬ (u.entry.is_up ≡ true) → Course W id_of borne u s → AllByRecursion IsUnheard s.effects
+unheard W id_of borne u s down (course.quiet same all) = all_map send_is_unheard s.effects all
+unheard W id_of borne u s down (course.passing up same all) = absurd (down up)
+unheard W id_of borne u s down (course.kept id at m up is session effects) = absurd (down up)
+unheard W id_of borne u s down (course.made before at m up session more all effects) = absurd (down up)
+unheard W id_of borne u s down (course.closed session effects) = all_by IsUnheard _ _ effects (tt, tt)
 
-stays_down : (W : Type 0) (id_of : Option (List ℕ)) (u : Connection) (s : ServerStep) → ¬ (u.entry.is_up ≡ true) → ¬ W → Course W id_of u s → ¬ (s.session.entry.is_up ≡ true)
-stays_down W id_of u s down never (course.quiet same all) h = ⊎_elim down never (same.up h)
-stays_down W id_of u s down never (course.passing up same all) h = down up
-stays_down W id_of u s down never (course.kept id at m up is session effects) h = down up
-stays_down W id_of u s down never (course.made before at m up session more all effects) h = down up
-stays_down W id_of u s down never (course.closed session effects) h = down (sym (ap (λ (v : Connection). v.entry.is_up) session) ∙ h)
+stays_down : (W : Type 0) (id_of : Option (List ℕ)) (borne : List ℕ) (u : Connection) (s : ServerStep) → ¬ (u.entry.is_up ≡ true) → ¬ W → Course W id_of borne u s → ¬ (s.session.entry.is_up ≡ true)
+stays_down W id_of borne u s down never (course.quiet same all) h = ⊎_elim down never (same.up h)
+stays_down W id_of borne u s down never (course.passing up same all) h = down up
+stays_down W id_of borne u s down never (course.kept id at m up is session effects) h = down up
+stays_down W id_of borne u s down never (course.made before at m up session more all effects) h = down up
+stays_down W id_of borne u s down never (course.closed session effects) h = down (sym (ap (λ (v : Connection). v.entry.is_up) session) ∙ h)
 
 pub unheard_effects : (u : Connection) (events : List ServerEvent) → ¬ (u.entry.is_up ≡ true) → AllByRecursion (λ e. ¬ IsWelcome e) events
     → AllByRecursion IsUnheard (all_effects u events)
 unheard_effects u [] down never = tt
 unheard_effects u (e ∷ events) down never =
     all_append IsUnheard (effects_of u e) (all_effects (after u e) events)
-    (unheard (IsWelcome e) (id_given e) u (step_by u e) down (course_of u e))
-    (unheard_effects (after u e) events (stays_down (IsWelcome e) (id_given e) u (step_by u e) down never.0 (course_of u e)) never.1)
+    (unheard (IsWelcome e) (id_given e) (tags_given u e) u (step_by u e) down (course_of u e))
+    (unheard_effects (after u e) events (stays_down (IsWelcome e) (id_given e) (tags_given u e) u (step_by u e) down never.0 (course_of u e)) never.1)
 
 pub unheard_from_new : (config : Config) (node : List ℕ) (incarnation first_serial : ℕ) (events : List ServerEvent)
     → AllByRecursion (λ e. ¬ IsWelcome e) events → AllByRecursion IsUnheard (all_effects (new config node incarnation first_serial) events)
@@ -177,58 +177,93 @@ passed_has_id old new id_of (Put c) h = redaction_has_id old new id_of c h
 passed_has_id old new id_of (Relay bytes to) h = tt
 passed_has_id old new id_of Close h = tt
 
-ids : (W : Type 0) (id_of : Option (List ℕ)) (u : Connection) (s : ServerStep) → Course W id_of u s → AllByRecursion (IsIdOf u s.session id_of) s.effects
-ids W id_of u s (course.quiet same all) = all_map (send_has_id u s.session id_of) s.effects all
-ids W id_of u s (course.passing up same all) = all_map (passed_has_id u s.session id_of) s.effects all
-ids W id_of u s (course.kept id at m up is session effects) =
+ids : (W : Type 0) (id_of : Option (List ℕ)) (borne : List ℕ) (u : Connection) (s : ServerStep) → Course W id_of borne u s → AllByRecursion (IsIdOf u s.session id_of) s.effects
+ids W id_of borne u s (course.quiet same all) = all_map (send_has_id u s.session id_of) s.effects all
+ids W id_of borne u s (course.passing up same all) = all_map (passed_has_id u s.session id_of) s.effects all
+ids W id_of borne u s (course.kept id at m up is session effects) =
     all_by (IsIdOf u s.session id_of) _ _ effects (inl (is, ap (λ (v : Connection). v.serial) session), tt)
-ids W id_of u s (course.made before at m up session more all effects) =
+ids W id_of borne u s (course.made before at m up session more all effects) =
     all_by (IsIdOf u s.session id_of) _ _ effects
-    (all_append (IsIdOf u s.session id_of) before (post u (made_text u.home u.serial) at m ∷ []) (all_map (send_has_id u s.session id_of) before all)
+    (all_append (IsIdOf u s.session id_of) before (post u (made_text u.home u.serial) at borne m ∷ []) (all_map (send_has_id u s.session id_of) before all)
     (inr (refl, ap (λ (v : Connection). v.serial) session), tt))
-ids W id_of u s (course.closed session effects) = all_by (IsIdOf u s.session id_of) _ _ effects (tt, tt)
+ids W id_of borne u s (course.closed session effects) = all_by (IsIdOf u s.session id_of) _ _ effects (tt, tt)
 
 pub own_ids : (u : Connection) (e : ServerEvent) → AllByRecursion (IsIdOf u (after u e) (id_given e)) (effects_of u e)
-own_ids u e = ids (IsWelcome e) (id_given e) u (step_by u e) (course_of u e)
+own_ids u e = ids (IsWelcome e) (id_given e) (tags_given u e) u (step_by u e) (course_of u e)
 
-has_post : (id : List ℕ) (before : List UpEffect) (u : Connection) (at : ℕ) (m : Message) → AllByRecursion IsSend before → HasPost id (before ++ post u id at m ∷ [])
-has_post id [] u at m all = inl refl
-has_post id (Send bytes ∷ before) u at m all = has_post id before u at m all.1
-has_post id (Put change ∷ before) u at m all = absurd all.0
-has_post id (Relay bytes to ∷ before) u at m all = absurd all.0
-has_post id (Close ∷ before) u at m all = absurd all.0
+-- ---- tags
+
+send_has_tags : (tags : List ℕ) (e : UpEffect) → IsSend e → HasTags tags e
+send_has_tags tags (Send bytes) h = tt
+send_has_tags tags (Put change) h = absurd h
+send_has_tags tags (Relay bytes to) h = tt
+send_has_tags tags Close h = tt
+
+redaction_has_tags : (home : Home) (tags : List ℕ) (c : Change) → IsOwnRedaction home c → HasTags tags (Put c)
+redaction_has_tags home tags (change.Post r) h = absurd h
+redaction_has_tags home tags (change.Redact buffer id at) h = tt
+redaction_has_tags home tags (change.Mark buffer at) h = tt
+redaction_has_tags home tags (change.Floor buffer at) h = tt
+
+passed_has_tags : (home : Home) (tags : List ℕ) (e : UpEffect) → IsPassed home e → HasTags tags e
+passed_has_tags home tags (Send bytes) h = tt
+passed_has_tags home tags (Put c) h = redaction_has_tags home tags c h
+passed_has_tags home tags (Relay bytes to) h = tt
+passed_has_tags home tags Close h = tt
+
+with_tags : (W : Type 0) (id_of : Option (List ℕ)) (borne : List ℕ) (u : Connection) (s : ServerStep) → Course W id_of borne u s
+    → AllByRecursion (HasTags borne) s.effects
+with_tags W id_of borne u s (course.quiet same all) = all_map (send_has_tags borne) s.effects all
+with_tags W id_of borne u s (course.passing up same all) = all_map (passed_has_tags u.home borne) s.effects all
+with_tags W id_of borne u s (course.kept id at m up is session effects) = all_by (HasTags borne) _ _ effects (refl, tt)
+with_tags W id_of borne u s (course.made before at m up session more all effects) =
+    all_by (HasTags borne) _ _ effects
+    (all_append (HasTags borne) before (post u (made_text u.home u.serial) at borne m ∷ []) (all_map (send_has_tags borne) before all) (refl, tt))
+with_tags W id_of borne u s (course.closed session effects) = all_by (HasTags borne) _ _ effects (tt, tt)
+
+pub own_tags : (u : Connection) (e : ServerEvent) → AllByRecursion (HasTags (tags_given u e)) (effects_of u e)
+own_tags u e = with_tags (IsWelcome e) (id_given e) (tags_given u e) u (step_by u e) (course_of u e)
+
+-- ---- used serial numbers
+
+has_post : (id : List ℕ) (before : List UpEffect) (u : Connection) (at : ℕ) (tags : List ℕ) (m : Message) → AllByRecursion IsSend before → HasPost id (before ++ post u id at tags m ∷ [])
+has_post id [] u at tags m all = inl refl
+has_post id (Send bytes ∷ before) u at tags m all = has_post id before u at tags m all.1
+has_post id (Put change ∷ before) u at tags m all = absurd all.0
+has_post id (Relay bytes to ∷ before) u at tags m all = absurd all.0
+has_post id (Close ∷ before) u at tags m all = absurd all.0
 
 -- the serial number stays, or is used for a post that was put
 abbrev pub Counts : Connection → ServerStep → Type 0
 Counts u s = (s.session.serial ≡ u.serial) ⊎ ((s.session.serial ≡ u.serial + 1) × HasPost (made_text u.home u.serial) s.effects)
 
-counts : (W : Type 0) (id_of : Option (List ℕ)) (u : Connection) (s : ServerStep) → Course W id_of u s → Counts u s
-counts W id_of u s (course.quiet same all) = inl same.serial
-counts W id_of u s (course.passing up same all) = inl same.serial
-counts W id_of u s (course.kept id at m up is session effects) = inl (ap (λ (v : Connection). v.serial) session)
-counts W id_of u s (course.made before at m up session more all effects) =
-    inr (ap (λ (v : Connection). v.serial) session, subst (λ (l : List UpEffect). HasPost (made_text u.home u.serial) l) (sym effects) (has_post _ before u at m all))
-counts W id_of u s (course.closed session effects) = inl (ap (λ (v : Connection). v.serial) session)
+counts : (W : Type 0) (id_of : Option (List ℕ)) (borne : List ℕ) (u : Connection) (s : ServerStep) → Course W id_of borne u s → Counts u s
+counts W id_of borne u s (course.quiet same all) = inl same.serial
+counts W id_of borne u s (course.passing up same all) = inl same.serial
+counts W id_of borne u s (course.kept id at m up is session effects) = inl (ap (λ (v : Connection). v.serial) session)
+counts W id_of borne u s (course.made before at m up session more all effects) =
+    inr (ap (λ (v : Connection). v.serial) session, subst (λ (l : List UpEffect). HasPost (made_text u.home u.serial) l) (sym effects) (has_post _ before u at borne m all))
+counts W id_of borne u s (course.closed session effects) = inl (ap (λ (v : Connection). v.serial) session)
 
 pub counted : (u : Connection) (e : ServerEvent) → Counts u (step_by u e)
-counted u e = counts (IsWelcome e) (id_given e) u (step_by u e) (course_of u e)
+counted u e = counts (IsWelcome e) (id_given e) (tags_given u e) u (step_by u e) (course_of u e)
 
 -- so it never falls
 serial_grows : (u : Connection) (e : ServerEvent) → u.serial ≤ (after u e).serial
 serial_grows u e = ⊎_elim (λ h. omega (arith, h)) (λ h. omega (arith, h.0)) (counted u e)
 
-no_more : (W : Type 0) (id_of : Option (List ℕ)) (u : Connection) (s : ServerStep) → u.serial ≤ LAST_SERIAL → Course W id_of u s → s.session.serial ≤ LAST_SERIAL
-no_more W id_of u s h (course.quiet same all) = subst (λ (n : ℕ). n ≤ LAST_SERIAL) (sym same.serial) h
-no_more W id_of u s h (course.passing up same all) = subst (λ (n : ℕ). n ≤ LAST_SERIAL) (sym same.serial) h
-no_more W id_of u s h (course.kept id at m up is session effects) = subst (λ (v : Connection). v.serial ≤ LAST_SERIAL) (sym session) h
-no_more W id_of u s h (course.made before at m up session more all effects) =
+no_more : (W : Type 0) (id_of : Option (List ℕ)) (borne : List ℕ) (u : Connection) (s : ServerStep) → u.serial ≤ LAST_SERIAL → Course W id_of borne u s → s.session.serial ≤ LAST_SERIAL
+no_more W id_of borne u s h (course.quiet same all) = subst (λ (n : ℕ). n ≤ LAST_SERIAL) (sym same.serial) h
+no_more W id_of borne u s h (course.passing up same all) = subst (λ (n : ℕ). n ≤ LAST_SERIAL) (sym same.serial) h
+no_more W id_of borne u s h (course.kept id at m up is session effects) = subst (λ (v : Connection). v.serial ≤ LAST_SERIAL) (sym session) h
+no_more W id_of borne u s h (course.made before at m up session more all effects) =
     subst (λ (v : Connection). v.serial ≤ LAST_SERIAL) (sym session) (below_last u.serial LAST_SERIAL h more) where
       below_last : (n last : ℕ) → n ≤ last → ¬ (n ≡ last) → n + 1 ≤ last
       below_last n last h other = omega (arith, other)
-no_more W id_of u s h (course.closed session effects) = subst (λ (v : Connection). v.serial ≤ LAST_SERIAL) (sym session) h
+no_more W id_of borne u s h (course.closed session effects) = subst (λ (v : Connection). v.serial ≤ LAST_SERIAL) (sym session) h
 
 pub last_serial : (u : Connection) (e : ServerEvent) → u.serial ≤ LAST_SERIAL → (after u e).serial ≤ LAST_SERIAL
-last_serial u e h = no_more (IsWelcome e) (id_given e) u (step_by u e) h (course_of u e)
+last_serial u e h = no_more (IsWelcome e) (id_given e) (tags_given u e) u (step_by u e) h (course_of u e)
 
 -- an id that is made of a serial number from that one on
 abbrev pub IsMadeFrom : Home → ℕ → List ℕ → Type 0
@@ -301,23 +336,23 @@ passed_no_close home (Put change ∷ effects) all h = passed_no_close home effec
 passed_no_close home (Relay bytes to ∷ effects) all h = passed_no_close home effects all.1 h
 passed_no_close home (Close ∷ effects) all h = all.0
 
-post_no_close : (before : List UpEffect) (u : Connection) (id : List ℕ) (at : ℕ) (m : Message) → AllByRecursion IsSend before → ¬ HasClose (before ++ post u id at m ∷ [])
-post_no_close [] u id at m all h = h
-post_no_close (Send bytes ∷ before) u id at m all h = post_no_close before u id at m all.1 h
-post_no_close (Put change ∷ before) u id at m all h = all.0
-post_no_close (Relay bytes to ∷ before) u id at m all h = all.0
-post_no_close (Close ∷ before) u id at m all h = all.0
+post_no_close : (before : List UpEffect) (u : Connection) (id : List ℕ) (at : ℕ) (tags : List ℕ) (m : Message) → AllByRecursion IsSend before → ¬ HasClose (before ++ post u id at tags m ∷ [])
+post_no_close [] u id at tags m all h = h
+post_no_close (Send bytes ∷ before) u id at tags m all h = post_no_close before u id at tags m all.1 h
+post_no_close (Put change ∷ before) u id at tags m all h = all.0
+post_no_close (Relay bytes to ∷ before) u id at tags m all h = all.0
+post_no_close (Close ∷ before) u id at tags m all h = all.0
 
-ends : (W : Type 0) (id_of : Option (List ℕ)) (u : Connection) (s : ServerStep) → Course W id_of u s → HasClose s.effects → s.session.is_closed ≡ true
-ends W id_of u s (course.quiet same all) h = absurd (send_no_close s.effects all h)
-ends W id_of u s (course.passing up same all) h = absurd (passed_no_close u.home s.effects all h)
-ends W id_of u s (course.kept id at m up is session effects) h = absurd (post_no_close [] u id at m tt (subst HasClose effects h))
-ends W id_of u s (course.made before at m up session more all effects) h =
-    absurd (post_no_close before u (made_text u.home u.serial) at m all (subst HasClose effects h))
-ends W id_of u s (course.closed session effects) h = ap (λ (v : Connection). v.is_closed) session
+ends : (W : Type 0) (id_of : Option (List ℕ)) (borne : List ℕ) (u : Connection) (s : ServerStep) → Course W id_of borne u s → HasClose s.effects → s.session.is_closed ≡ true
+ends W id_of borne u s (course.quiet same all) h = absurd (send_no_close s.effects all h)
+ends W id_of borne u s (course.passing up same all) h = absurd (passed_no_close u.home s.effects all h)
+ends W id_of borne u s (course.kept id at m up is session effects) h = absurd (post_no_close [] u id at borne m tt (subst HasClose effects h))
+ends W id_of borne u s (course.made before at m up session more all effects) h =
+    absurd (post_no_close before u (made_text u.home u.serial) at borne m all (subst HasClose effects h))
+ends W id_of borne u s (course.closed session effects) h = ap (λ (v : Connection). v.is_closed) session
 
 pub closes : (u : Connection) (e : ServerEvent) → HasClose (effects_of u e) → (after u e).is_closed ≡ true
-closes u e h = ends (IsWelcome e) (id_given e) u (step_by u e) (course_of u e) h
+closes u e h = ends (IsWelcome e) (id_given e) (tags_given u e) u (step_by u e) (course_of u e) h
 
 pub closed_run : (u : Connection) (events : List ServerEvent) → u.is_closed ≡ true → run u events ≡ u
 closed_run u [] h = refl

@@ -1,2 +1,3 @@
 mod CourseLemmas
 mod EventLemmas
+mod SentLemmas

@@ -1,9 +1,11 @@
 -- Lists of what happens to a session: lines of the server, and lines of clients that go to it.
 use Rattle.std.specs.Prelude.{◌≡◌, ◌⊎◌, ℕ, ◌+◌, ◌==◌, List, [], ◌∷◌, ◌++◌, Option, None, Some, Result, Ok, Err, if◌then◌else◌}
 use Rattle.irc_line.specs.declared.line.LineFault.{LineFault}
-use Rattle.irc_line.specs.declared.line.TagLimit.TheVariants.{Server}
+use Rattle.irc_line.specs.declared.line.TagLimit.TheVariants.{Server, Client}
 use Rattle.irc_line.specs.Line.{Reading}
 use Rattle.irc_line.specs.Read.{read}
+use Rattle.irc_reply.specs.Tagged.{tag_part}
+use Rattle.irc_reply.specs.ToServer.{passed_line}
 use Rattle.chat_change.specs.Buffer.{Buffer}
 use Rattle.chat_change.specs.declared.change.Change.{Change}
 use Rattle.chat_change.specs.declared.change.Change.TheVariants.{Post, Redact, Mark, Floor}
@@ -13,8 +15,9 @@ use Rattle.upstream_session.specs.declared.connection.Home.{Home}
 use Rattle.upstream_session.specs.declared.connection.Connection.{Connection}
 use Rattle.upstream_session.specs.declared.effect.UpEffect.{UpEffect}
 use Rattle.upstream_session.specs.declared.effect.UpEffect.TheVariants.{Send, Put, Relay, Close}
-use Rattle.upstream_session.specs.Messages.{made_text, stamp_of}
+use Rattle.upstream_session.specs.Messages.{made_text, kept_tags, stamp_of}
 use Rattle.upstream_session.specs.Step.{ServerStep}
+use Rattle.upstream_session.specs.Sayings.{without_ending, sent_tags}
 use Rattle.upstream_session.specs.Session.{step, say}
 
 -- each with its moment
@@ -113,6 +116,34 @@ ids_made_by u event =
 abbrev pub ids_made : Connection → List ServerEvent → List (List ℕ)
 ids_made u [] = []
 ids_made u (event ∷ events) = ids_made_by u event ++ ids_made (after u event) events
+
+-- ---- tags
+
+abbrev pub tags_read : Result Reading LineFault → Option (List ℕ)
+tags_read (Err fault) = None
+tags_read (Ok line) = line.tags
+
+-- what a record keeps of the tags of a server's line, or of those that a client's line goes to the server with
+abbrev pub tags_given : Connection → ServerEvent → List ℕ
+tags_given u (Line now bytes) = kept_tags (tags_read (read Server bytes))
+tags_given u (Saying now bytes) =
+    kept_tags (sent_tags u (tags_read (read Client (without_ending bytes))))
+
+abbrev pub HasTags : List ℕ → UpEffect → Type 0
+HasTags tags (Put (Post r)) = r.tags ≡ tags
+HasTags tags _ = Unit {0}
+
+-- among the effects is the client's line for the server, with those tags in front
+abbrev pub HasSent : List ℕ → List ℕ → List UpEffect → Type 0
+HasSent tags text [] = ⊥
+HasSent tags text (Send bytes ∷ effects) =
+    (bytes ≡ tag_part tags ++ passed_line text) ⊎ HasSent tags text effects
+HasSent tags text (_ ∷ effects) = HasSent tags text effects
+
+-- a post has the tags that the line is sent with
+abbrev pub IsSentAsKept : List ℕ → List UpEffect → UpEffect → Type 0
+IsSentAsKept text effects (Put (Post r)) = HasSent r.tags text effects
+IsSentAsKept text effects _ = Unit {0}
 
 -- ---- the end
 

@@ -1,11 +1,12 @@
--- What a session makes of a message: its source, the conversation that it belongs to, its id and its moment.
-use Rattle.std.specs.Prelude.{ℕ, Bool, ◌&&◌, ◌==◌, List, ◌++◌, codes, unwrap_or, Option, None, Some, if◌then◌else◌}
+-- What a session makes of a message: its source, the conversation that it belongs to, its id, its moment and its tags.
+use Rattle.std.specs.Prelude.{ℕ, Bool, ◌&&◌, ◌==◌, List, [], ◌++◌, codes, unwrap_or, Option, None, Some, if◌then◌else◌}
 use Rattle.std.specs.List.{before_first}
 use Rattle.std.specs.Str.{str_eq_ignore_ascii_case}
 use Rattle.std.specs.Fmt.{decimal}
 use Rattle.irc_tags.specs.TagList.{Tag, tag_list, value_at}
 use Rattle.irc_time.specs.Reading.{time_of}
-use Rattle.chat_change.specs.Words.{is_id}
+use Rattle.irc_reply.specs.Tagged.{client_tags}
+use Rattle.chat_change.specs.Words.{is_id, is_tags}
 use Rattle.chat_change.specs.Buffer.{buffer_of}
 use Rattle.chat_change.specs.Buffers as buffers
 use Rattle.chat_change.specs.Message.{Message}
@@ -82,12 +83,19 @@ made_text home serial =
 abbrev pub made_id : Home → ℕ → Option (List ℕ)
 made_id home serial = id_if (Some (made_text home serial))
 
+-- ---- tags (IRCv3 message-tags, "Client-only tags")
+
+-- what a record keeps of a line's tags: its client-only tags as they are written, or none where they can't be kept
+abbrev pub kept_tags : Option (List ℕ) → List ℕ
+kept_tags tags = if is_tags (client_tags tags) then client_tags tags else []
+
 -- ---- records
 
-abbrev pub post : Connection → List ℕ → ℕ → Message → UpEffect
-post u id at m = Put (Post (record {
+abbrev pub post : Connection → List ℕ → ℕ → List ℕ → Message → UpEffect
+post u id at tags m = Put (Post (record {
   buffer = buffer_of u.home.account u.home.network (conversation u m.source m.target);
   id = id;
   at = at;
+  tags = tags;
   message = m;
 }))

@@ -3,7 +3,7 @@
 use Rattle.std.specs.Prelude.{ℕ, Bool, ◌+◌, ◌==◌, ◌&&◌, nat_lt, true, List, [], ◌∷◌, ◌++◌, codes, Option, None, Some, if◌then◌else◌}
 use Rattle.std.specs.Str.{str_eq_ignore_ascii_case, bytes_eq}
 use Rattle.irc_line.specs.Line.{Reading}
-use Rattle.irc_caps.specs.declared.capability.Capability.TheVariants.{MessageRedaction}
+use Rattle.irc_caps.specs.declared.capability.Capability.TheVariants.{MessageRedaction, MessageTags}
 use Rattle.irc_caps.specs.Words.{with_words}
 use Rattle.irc_caps.specs.Negotiation.{list_in}
 use Rattle.chat_change.specs.Words.{is_target, is_id}
@@ -22,10 +22,10 @@ use Rattle.upstream_session.specs.declared.effect.UpEffect.TheVariants.{Send, Pu
 use Rattle.irc_caps.specs.declared.recipients.Recipients.TheVariants.{All, Holding}
 use Rattle.upstream_session.specs.Step.{ServerStep, stays, closes}
 use Rattle.irc_reply.specs.ToServer.{nick_line, pong_line, cap_end, join_line, with_underscores}
-use Rattle.irc_reply.specs.ToClient.{relayed_line}
+use Rattle.irc_reply.specs.ToClient.{relayed_line, tagged_line}
 use Rattle.irc_caps.specs.Words.{parts_of}
 use Rattle.irc_caps.specs.Offers.{with_offers, request}
-use Rattle.upstream_session.specs.Messages.{is_same_nick, is_own, source_of, conversation, has_buffer, can_be_kept, stamp_of, made_id, post}
+use Rattle.upstream_session.specs.Messages.{is_same_nick, is_own, source_of, conversation, has_buffer, can_be_kept, stamp_of, made_id, kept_tags, post}
 
 -- ---- lines that are passed on
 
@@ -158,7 +158,7 @@ abbrev pub keep_by_id : Connection → Reading → List ℕ → Message → ℕ 
 keep_by_id u line bytes m at None = stays u (relay_to_all line bytes)
 keep_by_id u line bytes m at (Some id) = record {
   session = record u { serial = u.serial + 1 };
-  effects = post u id at m ∷ [];
+  effects = post u id at (kept_tags line.tags) m ∷ [];
 }
 
 -- A message without an id of its own gets one that this node makes, unless the serial numbers are used up.
@@ -169,7 +169,7 @@ keep_made u line bytes m at =
 
 abbrev pub keep_stamped : Connection → Reading → List ℕ → Message → Option (List ℕ) → ℕ → ServerStep
 keep_stamped u line bytes m None at = keep_made u line bytes m at
-keep_stamped u line bytes m (Some id) at = stays u (post u id at m ∷ [])
+keep_stamped u line bytes m (Some id) at = stays u (post u id at (kept_tags line.tags) m ∷ [])
 
 abbrev pub keep : Connection → ℕ → Reading → List ℕ → Message → ServerStep
 keep u now line bytes m =
@@ -206,13 +206,22 @@ redact u line bytes (target ∷ id ∷ more) =
     else stays u (pass_on u line bytes)
 redact u line bytes parameters = stays u (pass_on u line bytes)
 
+-- ---- TAGMSG
+
+-- Once the network is up, it is passed on with its client-only tags, to the sessions that get tags (IRCv3 message-tags).
+abbrev pub tagmsg : Connection → Reading → List ℕ → ServerStep
+tagmsg u line bytes =
+    if u.entry.is_up
+    then stays u (Relay (tagged_line line.tags line.source bytes) (Holding MessageTags) ∷ [])
+    else stays u []
+
 -- ---- the table
 
 abbrev pub serve : Connection → ℕ → List ℕ → Reading → ServerCommand → ServerStep
 serve u now bytes line Cap = cap u line.parameters
 serve u now bytes line Welcome = welcome u line.parameters
 serve u now bytes line Greeting = stays u []
-serve u now bytes line Tagmsg = stays u []
+serve u now bytes line Tagmsg = tagmsg u line bytes
 serve u now bytes line NickInUse = nick_in_use u line bytes
 serve u now bytes line Ping = ping u line bytes line.parameters
 serve u now bytes line Error = closes u

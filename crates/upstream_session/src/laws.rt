@@ -4,8 +4,9 @@ ghost use Rattle.std.specs.List.{AllByRecursion, IsDistinct};
 ghost use Rattle.std.specs.Str.{bytes_eq};
 ghost use Rattle.upstream_session.specs.Messages.{made_text};
 ghost use Rattle.upstream_session.specs.Step.{new};
-ghost use Rattle.upstream_session.specs.Session.{start};
-ghost use Rattle.upstream_session.specs.Events.{ServerEvent, after, effects_of, run, all_effects, IsOwnEffect, IsUnheard, IsWelcome, id_given, IsIdOf, HasPost, ids_made, HasClose};
+ghost use Rattle.upstream_session.specs.Sayings.{without_ending};
+ghost use Rattle.upstream_session.specs.Session.{start, say};
+ghost use Rattle.upstream_session.specs.Events.{ServerEvent, after, effects_of, run, all_effects, IsOwnEffect, IsUnheard, IsWelcome, id_given, IsIdOf, HasPost, ids_made, tags_given, HasTags, IsSentAsKept, HasClose};
 ghost use Rattle.upstream_session.specs.declared.config.Config.{Config};
 ghost use Rattle.upstream_session.specs.declared.connection.Connection.{Connection};
 ghost use Rattle.upstream_session.specs.declared.connection.TheConstants.{LAST_SERIAL};
@@ -31,6 +32,19 @@ pub fn ids_are_made_once()
         → u.serial ≤ LAST_SERIAL → (after u event).serial ≤ LAST_SERIAL }
     ensures once { (u : Connection) (events : List ServerEvent)
         → u.serial ≤ LAST_SERIAL → IsDistinct bytes_eq (ids_made u events) }
+{}
+
+/// A message is kept with the client-only tags of its own line: of the server's line, or of a client's line as it goes to
+/// the server.
+pub fn tags_are_those_of_the_line()
+    ensures { (u : Connection) (event : ServerEvent)
+        → AllByRecursion (HasTags (tags_given u event)) (effects_of u event) }
+{}
+
+/// A message that a client says and that is kept has the tags that it goes to the server with.
+pub fn kept_tags_are_sent()
+    ensures { (u : Connection) (now : ℕ) (bytes : List ℕ) → AllByRecursion
+        (IsSentAsKept (without_ending bytes) (say u now bytes).effects) (say u now bytes).effects }
 {}
 
 /// Until the server has welcomed a new session (001), nothing is put and nothing is passed on.

@@ -1,8 +1,10 @@
-//! What a session makes of a message: its source, the conversation that it belongs to, its id and its moment.
-ghost use Rattle.std.specs.Prelude.{◌≡◌, ◌<◌, ◌++◌, codes, length, map, unwrap_or, true, IfOk, OnOk, OnErr};
+//! What a session makes of a message: its source, the conversation that it belongs to, its id, its moment and its tags.
+ghost use Rattle.std.specs.Prelude.{◌≡◌, ◌<◌, ◌++◌, codes, length, map, unwrap_or, true, None, IfOk, OnOk, OnErr};
 ghost use Rattle.std.specs.Option.{option_copied};
 ghost use Rattle.std.specs.Fmt.{decimal};
 ghost use Rattle.chat_change.specs.Message.{value_of};
+ghost use Rattle.chat_change.specs.Faults.{record_fault};
+ghost use Rattle.chat_change.specs.Words.{MayBeTags};
 ghost use Rattle.irc_tags.specs.TagList.{tag_list, value_at};
 ghost use Rattle.upstream_session.specs.Messages as spec;
 
@@ -11,7 +13,10 @@ use crate::effect::UpEffect;
 use crate::scratch::Scratch;
 use arrayvec::{ArrayVec, CapacityError};
 use byte_text::{NoMemory, find_byte};
-use chat_change::{Change, ID_LIMIT, Message, Moment, MsgId, Record, is_id, is_message, lawful_id};
+use chat_change::{
+    Buffer, Change, ChangeFault, ID_LIMIT, Message, Moment, MsgId, Record, is_id, is_message,
+    lawful_id,
+};
 use irc_tags::find_tag;
 use irc_time::read_time;
 use std::alloc::Global;
@@ -146,6 +151,37 @@ pub fn is_from(nick: &[u8], message: &Record) -> bool
     is_same_nick(nick_of(message.source()), nick)
 }
 
+/// The record of a message that can be kept, with those tags.
+fn record_of(
+    alloc: Global,
+    buffer: Buffer,
+    id: MsgId,
+    at: Moment,
+    tags: &[u8],
+    message: Message<'_>,
+) -> Result<Record, NoMemory>
+    requires message { record_fault (value_of message) ≡ None }
+    requires tags { MayBeTags tags.now }
+    ensures { IfOk result (λ r. r ≡ record {
+      buffer = buffer;
+      id = id;
+      at = at;
+      tags = tags.now;
+      message = value_of message.entry;
+    }) }
+{
+    let made = if tags.is_empty() {
+        Record::new(alloc, buffer, id, at, message)
+    } else {
+        Record::new_tagged(alloc, buffer, id, at, message, tags)
+    };
+    match made {
+        Ok(record) => Ok(record),
+        Err(ChangeFault::NoMemory) => Err(NoMemory),
+        Err(_) => unreachable!(),
+    }
+}
+
 impl Connection {
     /// Whether the source is the session itself, by its present nick.
     pub(crate) fn is_own(&self, source: &[u8]) -> bool
@@ -183,24 +219,24 @@ impl Connection {
         has_buffer(&self.home, talk) && is_message(message)
     }
 
-    /// The post of a message that can be kept.
+    /// The post of a message that can be kept, with what is kept of those tags.
     pub(crate) fn post(
         &self,
         alloc: Global,
         scratch: &mut Scratch,
         id: MsgId,
         at: Moment,
+        tags: Option<&[u8]>,
         message: Message<'_>,
     ) -> Result<UpEffect, NoMemory>
         requires { spec.can_be_kept self.now (value_of message) ≡ true }
-        ensures { IfOk result (λ effect. effect
-            ≡ spec.post self.now id at (value_of message.entry)) }
+        ensures { IfOk result (λ effect. effect ≡ spec.post self.now id at
+            (spec.kept_tags (option_copied tags.entry)) (value_of message.entry)) }
     {
         let talk = self.conversation(message.source, message.target);
         let buffer = scratch.buffers.buffer_for(alloc, &self.home, talk)?;
-        match Record::new(alloc, buffer, id, at, message) {
-            Err(_) => Err(NoMemory),
-            Ok(record) => Ok(UpEffect::Put(Change::Post(record))),
-        }
+        let tags = scratch.kept_tags(tags)?;
+        let record = record_of(alloc, buffer, id, at, tags, message)?;
+        Ok(UpEffect::Put(Change::Post(record)))
     }
 }

@@ -21,7 +21,7 @@ use byte_text::{NoMemory, Text};
 use chat_change::{Change, Kind, Message, Moment, is_id, is_target, lawful_id};
 use irc_caps::{Capability, Recipients, request, with_acknowledged, with_offers};
 use irc_line::Line;
-use irc_reply::to_client::relayed_line;
+use irc_reply::to_client::{relayed_line, tagged_line};
 use irc_reply::to_server::{cap_end, join_line, nick_line, pong_line, with_underscores};
 use std::alloc::Global;
 
@@ -432,7 +432,7 @@ impl Connection {
                 Ok((MessageOutcome::Stays, list))
             }
             Some(id) => {
-                let post = self.post(alloc, scratch, id, at, message)?;
+                let post = self.post(alloc, scratch, id, at, line.tags(), message)?;
                 let list = scratch.one(alloc, post)?;
                 Ok((MessageOutcome::Counts(self.serial + 1), list))
             }
@@ -457,7 +457,7 @@ impl Connection {
         match id {
             None => self.keep_made(alloc, scratch, line, bytes, message, at),
             Some(id) => {
-                let post = self.post(alloc, scratch, id, at, message)?;
+                let post = self.post(alloc, scratch, id, at, line.tags(), message)?;
                 let list = scratch.one(alloc, post)?;
                 Ok((MessageOutcome::Stays, list))
             }
@@ -617,6 +617,26 @@ impl Connection {
         }
     }
 
+    /// TAGMSG (IRCv3 message-tags).
+    fn tagmsg(
+        &self,
+        alloc: Global,
+        scratch: &mut Scratch,
+        line: &Line<'_>,
+        bytes: &[u8],
+    ) -> Result<Vec<UpEffect>, NoMemory>
+        ensures { IfOk result (λ list. record { session = self.now; effects = list.items }
+            ≡ spec.tagmsg self.now line.now bytes.now) }
+    {
+        if !self.entry.is_up() {
+            return Ok(Vec::new(alloc));
+        }
+        let room = scratch.text_room(alloc);
+        let text = tagged_line(room, line.tags(), line.source(), bytes)?;
+        let to = Recipients::Holding(Capability::MessageTags);
+        scratch.one(alloc, UpEffect::Relay(text, to))
+    }
+
     /// What a line of the server comes to. For want of memory nothing changes.
     pub(crate) fn serve(
         &mut self,
@@ -633,7 +653,7 @@ impl Connection {
         match command_of(line.command()) {
             ServerCommand::Cap => self.cap(alloc, line.parameters()),
             ServerCommand::Welcome => self.welcome(alloc, line.parameters()),
-            ServerCommand::Greeting | ServerCommand::Tagmsg => Ok(Vec::new(alloc)),
+            ServerCommand::Greeting => Ok(Vec::new(alloc)),
             ServerCommand::NickInUse => self.nick_in_use(alloc, scratch, line, bytes),
             ServerCommand::Ping => self.ping(alloc, scratch, line, bytes, line.parameters()),
             ServerCommand::Error => self.close(alloc),
@@ -644,6 +664,7 @@ impl Connection {
             ServerCommand::Privmsg => self.message(alloc, scratch, now, Kind::Privmsg, line, bytes),
             ServerCommand::Notice => self.message(alloc, scratch, now, Kind::Notice, line, bytes),
             ServerCommand::Redact => self.redact(alloc, scratch, line, bytes, line.parameters()),
+            ServerCommand::Tagmsg => self.tagmsg(alloc, scratch, line, bytes),
             ServerCommand::Other => self.pass_on(alloc, scratch, line, bytes),
         }
     }

@@ -1,19 +1,28 @@
 //! What a session keeps from line to line, so that a line asks for less memory.
 ghost use Rattle.std.specs.Prelude.{◌≡◌, ◌∷◌, [], IfOk};
+ghost use Rattle.std.specs.Option.{option_copied};
+ghost use Rattle.chat_change.specs.Words.{MayBeTags};
+ghost use Rattle.irc_reply.specs.Tagged.{client_tags};
+ghost use Rattle.upstream_session.specs.Messages as messages;
 
 use crate::buffers::KnownBuffers;
 use crate::effect::UpEffect;
 use crate::effects::push;
 use byte_text::{NoMemory, Text};
+use chat_change::is_tags;
+use irc_tags::write_client_only;
 use std::alloc::Global;
 use std::mem;
 
-/// The buffers of late conversations, and the room of a list and of a text that were given back.
+/// The buffers of late conversations, the room of a list and of a text that were given back, and room for the tags of a
+/// message.
 #[derive(Drop)]
 pub(crate) struct Scratch {
     pub(crate) buffers: KnownBuffers,
     list: Vec<UpEffect>,
     text: Vec<u8>,
+    // never given away, so that it asks for memory only until it has grown
+    tags: Vec<u8>,
 }
 
 fn text_in(effect: UpEffect) -> Option<Text> {
@@ -32,6 +41,7 @@ impl Scratch {
             buffers: KnownBuffers::none(),
             list: Vec::new(alloc),
             text: Vec::new(alloc),
+            tags: Vec::new(alloc),
         }
     }
 
@@ -58,6 +68,35 @@ impl Scratch {
     /// Room for a text: that of the one that was given back.
     pub(crate) fn text_room(&mut self, alloc: Global) -> Vec<u8> {
         mem::replace(&mut self.text, Vec::new(alloc))
+    }
+
+    // Writes the client-only tags of a line, in place of those of an earlier one.
+    fn write_tags(&mut self, tags: Option<&[u8]>) -> Result<(), NoMemory>
+        ensures { IfOk result (λ _. self.new.tags.items
+            ≡ client_tags (option_copied tags.entry)) }
+    {
+        self.tags.clear();
+        if let Some(tags) = tags {
+            // A `Vec` refuses bytes only where memory runs out.
+            if write_client_only(tags, &mut self.tags).is_err() {
+                return Err(NoMemory);
+            }
+        }
+        Ok(())
+    }
+
+    /// What a record keeps of a line's tags, in the room for them.
+    pub(crate) fn kept_tags(&mut self, tags: Option<&[u8]>) -> Result<&[u8], NoMemory>
+        ensures kept { IfOk result (λ kept. kept.now
+            ≡ messages.kept_tags (option_copied tags.entry)) }
+        ensures lawful { IfOk result (λ kept. MayBeTags kept.now) }
+    {
+        self.write_tags(tags)?;
+        if is_tags(&self.tags) {
+            Ok(&self.tags)
+        } else {
+            Ok(b"")
+        }
     }
 
     /// One effect, in the room of the list that was given back. Effects that it still has are let go.

@@ -108,9 +108,10 @@ impl Upstream {
     /// dropped. A refused step leaves the session as it was.
     ///
     /// A line that is passed on is copied once, and a record is made of slices of the line and shares the buffer of its
-    /// conversation. Where the effects of earlier lines were given back ([`recycle`](Upstream::recycle)), a line that is
-    /// passed on asks for no memory, and one that is kept for that of its record, and of a copy of each of its tags `msgid`
-    /// and `time` that has escapes. Other lines, such as PING and those of registration, ask for their answers' memory.
+    /// conversation; its client-only tags are written into room that serves all lines. Where the effects of earlier lines
+    /// were given back ([`recycle`](Upstream::recycle)), a line that is passed on asks for no memory, and one that is kept for
+    /// that of its record, and of a copy of each of its tags `msgid` and `time` that has escapes. Other lines, such as PING
+    /// and those of registration, ask for their answers' memory.
     #[tactic(auto, unfolding(crate::specs::Session::step))]
     pub fn step(
         &mut self,
@@ -133,9 +134,11 @@ impl Upstream {
         }
     }
 
-    /// What a client's line for the server comes to at that moment. The line stands with its CR LF or without. It is
-    /// sent without tags and source; a message is kept too, where the server doesn't send it back (IRCv3 echo-message).
-    /// A refused call leaves the session as it was.
+    /// What a client's line for the server comes to at that moment. The line stands with its CR LF or without. It is sent
+    /// without its source. PRIVMSG, NOTICE and TAGMSG are sent with their client-only tags to a server that acknowledged
+    /// `message-tags`, and another gets no TAGMSG; any other line is sent without tags (IRCv3 message-tags). A message is
+    /// kept too, with the tags that it is sent with, where the server doesn't send it back (IRCv3 echo-message). A refused
+    /// call leaves the session as it was.
     #[tactic(auto, unfolding(crate::specs::Session::say))]
     pub fn say(
         &mut self,

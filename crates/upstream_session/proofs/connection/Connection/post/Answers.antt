@@ -1,6 +1,7 @@
-use Rattle.std.proofs.Common.{◌≡◌, true, sym, subst}
+use Rattle.std.proofs.Common.{◌≡◌, true, Option, None, Some, is_none, refl, sym, subst}
 use Rattle.std.proofs.lemmas.Bool.{and_parts}
-use Rattle.chat_change.specs.Faults.{is_message}
+use Rattle.chat_change.specs.declared.faults.ChangeFault.{ChangeFault}
+use Rattle.chat_change.specs.Faults.{is_message, record_fault}
 use Rattle.chat_change.specs.Message.{Message, value_of}
 use Rattle.upstream_session.specs.Messages.{conversation, has_buffer}
 use Rattle.upstream_session.proofs.connection.Connection.post.Goals as goal
@@ -11,3 +12,14 @@ buffer_for-requires c =
     let m : Message = value_of c.args.message in
     subst (λ talk. has_buffer c.args.self.now.home talk ≡ true) (sym c.conversation-talk.ensures)
     (and_parts (has_buffer c.args.self.now.home (conversation c.args.self.now m.source m.target)) (is_message m) c.requires).0
+
+no_fault : (fault : Option ChangeFault) → is_none fault ≡ true → fault ≡ None
+no_fault None h = refl
+no_fault (Some fault) h = absurd (cc)
+
+-- and has no fault
+pub record_of-requires-clause-message : goal.record_of-requires-clause-message
+record_of-requires-clause-message c =
+    let m : Message = value_of c.args.message in
+    no_fault (record_fault m)
+    (and_parts (has_buffer c.args.self.now.home (conversation c.args.self.now m.source m.target)) (is_message m) c.requires).1
