@@ -1,1 +1,3 @@
 mod DifferingLemmas
+mod EntryLemmas
+mod TableLemmas

@@ -4,7 +4,7 @@ ghost use Rattle.std.specs.List.{list_all};
 ghost use Rattle.chat_change.specs.Words.{is_name, is_target};
 
 use byte_text::Text;
-use peer_lines::NodeName;
+use peer_lines::{NodeName, Version};
 use std::net::SocketAddr;
 
 /// Another node of the cluster.
@@ -14,6 +14,8 @@ pub struct Peer {
     pub name: NodeName,
     /// Where it listens for peers.
     pub address: SocketAddr,
+    /// The version of the hello that is said to it.
+    pub version: Version,
 }
 
 /// An account of the cluster.

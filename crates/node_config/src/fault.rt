@@ -1,4 +1,6 @@
 //! Why a configuration is refused.
+ghost use Rattle.std.specs.Prelude.{◌≡◌};
+ghost use Rattle.node_config.specs.Sections.{key_of};
 
 use crate::allowed::Allowed;
 use crate::keys::keys_of;
@@ -19,7 +21,9 @@ pub enum ListName {
 
 impl ListName {
     /// The key of the list.
-    pub fn as_str(self) -> &'static str {
+    pub fn as_str(self) -> &'static str
+        ensures { result.now ≡ key_of self }
+    {
         match self {
             ListName::Peers => "peer",
             ListName::Accounts => "account",

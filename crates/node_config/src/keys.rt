@@ -28,7 +28,7 @@ const TOP: Keys = Keys {
 
 const PEER: Keys = Keys {
     wanted: &["name", "address"],
-    allowed: &[],
+    allowed: &["version"],
 };
 
 const ACCOUNT: Keys = Keys {

@@ -14,6 +14,7 @@
 //! [[peer]]                        # each other node
 //! name = "n2"
 //! address = "127.0.0.1:7001"
+//! version = 2                     # of the lines between nodes, 1 or 2; 2 where it is missing
 //!
 //! [[account]]
 //! name = "demo"                   # 1 to 32 bytes of `a-z`, `0-9`, `-` and `_`
@@ -28,11 +29,11 @@
 //! channels = ["#a"]
 //! ```
 //!
-//! All keys are needed, and no others may stand there; each of the three lists may be missing. [`read_config`] answers a
-//! [`Config`] or the first [`ConfigFault`], which says where the text is wrong and what is allowed there, and never shows a
-//! secret or the shared word. A [`Config`] gives what the parts of a node begin with: the directory of accounts and networks
-//! for clients' sessions, the names of the peers, and a copy of each network for the session with its server. No type that
-//! holds a secret or the shared word has a `Debug` text.
+//! All keys but `version` are needed, and no others may stand there; each of the three lists may be missing.
+//! [`read_config`] answers a [`Config`] or the first [`ConfigFault`], which says where the text is wrong and what is
+//! allowed there, and never shows a secret or the shared word. A [`Config`] gives what the parts of a node begin with:
+//! the directory of accounts and networks for clients' sessions, the names of the peers, and a copy of each network for
+//! the session with its server. No type that holds a secret or the shared word has a `Debug` text.
 #![tactic(auto)]
 
 mod allowed;

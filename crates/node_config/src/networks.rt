@@ -3,6 +3,9 @@ ghost use Rattle.std.specs.Prelude.{◌≡◌, true, false, IfOk};
 ghost use Rattle.std.specs.List.{list_any};
 ghost use Rattle.std.specs.Str.{bytes_eq};
 ghost use Rattle.node_config.specs.Differing as spec;
+ghost use Rattle.node_config.specs.Meaning.{IsAccountOf, IsNetworkOf};
+ghost use Rattle.node_config.specs.Meaning.{AreAccountsOf, AreNetworksOf};
+ghost use Rattle.node_config.specs.Sections.{table_of};
 
 use crate::allowed::Allowed;
 use crate::entries::{Account, Network};
@@ -20,11 +23,15 @@ fn has_account(accounts: &[Account], name: &[u8]) -> bool
 
 /// The accounts, no two of which have one name.
 pub(crate) fn read_accounts(alloc: Global, top: Section<'_>) -> Result<Vec<Account>, ValueFault>
-    ensures { IfOk result (λ accounts. spec.all_differ spec.same_account accounts.items ≡ true) }
+    ensures differ { IfOk result (λ accounts.
+        spec.all_differ spec.same_account accounts.items ≡ true) }
+    ensures values { IfOk result (λ accounts.
+        AreAccountsOf (table_of top.entry) accounts.items) }
 {
+    let items = top.list(ListName::Accounts)?;
     let mut accounts = Vec::new(alloc);
-    for (i, item) in top.list(ListName::Accounts)?.iter().enumerate() {
-        let entry = entry_of(item, ListName::Accounts, i)?;
+    for item in items {
+        let entry = entry_of(item, ListName::Accounts, accounts.len())?;
         let account = read_account(alloc, entry, accounts.as_slice())?;
         accounts.push(account).map_err(AllocError::from)?;
     }
@@ -37,7 +44,8 @@ fn read_account(
     entry: Section<'_>,
     before: &[Account],
 ) -> Result<Account, ValueFault>
-    ensures { IfOk result (λ account. spec.has_account before.now account.name ≡ false) }
+    ensures new { IfOk result (λ account. spec.has_account before.now account.name ≡ false) }
+    ensures values { IfOk result (λ account. IsAccountOf (table_of entry.entry) account) }
 {
     let name = entry.name(alloc, "name")?;
     let secret = entry.any_text(alloc, "secret")?;
@@ -64,10 +72,13 @@ pub(crate) fn read_networks(
         spec.all_differ spec.same_network networks.items ≡ true) }
     ensures known { IfOk result (λ networks.
         spec.have_accounts accounts.now networks.items ≡ true) }
+    ensures values { IfOk result (λ networks.
+        AreNetworksOf (table_of top.entry) networks.items) }
 {
+    let items = top.list(ListName::Networks)?;
     let mut networks = Vec::new(alloc);
-    for (i, item) in top.list(ListName::Networks)?.iter().enumerate() {
-        let entry = entry_of(item, ListName::Networks, i)?;
+    for item in items {
+        let entry = entry_of(item, ListName::Networks, networks.len())?;
         let network = read_network(alloc, entry, accounts, networks.as_slice())?;
         networks.push(network).map_err(AllocError::from)?;
     }
@@ -83,6 +94,7 @@ fn read_network(
 ) -> Result<Network, ValueFault>
     ensures known { IfOk result (λ n. spec.has_account accounts.now n.account ≡ true) }
     ensures new { IfOk result (λ n. spec.has_network before.now n.account n.name ≡ false) }
+    ensures values { IfOk result (λ n. IsNetworkOf (table_of entry.entry) n) }
 {
     let account = entry.name(alloc, "account")?;
     let name = entry.name(alloc, "name")?;

@@ -1,6 +1,8 @@
 //! Reading the list of peers.
 ghost use Rattle.std.specs.Prelude.{◌≡◌, true, false, IfOk, OnOk};
 ghost use Rattle.node_config.specs.Differing as spec;
+ghost use Rattle.node_config.specs.Meaning.{IsPeerOf, ArePeersOf};
+ghost use Rattle.node_config.specs.Sections.{table_of};
 ghost use Rattle.peer_lines.specs.Names.{same_name};
 
 use crate::allowed::Allowed;
@@ -24,15 +26,13 @@ pub(crate) fn read_peers(
 ) -> Result<Vec<Peer>, ValueFault>
     ensures differ { IfOk result (λ peers. spec.all_differ spec.same_peer peers.items ≡ true) }
     ensures others { IfOk result (λ peers. spec.has_peer peers.items node.now ≡ false) }
+    ensures values { IfOk result (λ peers. ArePeersOf (table_of top.entry) peers.items) }
 {
+    let items = top.list(ListName::Peers)?;
     let mut peers = Vec::new(alloc);
-    for (i, item) in top.list(ListName::Peers)?.iter().enumerate() {
-        let peer = read_peer(
-            alloc,
-            entry_of(item, ListName::Peers, i)?,
-            node,
-            peers.as_slice(),
-        )?;
+    for item in items {
+        let entry = entry_of(item, ListName::Peers, peers.len())?;
+        let peer = read_peer(alloc, entry, node, peers.as_slice())?;
         peers.push(peer).map_err(AllocError::from)?;
     }
     Ok(peers)
@@ -47,14 +47,20 @@ fn read_peer(
 ) -> Result<Peer, ValueFault>
     ensures other { IfOk result (λ peer. same_name peer.name node.now ≡ false) }
     ensures new { IfOk result (λ peer. spec.has_peer before.now peer.name ≡ false) }
+    ensures values { IfOk result (λ peer. IsPeerOf (table_of entry.entry) peer) }
 {
     let name = entry.node_name(alloc, "name")?;
     let address = entry.address("address")?;
+    let version = entry.version("version")?;
     if name.is_same(node) {
         return Err(entry.wrong("name", Allowed::OtherNode));
     }
     if has_peer(before, &name) {
         return Err(entry.wrong("name", Allowed::NewName));
     }
-    Ok(Peer { name, address })
+    Ok(Peer {
+        name,
+        address,
+        version,
+    })
 }

@@ -1,6 +1,9 @@
 //! Reading a configuration.
 ghost use Rattle.std.specs.Prelude.{IfOk, IfErr};
+ghost use Rattle.toml.specs.View.{table_view};
 ghost use Rattle.node_config.specs.Document.{IsDocument, IsRefused};
+ghost use Rattle.node_config.specs.Meaning.{AreLimitsOf, IsConfigOf, Says};
+ghost use Rattle.node_config.specs.Sections.{table_of};
 
 use crate::config::Config;
 use crate::fault::{ConfigFault, ConfigPlace, ValueFault};
@@ -13,11 +16,13 @@ use std::alloc::Global;
 use toml::Table;
 
 /// Reads a configuration. It is refused for the first of these: it isn't UTF-8 or TOML, a key is missing or isn't known, a
-/// value isn't allowed. All values of a configuration that is read are in their ranges, as [`Config`] and its parts say.
+/// value isn't allowed. A configuration that is read is what the text says: each value is the one under its own key, and
+/// each list has all entries in their order. All are in their ranges, as [`Config`] and its parts say.
 /// Which wrong key or value is told is left to tests: the first in the order of the keys, and of the entries.
 pub fn read_config(alloc: Global, bytes: &[u8]) -> Result<Config, ConfigFault>
     ensures document { IfOk result (λ _. IsDocument bytes.now) }
     ensures refused { IfErr result (λ fault. IsRefused bytes.now fault) }
+    ensures values { IfOk result (λ config. Says bytes.now config) }
 {
     let text = match std::str::from_utf8(bytes) {
         Ok(text) => text,
@@ -46,7 +51,9 @@ fn line_at(bytes: &[u8], at: usize) -> usize {
     ends.saturating_add(1)
 }
 
-fn read_values(alloc: Global, table: &Table) -> Result<Config, ValueFault> {
+fn read_values(alloc: Global, table: &Table) -> Result<Config, ValueFault>
+    ensures { IfOk result (λ config. IsConfigOf (table_view table.now) config) }
+{
     let top = Section {
         table,
         place: ConfigPlace::Top,
@@ -73,7 +80,9 @@ fn read_values(alloc: Global, table: &Table) -> Result<Config, ValueFault> {
     })
 }
 
-fn read_limits(top: Section<'_>) -> Result<Limits, ValueFault> {
+fn read_limits(top: Section<'_>) -> Result<Limits, ValueFault>
+    ensures { IfOk result (λ limits. AreLimitsOf (table_of top.entry) limits) }
+{
     let workers = top.number("workers", 1, MOST_WORKERS)?;
     let places = top.number("places", 1, MOST_PLACES)?;
     let bound = top.number("bound", LEAST_BOUND, MOST_BOUND)?;

@@ -2,13 +2,18 @@
 ghost use Rattle.std.specs.Prelude.{◌≡◌, ◌≤◌, true, IfOk, IfSome};
 ghost use Rattle.std.specs.List.{list_all};
 ghost use Rattle.chat_change.specs.Words.{is_name, is_target};
+ghost use Rattle.toml.specs.Data.{string, table};
+ghost use Rattle.toml.specs.View.{view, items_view};
 ghost use Rattle.node_config.specs.Names as spec;
+ghost use Rattle.node_config.specs.Values.{HasText, HasNumber, HasAddress, HasTexts};
+ghost use Rattle.node_config.specs.Values.{HasVersion, HasItems};
+ghost use Rattle.node_config.specs.Sections.{table_of, key_of};
 
 use crate::allowed::Allowed;
 use crate::fault::{ConfigPlace, ListName, ValueFault, Wrong};
 use crate::names::is_cluster_name;
 use byte_text::Text;
-use peer_lines::{LinkFault, NodeName, SharedWord};
+use peer_lines::{LinkFault, NodeName, SharedWord, Version};
 use std::alloc::{AllocError, Global};
 use std::net::SocketAddr;
 use toml::{Table, Value};
@@ -33,6 +38,7 @@ impl<'a> Section<'a> {
     pub fn number(self, key: &'static str, least: u32, most: u32) -> Result<u32, ValueFault>
         ensures low { IfOk result (λ n. least ≤ n) }
         ensures high { IfOk result (λ n. n ≤ most) }
+        ensures value { IfOk result (λ n. HasNumber (table_of self.entry) key.now n) }
     {
         let wrong = self.wrong(key, Allowed::Number(least, most));
         let Some(Value::Integer(number)) = self.table.get(key) else {
@@ -44,27 +50,50 @@ impl<'a> Section<'a> {
         }
     }
 
-    fn text(self, key: &'static str, allowed: Allowed) -> Result<&'a str, ValueFault> {
+    /// A version of the lines between nodes, by its number: this program's own where the key is missing.
+    pub fn version(self, key: &'static str) -> Result<Version, ValueFault>
+        ensures { IfOk result (λ v. HasVersion (table_of self.entry) key.now v) }
+    {
+        if self.table.get(key).is_none() {
+            return Ok(Version::OWN);
+        }
+        let least = u32::from(Version::One.number());
+        let most = u32::from(Version::OWN.number());
+        let number = self.number(key, least, most)?;
+        match Version::of_number(u64::from(number)) {
+            Some(version) => Ok(version),
+            None => Err(self.wrong(key, Allowed::Number(least, most))),
+        }
+    }
+
+    fn text(self, key: &'static str, allowed: Allowed) -> Result<&'a str, ValueFault>
+        ensures { IfOk result (λ s. HasText (table_of self.entry) key.now s.now) }
+    {
         match self.table.get(key) {
             Some(Value::String(text)) => Ok(text.as_str()),
             _ => Err(self.wrong(key, allowed)),
         }
     }
 
-    pub fn address(self, key: &'static str) -> Result<SocketAddr, ValueFault> {
+    pub fn address(self, key: &'static str) -> Result<SocketAddr, ValueFault>
+        ensures { IfOk result (λ a. HasAddress (table_of self.entry) key.now a) }
+    {
         match self.text(key, Allowed::Address)?.parse::<SocketAddr>() {
             Ok(address) => Ok(address),
             Err(_) => Err(self.wrong(key, Allowed::Address)),
         }
     }
 
-    pub fn any_text(self, alloc: Global, key: &'static str) -> Result<Text, ValueFault> {
+    pub fn any_text(self, alloc: Global, key: &'static str) -> Result<Text, ValueFault>
+        ensures { IfOk result (λ text. HasText (table_of self.entry) key.now text) }
+    {
         let text = self.text(key, Allowed::Text)?;
         Ok(Text::new(alloc, text.as_bytes())?)
     }
 
     pub fn cluster_name(self, alloc: Global, key: &'static str) -> Result<Text, ValueFault>
-        ensures { IfOk result (λ text. spec.is_cluster_name text ≡ true) }
+        ensures named { IfOk result (λ text. spec.is_cluster_name text ≡ true) }
+        ensures value { IfOk result (λ text. HasText (table_of self.entry) key.now text) }
     {
         let text = self.text(key, Allowed::ClusterName)?;
         if !is_cluster_name(text.as_bytes()) {
@@ -75,7 +104,8 @@ impl<'a> Section<'a> {
 
     /// The name of an account or of a network.
     pub fn name(self, alloc: Global, key: &'static str) -> Result<Text, ValueFault>
-        ensures { IfOk result (λ text. is_name text ≡ true) }
+        ensures named { IfOk result (λ text. is_name text ≡ true) }
+        ensures value { IfOk result (λ text. HasText (table_of self.entry) key.now text) }
     {
         let text = self.text(key, Allowed::Name)?;
         if !chat_change::is_name(text.as_bytes()) {
@@ -86,7 +116,8 @@ impl<'a> Section<'a> {
 
     /// A nick, or a user name.
     pub fn target(self, alloc: Global, key: &'static str) -> Result<Text, ValueFault>
-        ensures { IfOk result (λ text. is_target text ≡ true) }
+        ensures named { IfOk result (λ text. is_target text ≡ true) }
+        ensures value { IfOk result (λ text. HasText (table_of self.entry) key.now text) }
     {
         let text = self.text(key, Allowed::Target)?;
         if !chat_change::is_target(text.as_bytes()) {
@@ -95,7 +126,9 @@ impl<'a> Section<'a> {
         Ok(Text::new(alloc, text.as_bytes())?)
     }
 
-    pub fn node_name(self, alloc: Global, key: &'static str) -> Result<NodeName, ValueFault> {
+    pub fn node_name(self, alloc: Global, key: &'static str) -> Result<NodeName, ValueFault>
+        ensures { IfOk result (λ text. HasText (table_of self.entry) key.now text) }
+    {
         let text = self.text(key, Allowed::NodeName)?;
         match NodeName::new(alloc, text.as_bytes()) {
             Ok(name) => Ok(name),
@@ -104,7 +137,9 @@ impl<'a> Section<'a> {
         }
     }
 
-    pub fn shared_word(self, alloc: Global, key: &'static str) -> Result<SharedWord, ValueFault> {
+    pub fn shared_word(self, alloc: Global, key: &'static str) -> Result<SharedWord, ValueFault>
+        ensures { IfOk result (λ text. HasText (table_of self.entry) key.now text) }
+    {
         let text = self.text(key, Allowed::SharedWord)?;
         match SharedWord::new(alloc, text.as_bytes()) {
             Ok(word) => Ok(word),
@@ -114,7 +149,9 @@ impl<'a> Section<'a> {
     }
 
     pub fn channels(self, alloc: Global, key: &'static str) -> Result<Vec<Text>, ValueFault>
-        ensures { IfOk result (λ channels. list_all is_target channels.items ≡ true) }
+        ensures named { IfOk result (λ channels. list_all is_target channels.items ≡ true) }
+        ensures value { IfOk result (λ channels.
+            HasTexts (table_of self.entry) key.now channels.items) }
     {
         let Some(Value::Array(items)) = self.table.get(key) else {
             return Err(self.wrong(key, Allowed::Channels));
@@ -130,7 +167,10 @@ impl<'a> Section<'a> {
     }
 
     /// The entries of a list, which may be missing.
-    pub fn list(self, list: ListName) -> Result<&'a [Value], ValueFault> {
+    pub fn list(self, list: ListName) -> Result<&'a [Value], ValueFault>
+        ensures { IfOk result (λ items.
+            HasItems (table_of self.entry) (key_of list) (items_view items.now)) }
+    {
         match self.table.get(list.as_str()) {
             None => Ok(&[]),
             Some(Value::Array(items)) => Ok(items.as_slice()),
@@ -141,7 +181,8 @@ impl<'a> Section<'a> {
 
 // The target that a value is, if it is one.
 fn target_in(alloc: Global, item: &Value) -> Result<Option<Text>, ValueFault>
-    ensures { IfOk result (λ o. IfSome o (λ text. is_target text ≡ true)) }
+    ensures named { IfOk result (λ o. IfSome o (λ text. is_target text ≡ true)) }
+    ensures value { IfOk result (λ o. IfSome o (λ text. view item.now ≡ string text)) }
 {
     let Value::String(text) = item else {
         return Ok(None);
@@ -157,7 +198,9 @@ pub(crate) fn entry_of<'a>(
     item: &'a Value,
     list: ListName,
     index: usize,
-) -> Result<Section<'a>, ValueFault> {
+) -> Result<Section<'a>, ValueFault>
+    ensures { IfOk result (λ entry. view item.now ≡ table (table_of entry)) }
+{
     let place = ConfigPlace::Entry(list, index.saturating_add(1));
     match item {
         Value::Table(table) => Ok(Section { table, place }),
