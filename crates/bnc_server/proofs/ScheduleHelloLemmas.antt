@@ -5,6 +5,7 @@ use Rattle.std.specs.Prelude.{◌==◌}
 use Rattle.std.specs.List.{list_any}
 use Rattle.std.proofs.lemmas.List.{get_or-set_same, get_or-set_other, length-set, get_or-map, length-map}
 use Rattle.peer_lines.specs.Life.{Life}
+use Rattle.peer_lines.specs.declared.version.TheConstants.Version.{OWN}
 use Rattle.gossip_link.specs.Peer.{unheard, after_hello}
 use Rattle.gossip_link.specs.Cluster as cluster
 use Rattle.gossip_link.specs.Cluster.{with_value, has_lived}
@@ -28,7 +29,8 @@ pub record Heard (u : cluster.World) (k n : ℕ) : Type 0 where
   pub taken : (world.nodes (name_of k)).taken ≡ (u.nodes (name_of k)).taken
   pub incarnation : (world.nodes (name_of k)).incarnation ≡ (u.nodes (name_of k)).incarnation
   pub earlier : (world.nodes (name_of k)).earlier ≡ (u.nodes (name_of k)).earlier
-  pub known : (l : ℕ) → l ≢ k → l < n → (world.nodes (name_of k)).peers (name_of l) ≡ after_hello (name_of l) unheard (cluster.life (name_of l) (u.nodes (name_of l)))
+  pub version : (world.nodes (name_of k)).version ≡ (u.nodes (name_of k)).version
+  pub known : (l : ℕ) → l ≢ k → l < n → (world.nodes (name_of k)).peers (name_of l) ≡ after_hello (name_of l) unheard (cluster.life (name_of l) (u.nodes (name_of l))) OWN
   pub unknown : (l : ℕ) → l ≢ k → n ≤ l → (world.nodes (name_of k)).peers (name_of l) ≡ unheard
 
 module _ (u : cluster.World) (k : ℕ) where
@@ -41,31 +43,33 @@ module _ (u : cluster.World) (k : ℕ) where
     taken = t.taken;
     incarnation = t.incarnation;
     earlier = t.earlier;
+    version = t.version;
     known = λ l d h. let ne : l ≢ n = λ e. d (e ∙ same) in t.known l d (omega (arith, h, ne));
     unknown = λ l d h. t.unknown l d (omega (arith, h));
   }
   heard_more n t (inr apart) =
       let x = t.world.nodes (name_of k) in
-      let p = after_hello (name_of n) (x.peers (name_of n)) (cluster.life (name_of n) (t.world.nodes (name_of n))) in
+      let p = after_hello (name_of n) (x.peers (name_of n)) (cluster.life (name_of n) (t.world.nodes (name_of n))) OWN in
       let y = cluster.with_peer x (name_of n) p in
-      let v : cluster.World = record t.world { nodes = with_value t.world.nodes (name_of k) y; hellos = cluster.life (name_of n) (t.world.nodes (name_of n)) ∷ t.world.hellos } in
+      let v : cluster.World = record t.world { nodes = with_value t.world.nodes (name_of k) y; hellos = record { life = cluster.life (name_of n) (t.world.nodes (name_of n)); version = OWN } ∷ t.world.hellos } in
       let here : v.nodes (name_of k) ≡ y = changed_here t.world.nodes (name_of k) y in
       let there : (l : ℕ) → l ≢ n → (v.nodes (name_of k)).peers (name_of l) ≡ x.peers (name_of l) =
       (λ l ne. ap (λ (z : cluster.Node). z.peers (name_of l)) here ∙ changed_there x.peers (name_of n) (name_of l) p (names_differ n l (λ e. ne (sym e)))) in
-      let now : p ≡ after_hello (name_of n) unheard (cluster.life (name_of n) (u.nodes (name_of n))) =
-      (λ i. after_hello (name_of n) (t.unknown n apart (omega arith) i) (cluster.life (name_of n) (t.others n apart i))) in
-      let new : (v.nodes (name_of k)).peers (name_of n) ≡ after_hello (name_of n) unheard (cluster.life (name_of n) (u.nodes (name_of n))) =
+      let now : p ≡ after_hello (name_of n) unheard (cluster.life (name_of n) (u.nodes (name_of n))) OWN =
+      (λ i. after_hello (name_of n) (t.unknown n apart (omega arith) i) (cluster.life (name_of n) (t.others n apart i)) OWN) in
+      let new : (v.nodes (name_of k)).peers (name_of n) ≡ after_hello (name_of n) unheard (cluster.life (name_of n) (u.nodes (name_of n))) OWN =
       ap (λ (z : cluster.Node). z.peers (name_of n)) here ∙ changed_here x.peers (name_of n) p ∙ now in
       record {
         world = v;
-        reached = reached_then t.world v t.reached (hears_hello t.world (name_of k) (name_of n));
+        reached = reached_then t.world v t.reached (hears_hello t.world (name_of k) (name_of n) OWN);
         acks = t.acks;
         others = λ j d. changed_there t.world.nodes (name_of k) (name_of j) y (names_differ k j (λ e. d (sym e))) ∙ t.others j d;
         taken = ap (λ (z : cluster.Node). z.taken) here ∙ t.taken;
         incarnation = ap (λ (z : cluster.Node). z.incarnation) here ∙ t.incarnation;
         earlier = ap (λ (z : cluster.Node). z.earlier) here ∙ t.earlier;
+        version = ap (λ (z : cluster.Node). z.version) here ∙ t.version;
         known = λ l d h. ⊎_elim
-            (λ same. subst (λ m. (v.nodes (name_of k)).peers (name_of m) ≡ after_hello (name_of m) unheard (cluster.life (name_of m) (u.nodes (name_of m)))) (sym same) new)
+            (λ same. subst (λ m. (v.nodes (name_of k)).peers (name_of m) ≡ after_hello (name_of m) unheard (cluster.life (name_of m) (u.nodes (name_of m))) OWN) (sym same) new)
             (λ ne. there l ne ∙ t.known l d (omega (arith, h, ne)))
             (equal_or_not l n);
         unknown = λ l d h. there l (λ e. omega (arith, h, e)) ∙ t.unknown l d (omega (arith, h));
@@ -80,6 +84,7 @@ module _ (u : cluster.World) (k : ℕ) where
     taken = refl;
     incarnation = refl;
     earlier = refl;
+    version = refl;
     known = λ l d h. absurd (omega (arith, h));
     unknown = λ l d h. none l d;
   }
@@ -90,7 +95,7 @@ module _ (u : cluster.World) (k : ℕ) where
 abbrev told_of : cluster.World → ℕ → ℕ → cluster.Node
 told_of u k j =
     let x = u.nodes (name_of j) in
-    cluster.with_peer x (name_of k) (after_hello (name_of k) (x.peers (name_of k)) (cluster.life (name_of k) (u.nodes (name_of k))))
+    cluster.with_peer x (name_of k) (after_hello (name_of k) (x.peers (name_of k)) (cluster.life (name_of k) (u.nodes (name_of k))) OWN)
 
 pub record Told (u : cluster.World) (k n : ℕ) : Type 0 where
   pub world : cluster.World
@@ -112,14 +117,14 @@ module _ (u : cluster.World) (k : ℕ) where
   }
   told_more n t (inr apart) =
       let y = told_of t.world k n in
-      let v : cluster.World = record t.world { nodes = with_value t.world.nodes (name_of n) y; hellos = cluster.life (name_of k) (t.world.nodes (name_of k)) ∷ t.world.hellos } in
+      let v : cluster.World = record t.world { nodes = with_value t.world.nodes (name_of n) y; hellos = record { life = cluster.life (name_of k) (t.world.nodes (name_of k)); version = OWN } ∷ t.world.hellos } in
       let there : (j : ℕ) → j ≢ n → v.nodes (name_of j) ≡ t.world.nodes (name_of j) =
       (λ j ne. changed_there t.world.nodes (name_of n) (name_of j) y (names_differ n j (λ e. ne (sym e)))) in
       let now : y ≡ told_of u k n =
-      (λ i. cluster.with_peer (t.untold n apart (omega arith) i) (name_of k) (after_hello (name_of k) ((t.untold n apart (omega arith) i).peers (name_of k)) (cluster.life (name_of k) (t.own i)))) in
+      (λ i. cluster.with_peer (t.untold n apart (omega arith) i) (name_of k) (after_hello (name_of k) ((t.untold n apart (omega arith) i).peers (name_of k)) (cluster.life (name_of k) (t.own i)) OWN)) in
       record {
         world = v;
-        reached = reached_then t.world v t.reached (hears_hello t.world (name_of n) (name_of k));
+        reached = reached_then t.world v t.reached (hears_hello t.world (name_of n) (name_of k) OWN);
         acks = t.acks;
         own = there k (λ e. apart (sym e)) ∙ t.own;
         told = λ j d h. ⊎_elim
@@ -142,7 +147,7 @@ module _ (u : cluster.World) (k : ℕ) where
 
 -- ---- a node that starts again
 
-lived_so : (x : cluster.Node) (i : ℕ) → has_lived (cluster.new_node (x.incarnation + 1) (x.incarnation ∷ x.earlier)) i ≡ true → ((j : ℕ) → has_lived x j ≡ true → j ≤ x.incarnation) → i ≤ x.incarnation + 1
+lived_so : (x : cluster.Node) (i : ℕ) → has_lived (cluster.new_node (x.incarnation + 1) (x.incarnation ∷ x.earlier) OWN) i ≡ true → ((j : ℕ) → has_lived x j ≡ true → j ≤ x.incarnation) → i ≤ x.incarnation + 1
 lived_so x i e newest =
     elim ((x.incarnation + 1) == i) as (λ t. ((x.incarnation + 1) == i) ≡ t → (t || has_lived x i) ≡ true → i ≤ x.incarnation + 1) [
       | true ↦ λ t f. (let same = equal_is (x.incarnation + 1) i t in omega (arith, same))
@@ -164,7 +169,7 @@ module _ (w : cluster.World) (v : World) (h : Shown w v) (k : ℕ) (within : k <
   life = next_life (life_of old)
 
   abbrev fresh_node : cluster.Node
-  fresh_node = cluster.new_node (x.incarnation + 1) (x.incarnation ∷ x.earlier)
+  fresh_node = cluster.new_node (x.incarnation + 1) (x.incarnation ∷ x.earlier) OWN
 
   fresh : has_lived x (x.incarnation + 1) ≡ false
   fresh = elim (has_lived x (x.incarnation + 1)) as (λ t. has_lived x (x.incarnation + 1) ≡ t → t ≡ false) [
@@ -182,7 +187,7 @@ module _ (w : cluster.World) (v : World) (h : Shown w v) (k : ℕ) (within : k <
   begun_there j d = changed_there w.nodes (name_of k) (name_of j) fresh_node (names_differ k j (λ e. d (sym e)))
 
   heard : Heard begun k node_count
-  heard = hears_others begun k (reached_then w begun h.reached (restarts w (name_of k) (x.incarnation + 1) fresh))
+  heard = hears_others begun k (reached_then w begun h.reached (restarts w (name_of k) (x.incarnation + 1) OWN fresh))
       (λ l d. ap (λ (z : cluster.Node). z.peers (name_of l)) begun_here) node_count
 
   told : Told heard.world k node_count
@@ -206,6 +211,9 @@ module _ (w : cluster.World) (v : World) (h : Shown w v) (k : ℕ) (within : k <
 
   my_taken : me.taken ≡ []
   my_taken = ap (λ (z : cluster.Node). z.taken) told.own ∙ heard.taken ∙ ap (λ (z : cluster.Node). z.taken) begun_here
+
+  my_version : me.version ≡ OWN
+  my_version = ap (λ (z : cluster.Node). z.version) told.own ∙ heard.version ∙ ap (λ (z : cluster.Node). z.version) begun_here
 
   my_life : cluster.life (name_of k) me ≡ life
   my_life = (λ i. record { node = name_of k; incarnation = my_incarnation i }) ∙ ap next_life mine.life
@@ -242,8 +250,8 @@ module _ (w : cluster.World) (v : World) (h : Shown w v) (k : ℕ) (within : k <
     name = ap (λ (z : Life). z.node) (life_at l lt d);
     peer = λ _.
         ap (λ (z : cluster.Node). z.peers (name_of l)) told.own ∙ heard.known l d lt
-        ∙ ap (λ (z : cluster.Node). after_hello (name_of l) unheard (cluster.life (name_of l) z)) (begun_there l d)
-        ∙ ap (λ (z : Life). after_hello z.node unheard z) (sym (life_at l lt d));
+        ∙ ap (λ (z : cluster.Node). after_hello (name_of l) unheard (cluster.life (name_of l) z) OWN) (begun_there l d)
+        ∙ ap (λ (z : Life). after_hello z.node unheard z OWN) (sym (life_at l lt d));
   }
 
   my_newest : (i : ℕ) → has_lived me i ≡ true → i ≤ me.incarnation
@@ -258,6 +266,7 @@ module _ (w : cluster.World) (v : World) (h : Shown w v) (k : ℕ) (within : k <
     taken = my_taken;
     size = length-map lives (link_with life) ∙ lives_size;
     links = λ l lt. subst (LinkAgrees k me l) (sym (link_of l lt)) (my_link l lt (equal_or_not l k));
+    version = my_version;
     newest = my_newest;
     late = mine.late;
   }
@@ -276,12 +285,12 @@ module _ (w : cluster.World) (v : World) (h : Shown w v) (k : ℕ) (within : k <
       let a = h.agree j lt in
       let link = link_at s k in
       let along = a.links k within in
-      let p = after_hello (name_of k) (y.peers (name_of k)) life in
+      let p = after_hello (name_of k) (y.peers (name_of k)) life OWN in
       let is : last.nodes (name_of j) ≡ cluster.with_peer y (name_of k) p =
-      told.told j d lt ∙ (λ i. cluster.with_peer (other_is j d i) (name_of k) (after_hello (name_of k) ((other_is j d i).peers (name_of k)) (their_life i))) in
-      let peer : p ≡ after_hello link.name link.peer life = (λ i. after_hello (sym along.name i) (along.peer d i) life) in
+      told.told j d lt ∙ (λ i. cluster.with_peer (other_is j d i) (name_of k) (after_hello (name_of k) ((other_is j d i).peers (name_of k)) (their_life i) OWN)) in
+      let peer : p ≡ after_hello link.name link.peer life OWN = (λ i. after_hello (sym along.name i) (along.peer d i) life OWN) in
       subst (λ z. Agrees w.acks j z (hearing k life s)) (sym is)
-      (agrees_peer w.acks j k y s p (after_hello link.name link.peer life) within peer a)
+      (agrees_peer w.acks j k y s p (after_hello link.name link.peer life OWN) within peer a)
 
   abbrev others_told : List Node
   others_told = map (hearing k life) v.nodes

@@ -10,6 +10,7 @@ use Rattle.chat_change.specs.declared.change.Change.{Change}
 use Rattle.chat_history.specs.Numbering.{delta}
 use Rattle.peer_lines.specs.Life.{Packet, Ack}
 use Rattle.peer_lines.specs.Names.{same_name}
+use Rattle.peer_lines.specs.declared.version.TheConstants.Version.{OWN}
 use Rattle.gossip_link.specs.Link.{Link}
 use Rattle.gossip_link.specs.Peer.{Peer, packet_of, after_packet as after_packet_sent, after_make, packet_is_mine, ack_of as ack_of_packet, after_ack}
 use Rattle.gossip_link.specs.Cluster as cluster
@@ -48,6 +49,7 @@ pub record LinkAgrees (k : ℕ) (x : cluster.Node) (l : ℕ) (n : Link) : Type 0
 -- the node at place k, where these acknowledgements were sent
 pub record Agrees (acks : List Ack) (k : ℕ) (x : cluster.Node) (s : Node) : Type 0 where
   pub life : cluster.life (name_of k) x ≡ s.life
+  pub version : x.version ≡ OWN
   pub taken : x.taken ≡ s.taken
   pub size : length s.links ≡ node_count
   pub links : (l : ℕ) → l < node_count → LinkAgrees k x l (link_at s l)
@@ -56,12 +58,13 @@ pub record Agrees (acks : List Ack) (k : ℕ) (x : cluster.Node) (s : Node) : Ty
 
 -- what it holds of its client, and what it took, are apart from its links
 pub agrees_as : (acks : List Ack) (k : ℕ) (x y : cluster.Node) (s t : Node) → Agrees acks k x s
-    → y.incarnation ≡ x.incarnation → y.earlier ≡ x.earlier → ((name : List ℕ) → y.peers name ≡ x.peers name)
+    → y.incarnation ≡ x.incarnation → y.earlier ≡ x.earlier → y.version ≡ x.version → ((name : List ℕ) → y.peers name ≡ x.peers name)
     → t.life ≡ s.life → t.links ≡ s.links → t.late ≡ s.late → y.taken ≡ t.taken → Agrees acks k y t
-agrees_as acks k x y s t a same_incarnation same_earlier same_peers same_life same_links same_late taken =
+agrees_as acks k x y s t a same_incarnation same_earlier same_version same_peers same_life same_links same_late taken =
     let lives : cluster.life (name_of k) y ≡ cluster.life (name_of k) x = (λ i. record { node = name_of k; incarnation = same_incarnation i }) in
     record {
       life = lives ∙ a.life ∙ sym same_life;
+      version = same_version ∙ a.version;
       taken = taken;
       size = ap length same_links ∙ a.size;
       links = λ l h.
@@ -74,16 +77,17 @@ agrees_as acks k x y s t a same_incarnation same_earlier same_peers same_life sa
 
 agrees_taken : (acks : List Ack) (k : ℕ) (x : cluster.Node) (s : Node) (changes : List Change) → Agrees acks k x s → Agrees acks k (cluster.with_taken x changes) (after_taking s changes)
 agrees_taken acks k x s changes a =
-    agrees_as acks k x (cluster.with_taken x changes) s (after_taking s changes) a refl refl (λ name. refl) refl refl refl (ap (λ l. l ++ changes) a.taken)
+    agrees_as acks k x (cluster.with_taken x changes) s (after_taking s changes) a refl refl refl (λ name. refl) refl refl refl (ap (λ l. l ++ changes) a.taken)
 
 agrees_used : (acks : List Ack) (k : ℕ) (x : cluster.Node) (s : Node) (name : List ℕ) (count : ℕ) → Agrees acks k x s → Agrees acks k (cluster.with_used x name count) s
 agrees_used acks k x s name count a =
-    agrees_as acks k x (cluster.with_used x name count) s s a refl refl (λ other. refl) refl refl refl a.taken
+    agrees_as acks k x (cluster.with_used x name count) s s a refl refl refl (λ other. refl) refl refl refl a.taken
 
 -- more was sent
 agrees_more : (first : Ack) (acks : List Ack) (k : ℕ) (x : cluster.Node) (s : Node) → Agrees acks k x s → Agrees (first ∷ acks) k x s
 agrees_more first acks k x s a = record {
   life = a.life;
+  version = a.version;
   taken = a.taken;
   size = a.size;
   links = a.links;
@@ -95,6 +99,7 @@ agrees_more first acks k x s a = record {
 agrees_late : (acks : List Ack) (k r : ℕ) (x : cluster.Node) (s : Node) (ack : Ack) → Contains acks ack → Agrees acks k x s → Agrees acks k x (with_late s r ack)
 agrees_late acks k r x s ack sent a = record {
   life = a.life;
+  version = a.version;
   taken = a.taken;
   size = a.size;
   links = a.links;
@@ -140,6 +145,7 @@ module _ (acks : List Ack) (k r : ℕ) (x : cluster.Node) (s : Node) (p q : Peer
   pub agrees_peer : Agrees acks k (cluster.with_peer x (name_of r) p) (with_peer s r q)
   agrees_peer = record {
     life = a.life;
+    version = a.version;
     taken = a.taken;
     size = length-set s.links r link ∙ a.size;
     links = λ l h. ⊎_elim (λ same. subst (λ m. LinkAgrees k new m (link_at (with_peer s r q) m)) (sym same) here) (there l h) (equal_or_not l r);
@@ -203,7 +209,7 @@ own_shown v k s changes within (w, h) same_life same_links same_late took =
         reached = reached_then w u h.reached (takes_own w (name_of k) changes);
         count = count_one v k s h.count;
         agree = agree_one w.acks w.nodes v.nodes k (cluster.with_taken x changes) s h.count within
-            (agrees_as w.acks k x (cluster.with_taken x changes) (node_at v k) s (h.agree k within) refl refl (λ name. refl) same_life same_links same_late
+            (agrees_as w.acks k x (cluster.with_taken x changes) (node_at v k) s (h.agree k within) refl refl refl (λ name. refl) same_life same_links same_late
             (ap (λ l. l ++ changes) (h.agree k within).taken ∙ sym took)) h.agree;
       },
     )
@@ -230,7 +236,7 @@ module _ (w : cluster.World) (v : World) (h : Shown w v) (s r : ℕ) (are : AreP
   same_packet : next_packet w (name_of s) (name_of r) ≡ packet_for sender r
   same_packet =
       let peer = along.peer are.differ in
-      (λ i. packet_of (sym along.me i) (sym along.name i) ((peer i).heard) (delta 0 (mine.taken i) ((peer i).acked)))
+      (λ i. packet_of (mine.version i) (sym along.me i) (sym along.name i) ((peer i).heard) (delta 0 (mine.taken i) ((peer i).acked)))
 
   nothing_sent : packet_for sender r ≡ None → after_sending v s r ≡ v
   nothing_sent e =

@@ -4,7 +4,8 @@ use Rattle.std.specs.Prelude.{◌==◌, nat_lt, nat_le, ⊤}
 use Rattle.std.proofs.lemmas.Bool.{and_parts, not-true, true≢false}
 use Rattle.std.proofs.lemmas.Bool.Decides.{nat_tests}
 use Rattle.std.proofs.lemmas.List.{get_or_past}
-use Rattle.peer_lines.specs.Life.{Packet, Ack}
+use Rattle.peer_lines.specs.Life.{Life, Packet, Ack}
+use Rattle.peer_lines.specs.declared.version.TheConstants.Version.{OWN}
 use Rattle.gossip_link.specs.Peer.{unheard, after_hello}
 use Rattle.gossip_link.specs.Cluster as cluster
 use Rattle.gossip_link.specs.Cluster.{has_lived}
@@ -39,15 +40,16 @@ at_place f d (suc (suc (suc (suc (suc (suc (suc (suc (suc n))))))))) h = absurd 
 record IsReady (j : ℕ) (x : cluster.Node) : Type 0 where
   incarnation : x.incarnation ≡ 1
   earlier : x.earlier ≡ []
+  version : x.version ≡ OWN
   taken : x.taken ≡ []
-  known : (l : ℕ) → l ≢ j → l < node_count → x.peers (name_of l) ≡ after_hello (name_of l) unheard (first_life l)
+  known : (l : ℕ) → l ≢ j → l < node_count → x.peers (name_of l) ≡ after_hello (name_of l) unheard (first_life l) OWN
 
 record Begun (n : ℕ) : Type 0 where
   world : cluster.World
   reached : IsReached world
   acks : world.acks ≡ []
   ready : (j : ℕ) → j < n → IsReady j (world.nodes (name_of j))
-  fresh : (j : ℕ) → n ≤ j → world.nodes (name_of j) ≡ cluster.new_node 1 []
+  fresh : (j : ℕ) → n ≤ j → world.nodes (name_of j) ≡ cluster.new_node 1 [] OWN
 
 first_is : (n : ℕ) (t : Begun n) (j : ℕ) → cluster.life (name_of j) (t.world.nodes (name_of j)) ≡ first_life j
 first_is n t j =
@@ -59,8 +61,8 @@ first_is n t j =
 
 begun : (n : ℕ) → Begun n
 begun zero = record {
-  world = cluster.start (λ _. 1);
-  reached = record { incarnations = λ _. 1; events = []; differ = tt; ends = refl };
+  world = cluster.start (λ _. 1) (λ _. OWN);
+  reached = record { incarnations = λ _. 1; versions = λ _. OWN; events = []; differ = tt; ends = refl };
   acks = refl;
   ready = λ j h. absurd (omega (arith, h));
   fresh = λ j h. refl;
@@ -77,8 +79,9 @@ begun (suc n) =
           (λ same. subst (λ m. IsReady m (heard.world.nodes (name_of m))) (sym same) (record {
             incarnation = heard.incarnation ∙ ap (λ (z : cluster.Node). z.incarnation) now;
             earlier = heard.earlier ∙ ap (λ (z : cluster.Node). z.earlier) now;
+            version = heard.version ∙ ap (λ (z : cluster.Node). z.version) now;
             taken = heard.taken ∙ ap (λ (z : cluster.Node). z.taken) now;
-            known = λ l d lt. heard.known l d lt ∙ ap (after_hello (name_of l) unheard) (first_is n t l);
+            known = λ l d lt. heard.known l d lt ∙ ap (λ (z : Life). after_hello (name_of l) unheard z OWN) (first_is n t l);
           }))
           (λ ne. subst (IsReady j) (sym (heard.others j ne)) (t.ready j (omega (arith, h, ne))))
           (equal_or_not j n);
@@ -102,6 +105,7 @@ lived_once x i e f h =
 ready_agrees : (session : Stage) (j : ℕ) (x : cluster.Node) → IsReady j x → Agrees [] j x (first_node session (first_life j))
 ready_agrees session j x is = record {
   life = own;
+  version = is.version;
   taken = is.taken;
   size = refl;
   links = λ l lt. subst (LinkAgrees j x l) (sym (at_place (λ p. link_with (first_life j) (first_life p)) no_link l lt))

@@ -1,5 +1,5 @@
 -- The changes that the nodes of a script take are lawful, and their sessions stay such that their facts may stand in lines.
-use Rattle.std.proofs.Common.{◌≡◌, ℕ, zero, suc, ◌+◌, ◌≤◌, Bool, true, false, cond, ◌&&◌, List, [], ◌∷◌, drop, map, length, get_or, set, Option, None, Some, Result, Ok, Err, refl, arith}
+use Rattle.std.proofs.Common.{◌≡◌, ℕ, zero, suc, ◌+◌, ◌≤◌, Bool, true, false, cond, ◌&&◌, ◌||◌, List, [], ◌∷◌, drop, map, length, get_or, set, Option, None, Some, Result, Ok, Err, refl, arith}
 use Rattle.std.specs.Prelude.{◌==◌, IfOk, IfSome}
 use Rattle.std.specs.List.{AllByRecursion}
 use Rattle.std.specs.Str.{bytes_eq}
@@ -27,6 +27,9 @@ use Rattle.gossip_delta.specs.declared.fault.ChangeLineFault.{ChangeLineFault}
 use Rattle.gossip_delta.proofs.CallerLemmas.{one_spelling}
 use Rattle.chat_history.specs.Numbering.{Delta, delta}
 use Rattle.peer_lines.specs.Life.{Life, Packet, Ack}
+use Rattle.peer_lines.specs.Version.{is_lower}
+use Rattle.peer_lines.specs.declared.version.TheConstants.Version.{OWN}
+use Rattle.gossip_link.specs.declared.link.Heard.{Heard}
 use Rattle.gossip_link.specs.Peer.{packet_of, packet_is_mine}
 use Rattle.client_directory.specs.Directory.{Directory, Account, Network, entry_if, entry_of, entry_of_account, entry_in}
 use Rattle.client_session.specs.Session.{session_after}
@@ -160,10 +163,10 @@ with_sound w sound place node is = record { directory = sound.directory; facts =
 abbrev pub IsSoundPacket : Packet → Type 0
 IsSoundPacket packet = AllByRecursion IsLawfulChange packet.changes
 
-packet_lawful : (me : Life) (name : List ℕ) (heard : Option ℕ) (d : Delta) → AllByRecursion IsLawfulChange d.changes → IfSome (packet_of me name heard d) IsSoundPacket
+packet_lawful : (me : Life) (name : List ℕ) (heard : Option Heard) (d : Delta) → AllByRecursion IsLawfulChange d.changes → IfSome (packet_of OWN me name heard d) IsSoundPacket
 packet_lawful me name None d all = tt
-packet_lawful me name (Some i) d all = go (length d.changes == 0) where
-  go : (b : Bool) → IfSome (cond b None (Some (record { sender = me; receiver = record { node = name; incarnation = i }; from = d.from; to = d.to; changes = d.changes }))) IsSoundPacket
+packet_lawful me name (Some known) d all = go (is_lower known.version OWN || (length d.changes == 0)) where
+  go : (b : Bool) → IfSome (cond b None (Some (record { sender = me; receiver = record { node = name; incarnation = known.incarnation }; from = d.from; to = d.to; changes = d.changes }))) IsSoundPacket
   go true = tt
   go false = all
 

@@ -2,6 +2,7 @@
 use Rattle.std.specs.Prelude.{ℕ, Option, None, Some, List, [], map, Result, Ok, Err, slice_index_or, slice_set, if◌then◌else◌}
 use Rattle.chat_history.specs.Numbering.{delta}
 use Rattle.peer_lines.specs.Life.{Life, Packet, Ack}
+use Rattle.peer_lines.specs.declared.version.TheConstants.Version.{OWN}
 use Rattle.peer_lines.specs.declared.fault.LinkFault.{LinkFault}
 use Rattle.peer_lines.specs.declared.fault.LinkFault.TheVariants.{WrongLife, AckTooHigh}
 use Rattle.gossip_link.specs.Link.{Link}
@@ -11,12 +12,12 @@ use Rattle.bnc_server.specs.Node.{Node, after_taking}
 
 -- ---- links
 
--- with a node whose life is heard of at once
+-- with a node whose life is heard of at once. All nodes of a script speak this program's own version
 abbrev pub link_with : Life → Life → Link
 link_with me other = record {
   me = me;
   name = other.node;
-  peer = after_hello other.node unheard other;
+  peer = after_hello other.node unheard other OWN;
 }
 
 -- a node in a new life, which has heard of these
@@ -45,7 +46,7 @@ with_peer node place peer =
 -- a packet is made of all that the node took
 abbrev pub packet_along : Link → Node → Option Packet
 packet_along link node =
-    packet_of link.me link.name link.peer.heard (delta 0 node.taken link.peer.acked)
+    packet_of OWN link.me link.name link.peer.heard (delta 0 node.taken link.peer.acked)
 
 abbrev pub packet_for : Node → ℕ → Option Packet
 packet_for node place = packet_along (link_at node place) node
@@ -96,4 +97,4 @@ with_late node place ack = record node { late = slice_set node.late place (Some 
 -- the node hears of a life of the node at a place
 abbrev pub hearing : ℕ → Life → Node → Node
 hearing place life node =
-    with_peer node place (after_hello (link_at node place).name (link_at node place).peer life)
+    with_peer node place (after_hello (link_at node place).name (link_at node place).peer life OWN)

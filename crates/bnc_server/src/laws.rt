@@ -1,6 +1,6 @@
 //! Laws of scripts. Their contracts are the laws, and their bodies are empty.
 ghost use Rattle.std.specs.Prelude.{◌≡◌, ◌++◌, ℕ, List, None};
-ghost use Rattle.irc_line.specs.declared.line.TagLimit.{TagLimit};
+ghost use Rattle.irc_line.specs.declared.line.TagLimit.TheVariants.{Server};
 ghost use Rattle.irc_line.specs.Stream.{Item, items};
 ghost use Rattle.chat_change.specs.Faults.{buffer_fault};
 ghost use Rattle.chat_history.specs.History.{SameSet};
@@ -31,11 +31,11 @@ pub fn order_of_changes_does_not_show()
 
 /// All that a script prints is lines that read back, whatever the script. Each line ends with CR LF and has no NUL, CR or
 /// LF before that. One that begins with `%` is for whoever wrote the script. Any other is read by
-/// [`irc_line::read_line`] as the parts that it was written from, within the limits of a client's line and of a server's.
+/// [`irc_line::read_line`] as the parts that it was written from, within the limits of a server's line.
 pub fn what_is_printed_is_lines()
-    ensures { (limit : TagLimit) (input account network nick : List ℕ)
+    ensures { (input account network nick : List ℕ)
         → buffer_fault account network nick ≡ None
-        → IsPrinted limit (script input account network nick) }
+        → IsPrinted Server (script input account network nick) }
 {}
 
 /// Every script is a schedule of a cluster. Some list of [`gossip_link`]'s events leads to a cluster whose nodes `n1` to

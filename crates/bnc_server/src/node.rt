@@ -20,7 +20,7 @@ use chat_batch::{AnswerFault, Facts, answer};
 use chat_change::Change;
 use chat_state::{State, StateFault};
 use client_session::{Directory, Effect, Session};
-use gossip_link::{Ack, Life, Link, LinkFault, Packet};
+use gossip_link::{Ack, Life, Link, LinkFault, Packet, Version};
 use irc_line::{Line, TagLimit, read_line};
 use std::alloc::Global;
 use std::io::Write;
@@ -83,7 +83,7 @@ fn link_with(alloc: Global, me: &Life, other: &Life) -> Result<Link, NoMemory>
     ensures { IfOk result (λ link. link ≡ link_with me.now other.now) }
 {
     let mut link = Link::new(me.try_clone(alloc)?, other.node().try_clone(alloc)?);
-    let _ = link.hello(other);
+    let _ = link.hello(other, Version::OWN);
     Ok(link)
 }
 
@@ -262,7 +262,7 @@ impl Node {
         ensures { (node : spec.Node) → self.old ≡ held_node node
             → self.new ≡ held_node (hearing place life.now node) }
     {
-        let _ = self.links[place].hello(life);
+        let _ = self.links[place].hello(life, Version::OWN);
     }
 
     /// Takes a change.
