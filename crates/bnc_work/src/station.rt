@@ -30,7 +30,7 @@ pub struct Station<X = Boxed> {
     pub directory: Directory,
     /// The networks of all accounts. Worker i of n serves those whose place in this list, modulo n, is i.
     pub networks: Vec<Config>,
-    /// The shared word, the node's own life, and the names of the peers.
+    /// The shared word, the node's own life, and the terms with each peer.
     pub terms: Terms,
     /// The names of the peers, in the same order.
     pub peers: Vec<NodeName>,

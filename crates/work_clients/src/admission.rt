@@ -4,11 +4,8 @@ use crate::clients::Clients;
 use attach::Attachment;
 use bnc_ports::{Event, Port, Reason};
 use std::sync::Wait;
-use work_desk::{Desk, Fate, Site};
+use work_desk::{Desk, Fate, PATIENCE, Site};
 use work_timers::Timer;
-
-/// A client has so long to register, and to read the last of what it is owed, in milliseconds.
-const PATIENCE: u64 = 60_000;
 
 impl Client {
     // Why a client is closed that had long enough to register, or to read what it was owed.

@@ -10,8 +10,10 @@ mod desk;
 mod fate;
 mod schedule;
 mod site;
+mod waits;
 
 pub use desk::{Desk, clock};
 pub use fate::Fate;
 pub use schedule::Schedule;
 pub use site::Site;
+pub use waits::{PATIENCE, RETRY};

@@ -27,7 +27,7 @@ pub struct Site {
     pub directory: Directory,
     /// The networks of all accounts.
     pub networks: Vec<Config>,
-    /// The shared word, the node's own life, and the names of the peers.
+    /// The shared word, the node's own life, and the terms with each peer.
     pub terms: Terms,
     /// For how many days messages are kept; 0 is for ever.
     pub retain_days: u32,

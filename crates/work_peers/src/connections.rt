@@ -5,12 +5,9 @@ use bnc_ports::{Event, Port, Reason};
 use byte_text::NoMemory;
 use gossip_link::{Arrived, Side};
 use peer_session::PeerSession;
-use work_desk::{Desk, Site};
+use work_desk::{Desk, PATIENCE, Site};
 use work_lines::Pipe;
 use work_timers::Timer;
-
-/// A peer has so long to say hello, in milliseconds.
-const PATIENCE: u64 = 60_000;
 
 impl Peers {
     /// A connection with a peer is there: with the one at that place, to which this node opened it, or one that the other
@@ -40,7 +37,7 @@ impl Peers {
     // Takes a new connection in, with what is to be sent before any line came.
     fn open(&mut self, site: &Site, line: usize, dialed: Option<usize>) -> Result<(), NoMemory> {
         let side = match dialed {
-            Some(_) => Side::Opener,
+            Some(place) => Side::Opener(place),
             None => Side::Acceptor,
         };
         self.make_room()?;
@@ -85,7 +82,7 @@ impl Peers {
         if let Some(older) = self.settle(line, place) {
             self.close(desk, older, Reason::Replaced);
         }
-        if let (Some(node), Arrived::Hello(life)) = (self.name(Some(place)), arrived) {
+        if let (Some(node), Arrived::Hello(life, _)) = (self.name(Some(place)), arrived) {
             let incarnation = life.incarnation();
             desk.port.report(&Event::PeerGreeted { node, incarnation });
         }

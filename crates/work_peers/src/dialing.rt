@@ -1,11 +1,8 @@
 //! Connections that this node opens.
 use crate::peers::Peers;
 use bnc_ports::{Dial, Event, Port, Reason};
-use work_desk::Desk;
+use work_desk::{Desk, RETRY};
 use work_timers::Timer;
-
-/// A connection that couldn't be made, or was closed, is tried again after so many milliseconds.
-const RETRY: u64 = 60_000;
 
 impl Peers {
     /// Begins a connection with each peer to which this node is to open one.

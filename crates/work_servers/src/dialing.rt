@@ -5,11 +5,8 @@ use crate::standing::{Standing, down_entry};
 use bnc_ports::{Dial, Event, Port, Reason};
 use byte_text::{NoMemory, Text};
 use upstream_session::{UpEffect, Upstream};
-use work_desk::{Desk, Site};
+use work_desk::{Desk, RETRY, Site};
 use work_timers::Timer;
-
-/// A connection that couldn't be made, or was closed, is tried again after so many milliseconds.
-const RETRY: u64 = 60_000;
 
 /// A server that sent nothing for so many milliseconds is given up.
 const QUIET: u64 = 300_000;
