@@ -1,9 +1,10 @@
 -- What the workers of a node begin with: what its configuration says.
 use Rattle.std.specs.Prelude.{ℕ, List, map}
 use Rattle.gossip_link.specs.Handshake.{Terms}
-use Rattle.node_config.specs.Beginnings.{names_of}
+use Rattle.gossip_link.specs.declared.terms.PeerTerms.{PeerTerms}
 use Rattle.node_config.specs.declared.config.Config.{Config}
 use Rattle.node_config.specs.declared.entries.Network.{Network}
+use Rattle.node_config.specs.declared.entries.Peer.{Peer}
 use Rattle.upstream_session.specs.declared.config.Config as session
 
 -- the session with a network's server: with its account, its names and its channels
@@ -20,10 +21,14 @@ session_of n = record {
 abbrev pub sessions_of : List Network → List session.Config
 sessions_of networks = map session_of networks
 
+-- what is said to a peer: the hello in its version
+abbrev pub peer_terms_of : Peer → PeerTerms
+peer_terms_of p = record { name = p.name; version = p.version }
+
 -- the shared word, the node in this incarnation, and its peers in their order
 abbrev pub terms_of : Config → ℕ → Terms
 terms_of config incarnation = record {
   word = config.peer_word;
   me = record { node = config.node; incarnation = incarnation };
-  peers = names_of config.peers.items;
+  peers = map peer_terms_of config.peers.items;
 }

@@ -1,5 +1,5 @@
 //! What each worker begins with.
-ghost use Rattle.std.specs.Prelude.{◌≡◌, IfOk};
+ghost use Rattle.std.specs.Prelude.{◌≡◌, IfOk, map};
 ghost use Rattle.bnc_serve.specs.Stations as spec;
 ghost use Rattle.node_config.specs.Beginnings.{directory_of, names_of};
 
@@ -7,8 +7,8 @@ use attach::Attachment;
 use bnc_ports::Lobby;
 use bnc_work::Station;
 use byte_text::{NoMemory, Text};
-use gossip_link::Terms;
-use node_config::{Config, Network};
+use gossip_link::{PeerTerms, Terms};
+use node_config::{Config, Network, Peer};
 use peer_lines::{Life, LinkFault, SharedWord};
 use std::alloc::Global;
 use upstream_session as upstream;
@@ -69,12 +69,35 @@ fn word_of(alloc: Global, word: &SharedWord) -> Result<SharedWord, NoMemory>
     }
 }
 
+fn peer_terms_of(alloc: Global, peer: &Peer) -> Result<PeerTerms, NoMemory>
+    ensures { IfOk result (λ terms. terms ≡ spec.peer_terms_of peer.now) }
+{
+    let name = peer.name.try_clone(alloc)?;
+    Ok(PeerTerms {
+        name,
+        version: peer.version,
+    })
+}
+
+fn all_peer_terms_of(alloc: Global, peers: &[Peer]) -> Result<Vec<PeerTerms>, NoMemory>
+    ensures { IfOk result (λ all. all.items ≡ map spec.peer_terms_of peers.now) }
+{
+    let mut all = Vec::new(alloc);
+    for peer in peers {
+        let terms = peer_terms_of(alloc, peer)?;
+        if all.push(terms).is_err() {
+            return Err(NoMemory);
+        }
+    }
+    Ok(all)
+}
+
 fn terms_of(alloc: Global, config: &Config, incarnation: u64) -> Result<Terms, NoMemory>
     ensures { IfOk result (λ terms. terms ≡ spec.terms_of config.now incarnation) }
 {
     let word = word_of(alloc, &config.peer_word)?;
     let me = Life::new(config.node.try_clone(alloc)?, incarnation);
-    let peers = config.peer_names(alloc)?;
+    let peers = all_peer_terms_of(alloc, &config.peers)?;
     Ok(Terms::new(word, me, peers))
 }
 
