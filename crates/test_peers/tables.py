@@ -53,8 +53,8 @@ def shared_word(f):
     return 1 <= len(f) <= 64 and plain(f)
 
 
-def literal(word):
-    return lambda f: f == word
+def version(f):
+    return f in (b"1", b"2")
 
 
 moment = number(GREATEST_MOMENT)
@@ -64,7 +64,7 @@ LIVES = [node, count, node, count]
 
 SHAPES = {
     b"W": [shared_word],
-    b"H": [literal(b"1"), node, count],
+    b"H": [version, node, count],
     b"D": LIVES + [count, count, number(256)],
     b"A": LIVES + [count],
 }
@@ -119,6 +119,7 @@ PACKET = [
     b"C MARK demo net #a 1001",
     b"C FLOOR demo net #a 999",
     b"A n2 3 n1 12 5",
+    b"H 2 n1 1",
 ]
 PUT = [0, 10, 13, 32, 255] + [ord(c) for c in "07zZ:*"]
 
@@ -194,11 +195,15 @@ def limit_lines():
     for source, to in (("bob!b@h", "#a"), ("s" * 255, "#" * 200)):
         for more in (0, 1):
             yield post(source=source, to=to, body="b" * (longest_body(source, to) + more))
+    for version_text in ("", "0", "1", "2", "3", "9", "00", "01", "02", "10", "11", "12", "20", "21", "22", "+1", "-1",
+                         "+2", "1.0", "2.", "0x2", "0b1", "*", "1_", "a", "n1", str(2 ** 8 + 1), str(2 ** 8 + 2),
+                         str(2 ** 32 + 1), str(2 ** 64 + 1), str(2 ** 64 + 2)):
+        yield f"H {version_text} n1 1"
     for number in ("00", "01", "+1", "-1", "1.0", "0x1", "1_0", "1e1"):
         yield f"H 1 n1 {number}"
         yield f"C MARK demo net #a {number}"
         yield f"D n1 1 n2 1 0 2 {number}"
-    for other in ("", " ", "W", "W ", "H", "H 1", "H 1 n1", "H 2 n1 1", "H 0 n1 1", "H 1 n1 1 1", "h 1 n1 1", "D",
+    for other in ("", " ", "W", "W ", "H", "H 1", "H 2", "H 1 n1", "H 2 n1", "H n1 1", "H 1 n1 1 1", "H 2 n1 1 1", "H 1 2 n1 1", "h 1 n1 1", "D",
                   "D n1 1 n2 1 0 2", "D n1 1 n2 1 0 2 2 2", "A n1 1 n2 1", "A n1 1 n2 1 0 0", "C", "C POST", "C MARK",
                   "C PART demo net #a 1", "C mark demo net #a 1", "C MARK demo net #A 1", "C MARK demo net #a 1 ",
                   "C MARK demo net  1", "C REDACT demo net #a m1", "C REDACT demo net #a m1 **", "C FLOOR demo net * 1",
@@ -224,7 +229,7 @@ def head(count):
     return f"D n1 1 n2 1 0 300 {count}"
 
 
-HELLO, ACK, WORD = "H 1 n1 1", "A n2 1 n1 1 5", "W green"
+HELLO, ACK, WORD = "H 2 n1 1", "A n2 1 n1 1 5", "W green"
 
 CONNECTIONS = {
     "words, hellos and acknowledgements arrive by themselves": [WORD, HELLO, ACK, WORD],
@@ -284,7 +289,7 @@ class Node:
         self.missing, self.end = 0, None
 
     def greeting(self):
-        return [WORD, f"H 1 {self.me} 1"]
+        return [WORD, f"H 2 {self.me} 1"]
 
     def next_packet(self):
         if not self.is_known or not self.is_due or self.under_way is not None:
@@ -312,9 +317,8 @@ class Node:
 
     def hear(self, line, greets):
         words, sent = line.split(" "), []
-        if words[0] == "W" and greets:
-            sent = self.greeting()
-        elif words[0] == "H":
+        if words[0] == "H":
+            sent = self.greeting() if greets else []
             self.is_known = self.is_due = True
         elif words[0] == "D":
             self.end, self.missing = words[6], int(words[7])

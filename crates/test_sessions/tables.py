@@ -16,13 +16,18 @@ def tagged(tags, line):
     return ("@" + ";".join(tags) + " " if tags else "") + line
 
 
-def answers(held, reference):
+def record_tags(held, own):
+    """The tags of the record m1, which has some of its own."""
+    tags = ["msgid=m1"] if held & MESSAGE_TAGS else []
+    tags += [f"time={TIME}"] if held & SERVER_TIME else []
+    return tags + (own if held & MESSAGE_TAGS else [])
+
+
+def answers(held, reference, own=()):
     """What each of the four questions is answered, a list of lines for each."""
     batch = [f"batch=r{reference}"] if held & BATCH else []
-    record = ["msgid=m1"] if held & MESSAGE_TAGS else []
-    record += [f"time={TIME}"] if held & SERVER_TIME else []
     for kind, line in [
-        ("chathistory #a", tagged(batch + record, ":bob!b@h PRIVMSG #a :hi")),
+        ("chathistory #a", tagged(batch + record_tags(held, list(own)), ":bob!b@h PRIVMSG #a :hi")),
         ("draft/chathistory-targets", tagged(batch, f":bnc.example CHATHISTORY TARGETS #a {TIME}")),
     ]:
         if not held & CHATHISTORY:
@@ -39,17 +44,19 @@ def answers(held, reference):
 
 
 def told():
-    """The lines of all sets, and those of the session that has come to the last number."""
+    """The lines of all sets, those of the session that has come to the last number, and those of a record with a tag."""
     for held in range(128):
         yield f"set {held}"
         for lines in answers(held, 1):
             yield from lines
-        live = ["msgid=m1"] if held & MESSAGE_TAGS else []
-        live += [f"time={TIME}"] if held & SERVER_TIME else []
-        yield tagged(live, ":bob!b@h PRIVMSG #a :hi")
+        yield tagged(record_tags(held, []), ":bob!b@h PRIVMSG #a :hi")
     for lines in answers(127, 4294967295):
         yield from lines
         yield "next 1" if lines[-1] == "Batch" else "next 4294967295"
+    for held in [127, 63, 95, 34, 2]:
+        yield f"tagged {held}"
+        yield from next(answers(held, 1, ["+x=1"]))
+        yield tagged(record_tags(held, ["+x=1"]), ":bob!b@h PRIVMSG #a :hi")
 
 
 with open(PATH, encoding="utf-8", newline="") as stored:

@@ -1,8 +1,11 @@
-//! Tags that are read, and their values.
+//! Tags that are read, and their values, and what is kept of them.
 use crate::spelling::{tell_all, tell_words};
 use anyhow::Error;
-use irc_tags::{Tags, find_tag, read_tags, read_value, write_value};
+use irc_tags::{
+    Tags, find_tag, is_client_only_text, read_tags, read_value, write_client_only, write_value,
+};
 use std::alloc::{AllocError, Global};
+use test_devices::Sink;
 
 /// Whether the look-up of a key in tag data gives that value, or none.
 fn is_found(
@@ -55,8 +58,8 @@ fn tell_read(alloc: Global, data: &[u8], tags: &Tags, out: &mut Vec<u8>) -> Resu
     Ok(())
 }
 
-/// `tags` reads tag data. `client-tags` keeps the tags that only clients send.
-pub fn tell_tags(
+/// Tells what comes of the tags that are read: the tags, or the fault.
+fn tell_read_tags(
     alloc: Global,
     data: &[u8],
     is_client_only: bool,
@@ -71,6 +74,50 @@ pub fn tell_tags(
         }
         Err(fault) => tell_words(&fault, out),
     }
+}
+
+/// Whether a writer that fails after any number of bytes, up to a hundred, gets these, and only then is the answer a fault.
+fn is_kept_anywhere(alloc: Global, data: &[u8], text: &[u8]) -> bool {
+    for bytes in 0..=text.len().min(100) {
+        let mut sink = Sink::new(alloc)
+            .at_most(1)
+            .interrupted()
+            .failing_after(bytes);
+        let is_ok = write_client_only(data, &mut sink).is_ok();
+        if is_ok != (bytes == text.len()) || text.get(..bytes) != Some(sink.bytes()) {
+            return false;
+        }
+    }
+    true
+}
+
+/// What is written of the client-only tags, in brackets. `same` follows where the data is client-only text as it stands,
+/// and `!` where a writer that fails gets something else.
+fn tell_kept(alloc: Global, data: &[u8], out: &mut Vec<u8>) -> Result<(), Error> {
+    let mut text = Vec::new(alloc);
+    write_client_only(data, &mut text)?;
+    tell_all(&[b" [", text.as_slice(), b"]"], out)?;
+    if is_client_only_text(data) {
+        out.extend_from_slice(b" same")?;
+    }
+    if !is_kept_anywhere(alloc, data, text.as_slice()) {
+        out.push(b'!')?;
+    }
+    Ok(())
+}
+
+/// `tags` reads tag data. `client-tags` keeps the tags that only clients send, in a list and as they are written.
+pub fn tell_tags(
+    alloc: Global,
+    data: &[u8],
+    is_client_only: bool,
+    out: &mut Vec<u8>,
+) -> Result<(), Error> {
+    tell_read_tags(alloc, data, is_client_only, out)?;
+    if is_client_only {
+        tell_kept(alloc, data, out)?;
+    }
+    Ok(())
 }
 
 /// `value` reads a value.

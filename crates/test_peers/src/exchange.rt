@@ -48,7 +48,7 @@ fn carry(
 ) -> Result<(), Error> {
     let mut to_acceptor = Vec::new(alloc);
     let mut to_opener = Vec::new(alloc);
-    opener.connect(Side::Opener, &mut to_acceptor)?;
+    opener.connect(Side::Opener(1), &mut to_acceptor)?;
     acceptor.connect(Side::Acceptor, &mut to_opener)?;
     for _ in 0..MOST_ROUNDS {
         deliver(

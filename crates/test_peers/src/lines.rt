@@ -12,7 +12,7 @@ use std::io;
 fn line_letter(line: &Result<PeerLine, LinkFault>) -> u8 {
     match line {
         Ok(PeerLine::Word(_)) => b'W',
-        Ok(PeerLine::Hello(_)) => b'H',
+        Ok(PeerLine::Hello(_, _)) => b'H',
         Ok(PeerLine::Head(_)) => b'D',
         Ok(PeerLine::Change(_)) => b'C',
         Ok(PeerLine::Ack(_)) => b'A',
@@ -26,7 +26,7 @@ fn arrival_letter(heard: &Result<Option<Arrived>, LinkFault>) -> u8 {
     match heard {
         Ok(None) => b'.',
         Ok(Some(Arrived::Word(_))) => b'W',
-        Ok(Some(Arrived::Hello(_))) => b'H',
+        Ok(Some(Arrived::Hello(_, _))) => b'H',
         Ok(Some(Arrived::Packet(_))) => b'P',
         Ok(Some(Arrived::Ack(_))) => b'A',
         Err(LinkFault::BadForm) => b'-',
@@ -141,7 +141,7 @@ pub fn tell_changed(
 fn write_arrived(arrived: &Arrived, out: &mut Vec<u8>) -> io::Result<()> {
     match arrived {
         Arrived::Word(word) => write_word(word.as_bytes(), out),
-        Arrived::Hello(life) => write_hello(life, out),
+        Arrived::Hello(life, version) => write_hello(life, *version, out),
         Arrived::Packet(packet) => write_packet(packet, out),
         Arrived::Ack(ack) => write_ack(ack, out),
     }

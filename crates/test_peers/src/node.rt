@@ -3,8 +3,8 @@ use anyhow::Error;
 use chat_state::State;
 use gossip_delta::read_change;
 use gossip_link::{
-    Life, Link, LinkFault, NodeName, Packet, PeerLine, SharedWord, Side, Terms, read_peer,
-    write_packet,
+    Life, Link, LinkFault, NodeName, Packet, PeerLine, PeerTerms, SharedWord, Side, Terms, Version,
+    read_peer, write_packet,
 };
 use peer_session::{Arrived, Heard, Outcome, PeerSession};
 use std::alloc::Global;
@@ -26,20 +26,17 @@ fn life_of(alloc: Global, name: &[u8], incarnation: u64) -> Result<Life, LinkFau
     Ok(Life::new(NodeName::new(alloc, name)?, incarnation))
 }
 
-const NAMES: [&[u8]; 3] = [b"n1", b"n2", b"n3"];
-
-fn push_names(alloc: Global, names: &mut Vec<NodeName>) -> Result<(), Error> {
-    for name in NAMES {
-        let name = NodeName::new(alloc, name)?;
-        names.push(name)?;
-    }
-    Ok(())
+fn peer_of(alloc: Global, name: &[u8], version: Version) -> Result<PeerTerms, LinkFault> {
+    let name = NodeName::new(alloc, name)?;
+    Ok(PeerTerms { name, version })
 }
 
-// The terms of a node with three peers, itself among them.
+// The terms of a node with three peers, itself among them. n3 is told version 1.
 fn terms_of(alloc: Global, me: &[u8], incarnation: u64) -> Result<Terms, Error> {
     let mut peers = Vec::new(alloc);
-    push_names(alloc, &mut peers)?;
+    peers.push(peer_of(alloc, b"n1", Version::Two)?)?;
+    peers.push(peer_of(alloc, b"n2", Version::Two)?)?;
+    peers.push(peer_of(alloc, b"n3", Version::One)?)?;
     let word = SharedWord::new(alloc, b"green")?;
     Ok(Terms::new(word, life_of(alloc, me, incarnation)?, peers))
 }
@@ -69,7 +66,7 @@ fn ack_word(answer: Result<(), LinkFault>) -> &'static [u8] {
 
 fn link_word(link: &mut Link, line: &PeerLine) -> &'static [u8] {
     match line {
-        PeerLine::Hello(life) => hello_word(link.hello(life)),
+        PeerLine::Hello(life, version) => hello_word(link.hello(life, *version)),
         PeerLine::Ack(ack) => ack_word(link.take_ack(ack)),
         _ => b"no line for a link",
     }

@@ -1,6 +1,7 @@
 //! One end of a connection, played line by line. A line of a script is
 //!
-//!     open, or accept     a new connection
+//!     open, or accept     a new connection, opened to n2 or by the peer
+//!     open place          opened to the peer at that place
 //!     < line              of the peer; none behind it: a line that was too long
 //!     + change            is put and published
 //!     . change            is put
@@ -10,8 +11,8 @@
 //!     make                the link alone makes a packet
 //!
 //! A message of the peer is `known`, `taken`, `taken in part` or `ignored`. A line that is sent stands behind `> `, and
-//! `close` is said where the connection is to be closed. The node is n1 in its incarnation 7, with the peers n2 and n3 and
-//! the shared word `green`.
+//! `close` is said where the connection is to be closed. The node is n1 in its incarnation 7, with the shared word `green`,
+//! and with the peers n2, at place 1, and n3, at place 2, which is told version 1.
 use crate::node::Node;
 use anyhow::Error;
 use peer_session::Side;
@@ -72,6 +73,7 @@ fn turn(
             node.publish(alloc, sent)?;
         }
         "." => node.put(alloc, text.as_bytes())?,
+        "open" => node.connect(Side::Opener(text.parse::<usize>()?), sent)?,
         "@" if node.tick(alloc, text.parse::<u64>()?, sent)? => return Ok(b"close"),
         _ => {}
     }
@@ -86,7 +88,7 @@ fn short_turn(
     sent: &mut Vec<u8>,
 ) -> Result<&'static [u8], Error> {
     match line {
-        "open" => node.connect(Side::Opener, sent)?,
+        "open" => node.connect(Side::Opener(1), sent)?,
         "accept" => node.connect(Side::Acceptor, sent)?,
         "<" => return node.hear(alloc, None, sent),
         "make" => node.ask_packet(alloc, sent)?,

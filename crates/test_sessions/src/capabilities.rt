@@ -1,7 +1,8 @@
 //! For each set of capabilities, what a session that holds it is answered to a question on a target with one record, to one
 //! on the targets, to one on its marker, and to a line that is no question; and how a record is told it as it comes. Then
-//! the answers and the next batch's number of a session that has come to the last number.
-use crate::facts::{facts_of, record_of, state_of};
+//! the answers and the next batch's number of a session that has come to the last number, and for some sets the page and
+//! the live line of a record with a client-only tag.
+use crate::facts::{facts_of, record_of, state_of, state_with, tagged_record};
 use anyhow::Error;
 use chat_batch::{Answered, Facts, answer, next_reference, write_live};
 use chat_state::State;
@@ -23,8 +24,10 @@ fn set_of(bits: u32) -> CapSet {
     }
 }
 
+const PAGE: &str = "CHATHISTORY LATEST #a * 5";
+
 const QUESTIONS: [&str; 4] = [
-    "CHATHISTORY LATEST #a * 5",
+    PAGE,
     "CHATHISTORY TARGETS timestamp=1970-01-01T00:00:00.000Z timestamp=1970-01-01T00:00:09.000Z 5",
     "MARKREAD #a",
     "PRIVMSG #a :x",
@@ -75,6 +78,21 @@ fn tell_last(alloc: Global, out: &mut Vec<u8>, state: &State) -> Result<(), Erro
     Ok(())
 }
 
+/// All capabilities; all but `server-time`; all but `message-tags`; `draft/chathistory` with `message-tags`; and alone.
+const TAGGED_SETS: [u32; 5] = [127, 63, 95, 34, 2];
+
+/// Tells the page and the live line of a record with a client-only tag, for a session with the set of a number.
+fn tell_tagged(alloc: Global, out: &mut Vec<u8>, bits: u32) -> Result<(), Error> {
+    let caps = set_of(bits);
+    let facts = facts_of(alloc, b"demo", b"bnc.example", caps, 1)?;
+    let state = state_with(alloc, tagged_record(alloc)?)?;
+    write!(out, "tagged {bits}\n")?;
+    let _ = tell_answer(alloc, out, &state, &facts, PAGE)?;
+    let record = tagged_record(alloc)?;
+    write_live(&record, &caps, out)?;
+    Ok(())
+}
+
 /// The answers, in rows.
 pub fn told(alloc: Global) -> Result<String, Error> {
     let state = state_of(alloc)?;
@@ -83,6 +101,9 @@ pub fn told(alloc: Global) -> Result<String, Error> {
         tell_set(alloc, &mut out, &state, bits)?;
     }
     tell_last(alloc, &mut out, &state)?;
+    for bits in TAGGED_SETS {
+        tell_tagged(alloc, &mut out, bits)?;
+    }
     let text = String::from_utf8_lossy(alloc, &out)?;
     Ok(text.replace(alloc, "\r\n", "\n")?)
 }

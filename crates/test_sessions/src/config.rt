@@ -41,6 +41,9 @@ fn tell_peer(out: &mut Vec<u8>, peer: &Peer) -> Result<(), Error> {
     out.extend_from_slice(b"peer ")?;
     out.extend_from_slice(peer.name.as_bytes())?;
     write!(out, " {}\n", peer.address)?;
+    out.extend_from_slice(b"version ")?;
+    out.extend_from_slice(peer.name.as_bytes())?;
+    write!(out, " {}\n", peer.version.number())?;
     Ok(())
 }
 

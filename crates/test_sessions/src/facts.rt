@@ -50,12 +50,24 @@ pub fn record_of(alloc: Global, source: &[u8]) -> Result<Record, Error> {
     Ok(Record::new(alloc, buffer, id, at, message)?)
 }
 
-/// A state that shows the message m1 of bob, and nothing else.
-pub fn state_of(alloc: Global) -> Result<State, Error> {
-    let record = record_of(alloc, b"bob!b@h")?;
+/// The message m1 of bob with the client-only tag `+x=1`.
+pub fn tagged_record(alloc: Global) -> Result<Record, Error> {
+    let plain = record_of(alloc, b"bob!b@h")?;
+    let buffer = Buffer::new(alloc, b"demo", b"net", b"#a")?;
+    let id = MsgId::new(alloc, b"m1")?;
+    Ok(Record::new_tagged(alloc, buffer, id, plain.at(), plain.message(), b"+x=1")?)
+}
+
+/// A state that shows a record, and nothing else.
+pub fn state_with(alloc: Global, record: Record) -> Result<State, Error> {
     let mut state = State::new(alloc);
     let _ = state.absorb(Change::Post(record))?;
     Ok(state)
+}
+
+/// A state that shows the message m1 of bob, and nothing else.
+pub fn state_of(alloc: Global) -> Result<State, Error> {
+    state_with(alloc, record_of(alloc, b"bob!b@h")?)
 }
 
 const CONFIG: &str = "\

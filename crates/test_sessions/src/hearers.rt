@@ -1,10 +1,11 @@
 //! Who hears of a message or of a line, among sessions of the network `net` as `al`. A row is one of
 //!
 //!     message source account capability yes|no
-//!     line account network all|capability yes|no
+//!     line account network all|capability capability yes|no
 //!
 //! The first is of a message of that source, and a session of that account that holds that capability or none; the second
-//! of a line for all or for those that hold a capability, and a session of `demo` that holds `echo-message`.
+//! of a line of that account and that network, for all or for those that hold a capability, and a session of `demo` that
+//! holds the capability behind it or none.
 use crate::facts::{facts_of, record_of};
 use anyhow::Error;
 use client_session::{hears_line, hears_message};
@@ -12,23 +13,31 @@ use irc_caps::{CapSet, Capability};
 use std::alloc::Global;
 use upstream_session::{Recipients, is_from};
 
-fn hears_of_message(alloc: Global, source: &str, account: &str, held: &str) -> Result<bool, Error> {
-    let caps = match Capability::named(held.as_bytes()) {
+fn caps_of(held: &str) -> CapSet {
+    match Capability::named(held.as_bytes()) {
         Some(capability) => CapSet::none().with(capability, true),
         None => CapSet::none(),
-    };
+    }
+}
+
+fn hears_of_message(alloc: Global, source: &str, account: &str, held: &str) -> Result<bool, Error> {
     let record = record_of(alloc, source.as_bytes())?;
-    let facts = facts_of(alloc, account.as_bytes(), b"~", caps, 1)?;
+    let facts = facts_of(alloc, account.as_bytes(), b"~", caps_of(held), 1)?;
     Ok(hears_message(is_from(b"al", &record), &record, &facts))
 }
 
-fn hears_of_line(alloc: Global, account: &str, network: &str, to: &str) -> Result<bool, Error> {
+fn hears_of_line(
+    alloc: Global,
+    account: &str,
+    network: &str,
+    to: &str,
+    held: &str,
+) -> Result<bool, Error> {
     let to = match Capability::named(to.as_bytes()) {
         Some(capability) => Recipients::Holding(capability),
         None => Recipients::All,
     };
-    let caps = CapSet::none().with(Capability::EchoMessage, true);
-    let facts = facts_of(alloc, b"demo", b"~", caps, 1)?;
+    let facts = facts_of(alloc, b"demo", b"~", caps_of(held), 1)?;
     Ok(hears_line(account.as_bytes(), network.as_bytes(), to, &facts))
 }
 
@@ -39,10 +48,13 @@ pub fn is_hearing(alloc: Global, row: &str) -> Result<bool, Error> {
     let first = words.next().unwrap_or("");
     let second = words.next().unwrap_or("");
     let third = words.next().unwrap_or("");
-    let wanted = words.next().unwrap_or("");
     let hears = match kind {
         "message" => hears_of_message(alloc, first, second, third)?,
-        _ => hears_of_line(alloc, first, second, third)?,
+        _ => {
+            let held = words.next().unwrap_or("");
+            hears_of_line(alloc, first, second, third, held)?
+        }
     };
+    let wanted = words.next().unwrap_or("");
     Ok(wanted == if hears { "yes" } else { "no" })
 }

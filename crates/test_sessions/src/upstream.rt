@@ -1,6 +1,6 @@
 //! Sessions with servers, played line by line:
 //!
-//!     == new|up|echo|redact|last|odd: name of the case
+//!     == new|up|echo|tags|redact|last|odd: name of the case
 //!     < line of the server
 //!     > line of a client
 //!     + line of a client, which comes with CR LF
@@ -11,8 +11,8 @@
 //!
 //! Each line comes at the moment 1000. A session is of the account `demo` with the network `net`, as `al`, in the channels
 //! #a and #b, of the node n1 in its incarnation 7. It is new, or the server has welcomed it (`up`), having acknowledged
-//! `echo-message` (`echo`) or `draft/message-redaction` (`redact`); one has used up its serial numbers (`last`), and one is
-//! of a node whose name can't stand in an id (`odd`).
+//! `echo-message` (`echo`), `message-tags` (`tags`) or `draft/message-redaction` (`redact`); one has used up its serial
+//! numbers (`last`), and one is of a node whose name can't stand in an id (`odd`).
 use crate::facts::{config_of, moment};
 use crate::telling::{tell_next, tell_row, without_ending};
 use anyhow::Error;
@@ -65,6 +65,7 @@ fn session_of(alloc: Global, setting: &str) -> Result<Upstream, Error> {
     let lines = match setting {
         "new" => "",
         "echo" => "CAP al ACK :echo-message\n:irc.example 001 al :Welcome",
+        "tags" => "CAP al ACK :message-tags\n:irc.example 001 al :Welcome",
         "redact" => "CAP al ACK :draft/message-redaction\n:irc.example 001 al :Welcome",
         _ => ":irc.example 001 al :Welcome",
     };

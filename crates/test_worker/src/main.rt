@@ -10,8 +10,8 @@
 //! The second line may be missing, and each of its parts. At first the node n1, in its incarnation 7, holds so many posts of
 //! `#a`, of the network `net` of the account `demo`: m0, m1 and so on, a second apart from the beginning of 1970. It has the
 //! first of the networks demo/net, demo/two and eve/net, the peer n0, four places for clients, one worker and an open gate,
-//! and the clock is 1,000 seconds after 1970 began. `worker 1` is the second of two workers. With `shut` the gate lets
-//! nothing through, and with `alone` no connection can be begun.
+//! and the clock is 1,000 seconds after 1970 began. A peer of the name n9 is told version 1. `worker 1` is the second of two
+//! workers. With `shut` the gate lets nothing through, and with `alone` no connection can be begun.
 //!
 //! Acts begin a line:
 //!

@@ -6,7 +6,7 @@ use bnc_work::Station;
 use byte_text::Text;
 use chat_change::{Buffer, Change, Kind, Message, Moment, MsgId, Record};
 use client_directory::{Account, Directory, Entry, Network};
-use gossip_link::{Life, NodeName, SharedWord, Terms};
+use gossip_link::{Life, NodeName, PeerTerms, SharedWord, Terms, Version};
 use std::alloc::Global;
 use upstream_session::{Channels, Config};
 
@@ -74,11 +74,26 @@ fn names_in(alloc: Global, names: &str) -> Option<Vec<NodeName>> {
     Some(all)
 }
 
+// The terms with the peers of these names. Each but n9 is told the own version.
+fn peers_in(alloc: Global, names: &str) -> Option<Vec<PeerTerms>> {
+    let mut all = Vec::new(alloc);
+    for name in names.split_whitespace() {
+        let version = if name == "n9" {
+            Version::One
+        } else {
+            Version::OWN
+        };
+        let name = node_name(alloc, name)?;
+        all.push(PeerTerms { name, version }).ok()?;
+    }
+    Some(all)
+}
+
 // The terms of the node n1 in its incarnation 7.
 fn terms_of(alloc: Global, peers: &str) -> Option<Terms> {
     let word = SharedWord::new(alloc, b"green").ok()?;
     let me = Life::new(node_name(alloc, "n1")?, 7);
-    Some(Terms::new(word, me, names_in(alloc, peers)?))
+    Some(Terms::new(word, me, peers_in(alloc, peers)?))
 }
 
 /// What a worker begins with, over the lobby, which is taken.
