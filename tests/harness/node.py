@@ -49,7 +49,7 @@ class Node:
              "channels": list(self.channels)}
             for name, address in zip(self.networks, self.servers)
         ]
-        peers = [{"name": name, "address": spelled(address)} for name, address in self.known]
+        peers = [{"name": name, "address": spelled(address), **dict(more)} for name, address, *more in self.known]
         return configuration(top, peers, [{"name": self.account, "secret": self.secret}], networks)
 
     def begin(self):

@@ -9,24 +9,29 @@ from harness.failure import Failed
 class Peer(Connection):
     """A node of the cluster, by its name and its incarnation."""
 
-    def __init__(self, fixture, it, name, incarnation=5):
+    def __init__(self, fixture, it, name, incarnation=5, version=2, told=2):
+        """It says hello in that version, and is told the version that the node's configuration has for it."""
         super().__init__(fixture, it, f"the peer {name}")
         self.life = f"{name} {incarnation}"
+        self.version, self.told = version, told
         self.other = None
 
     @classmethod
-    def dial(cls, node, name="n0", incarnation=5):
+    def dial(cls, node, name="n0", incarnation=5, **how):
         """Connects to the node."""
-        return cls(node.fixture, connect(node.fixture, node.peers), name, incarnation)
+        return cls(node.fixture, connect(node.fixture, node.peers), name, incarnation, **how)
 
     def greet(self):
         """Says the word and the hello first, and hears those of the node, whose life is known then."""
-        self.say("W green", f"H 1 {self.life}")
+        self.say("W green", self.hello())
         self.hear("W green")
         return self.hear_hello()
 
+    def hello(self):
+        return f"H {self.version} {self.life}"
+
     def hear_hello(self):
-        found = re.fullmatch(r"H 1 (\w+ [0-9]+)", self.line("a hello"))
+        found = re.fullmatch(rf"H {self.told} (\w+ [0-9]+)", self.line("a hello"))
         if not found:
             raise Failed(f"{self.name}: expected a hello")
         self.other = found[1]

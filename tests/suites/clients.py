@@ -83,7 +83,9 @@ def what_is_answered_after_registration(fixture):
         ("REDACT #a", "FAIL REDACT NEED_MORE_PARAMS :Missing parameters"),
         ("REDACT a,b m1", "FAIL REDACT INVALID_TARGET :Invalid target"),
         ("REDACT #a m1", "FAIL REDACT UNKNOWN_MSGID #a :No such message"),
-        ("TAGMSG #a", None), ("PONG x", None),
+        ("TAGMSG", "NOTICE al :Not connected to net"),
+        ("@+typing=active TAGMSG #a", "NOTICE al :Not connected to net"),
+        ("PONG x", None),
     ):
         client.say(line)
         if answer:

@@ -593,16 +593,12 @@ def the_greatest_numbers_between_nodes(fixture):
     peer.hear_packet(0, 1, mark)
     peer.close()
     node.wait_for("peer down: n0")
-    for lines in (
-        [f"H 1 n0 {most + 1}"],
-        ["H 1 n0 5", f"D n0 {most + 1} {peer.other} 0 1 1"],
-        ["H 1 n0 5", f"D n0 5 {peer.other} {most} {most + 1} 1"],
-    ):
-        other = Peer.dial(node)
-        other.say("W green")
-        other.hear("W green")
-        other.hear_hello()
-        other.say(*lines)
+    other = Peer.dial(node)
+    other.say("W green", f"H 2 n0 {most + 1}")
+    other.hear_end()
+    for head in (f"D n0 {most + 1} {peer.other} 0 1 1", f"D n0 5 {peer.other} {most} {most + 1} 1"):
+        other = Peer.dial(node).greet()
+        other.say(head)
         other.hear_end()
 
 
@@ -617,13 +613,10 @@ def the_longest_word_and_names_of_nodes(fixture):
         stranger.say(f"W {wrong}")
         stranger.hear_end()
     stranger = Peer.dial(node, other)
-    stranger.say(f"W {word}")
-    stranger.hear(f"W {word}")
-    stranger.hear_hello()
-    stranger.say(f"H 1 {other}m 5")
+    stranger.say(f"W {word}", f"H 2 {other}m 5")
     stranger.hear_end()
     peer = Peer.dial(node, other)
-    peer.say(f"W {word}", f"H 1 {other} 5")
+    peer.say(f"W {word}", f"H 2 {other} 5")
     peer.hear(f"W {word}")
     peer.hear_hello()
     session = server.register()

@@ -28,59 +28,54 @@ def stranger(node):
 def a_peer_is_greeted(fixture):
     """The side that opened the connection says its word and its hello first."""
     node = begun(fixture)
-    peer = stranger(node)
-    peer.say("W green")
-    peer.hear("W green")
-    peer.hear_hello()
-    peer.say("H 1 n0 5")
+    Peer.dial(node).greet()
     node.wait_for("peer greeted: n0")
 
 
-# What closes a connection before its hello, and how much of the node's word was told by then.
+# What closes a connection before the hello of a peer. By then the node has said nothing.
 CLOSING = (
-    ("a wrong word", ["W red"], False),
-    ("a wrong word and then the right one", ["W red", "W green"], False),
-    ("a part of the word", ["W gree"], False),
-    ("a word that goes on", ["W greens"], False),
-    ("the word in capitals", ["W GREEN"], False),
-    ("the word behind two spaces", ["W  green"], False),
-    ("an empty line", [""], False),
-    ("a line of a client", ["NICK al"], False),
-    ("a hello without a word", ["H 1 n0 5"], False),
-    ("a line that is too long", ["W " + "g" * 9000], False),
-    ("a node that is no peer", ["W green", "H 1 n9 5"], True),
-    ("the node's own name", ["W green", "H 1 n1 5"], True),
-    ("another version", ["W green", "H 2 n0 5"], True),
-    ("an incarnation with a leading zero", ["W green", "H 1 n0 05"], True),
-    ("a second word in place of a hello", ["W green", "W green"], True),
-    ("garbage in place of a hello", ["W green", "\x01\x02"], True),
+    ("a wrong word", ["W red"]),
+    ("a wrong word and then the right one", ["W red", "W green"]),
+    ("a part of the word", ["W gree"]),
+    ("a word that goes on", ["W greens"]),
+    ("the word in capitals", ["W GREEN"]),
+    ("the word behind two spaces", ["W  green"]),
+    ("an empty line", [""]),
+    ("a line of a client", ["NICK al"]),
+    ("a hello without a word", ["H 2 n0 5"]),
+    ("a line that is too long", ["W " + "g" * 9000]),
+    ("a node that is no peer", ["W green", "H 2 n9 5"]),
+    ("the node's own name", ["W green", "H 2 n1 5"]),
+    ("a version that there isn't", ["W green", "H 3 n0 5"]),
+    ("version 0", ["W green", "H 0 n0 5"]),
+    ("a version with a leading zero", ["W green", "H 02 n0 5"]),
+    ("a hello without a version", ["W green", "H n0 5"]),
+    ("an incarnation with a leading zero", ["W green", "H 2 n0 05"]),
+    ("a second word in place of a hello", ["W green", "W green"]),
+    ("garbage in place of a hello", ["W green", "\x01\x02"]),
 )
 
 
-def closes(lines, is_told):
+def closes(lines):
     """A test that the connection is closed by these lines. No stranger is told the word."""
 
     def call(fixture):
         node = begun(fixture)
         peer = stranger(node)
-        peer.say(lines[0])
-        if is_told:
-            peer.hear("W green")
-            peer.hear_hello()
-        peer.say(*lines[1:])
+        peer.say(*lines)
         peer.hear_end()
         Peer.dial(node).greet().close()
 
     return call
 
 
-for name, lines, is_told in CLOSING:
-    add(f"peers: closed by {name}", closes(lines, is_told))
+for name, lines in CLOSING:
+    add(f"peers: closed by {name}", closes(lines))
 
 # What closes a connection after the hello.
 CLOSING_LATER = (
     ("a second word", ["W green"]),
-    ("a hello of another node", ["H 1 n2 5"]),
+    ("a hello of another node", ["H 2 n2 5"]),
     ("a change without a packet", [POST_ONE]),
     ("a line that can't be read", ["X"]),
     ("a packet of no changes", ["D n0 5 n1 1 0 1 0"]),
@@ -112,6 +107,53 @@ def closes_later(lines):
 
 for name, lines in CLOSING_LATER:
     add(f"peers: closed after the hello by {name}", closes_later(lines))
+
+
+@test
+def the_word_alone_is_not_answered(fixture):
+    """The node that was connected to says its own word once it knows from which peer the connection comes."""
+    node = begun(fixture)
+    peer = stranger(node)
+    peer.say("W green")
+    Peer.dial(node).greet().close()
+    peer.say(peer.hello())
+    peer.hear("W green")
+    peer.hear_hello()
+
+
+@test
+def a_peer_of_an_older_version_is_told_nothing_more(fixture):
+    """It is greeted in its own version where the configuration says so. What it brings is taken and acknowledged; it is made no
+    packet, in this life."""
+    node = Node(fixture, peers=[("n0", NOBODY, ("version", 1))], servers=[NOBODY]).begin()
+    peer = Peer.dial(node, version=1, told=1).greet()
+    node.wait_for("peer greeted: n0")
+    peer.give(0, POST_ONE)
+    peer.hear_acknowledged(1)
+    client = node.client().register(f"{PAST} draft/read-marker")
+    client.say("CHATHISTORY LATEST #a * 10", "MARKREAD #a timestamp=1970-01-01T00:00:06.000Z")
+    client.hear(*page(1, "#a", ONE), ":bnc.example MARKREAD #a timestamp=1970-01-01T00:00:06.000Z")
+    # (a later hello of that life in a greater version changes nothing)
+    peer.say("H 2 n0 5")
+    peer.give(1, POST_TWO)
+    peer.hear_acknowledged(2)
+    peer.close()
+    node.wait_for("peer down: n0")
+    newer = Peer.dial(node, incarnation=6, told=1).greet()
+    newer.hear_packet(0, 3, POST_ONE, "C MARK demo net #a 6000", POST_TWO)
+
+
+@test
+def the_hello_bears_the_version_for_the_peer(fixture):
+    """Whichever of the two opened the connection. A peer without the key is told version 2."""
+    first, second = Listener(fixture), Listener(fixture)
+    peers = [("n2", first.address, ("version", 1)), ("n3", second.address), ("n0", NOBODY, ("version", 1))]
+    node = Node(fixture, name="n1", peers=peers).begin()
+    for listener, name, version in ((first, "n2", 1), (second, "n3", 2)):
+        peer = Peer(fixture, listener.accept(f"the peer {name}").socket, name, told=version)
+        peer.hear("W green")
+        peer.hear_hello()
+    Peer.dial(node, told=1).greet()
 
 
 @test
@@ -253,7 +295,7 @@ def the_node_opens_the_connection_to_a_peer_of_a_greater_name(fixture):
     peer = Peer(fixture, listener.accept("the peer n2").socket, "n2")
     peer.hear("W green")
     peer.hear_hello()
-    peer.say("W green", "H 1 n2 5")
+    peer.say("W green", "H 2 n2 5")
     node.wait_for("peer greeted: n2")
     peer.give(0, POST_ONE)
     peer.hear_acknowledged(1)

@@ -8,7 +8,7 @@ from harness.scripts import cases
 
 FILES = (
     "examples", "markers", "pages", "between", "targets", "refusals", "sessions", "lengths", "nodes", "orders", "lines",
-    "questions", "limits", "thousand",
+    "questions", "limits", "thousand", "tags",
 )
 
 

@@ -1,0 +1,242 @@
+"""Client-only tags: kept with their message, passed on, and told to sessions that hold `message-tags` (the IRCv3 specification
+message-tags, "Client-only tags", "Escaping values" and "Size limit"; docs/PROTOCOL.md)."""
+
+from harness.client import page
+from harness.failure import expect
+from harness.node import Node
+from harness.peer import Peer
+from harness.registry import add, test
+from harness.server import Server
+
+NOBODY = ("127.0.0.1", 1)
+OFFERS = "message-tags server-time"
+PAST = "batch draft/chathistory message-tags server-time"
+TIME = "time=2026-11-23T00:00:07.000Z"
+MS = 1795392007000
+TOO_LONG = ":bnc.example 417 al :Input line was too long"
+
+# Client-only tags of a record, or of a client's line.
+MOST = 4094
+
+# Each escape of a value, and none where it isn't needed.
+ESCAPES = r"+e=a\:b\sc\\d\re\nf;+plain=ü,:=x"
+
+
+def begun(fixture, offers=OFFERS, **how):
+    """A node whose network is up, and its session with the server."""
+    server = Server(fixture)
+    node = Node(fixture, servers=[server.address], **how).begin()
+    return node, server, server.register(offers)
+
+
+def shown(tags, text="hi", id="m1"):
+    """A message as a session with all tags is told it."""
+    return f"@msgid={id};{TIME}{';' if tags else ''}{tags} :bob!b@h PRIVMSG #a :{text}"
+
+
+# What a server's tags come to in the record of its line.
+KEPT = (
+    ("one tag", "+r=1", "+r=1"),
+    ("no client-only tag", "account=b;label=7", ""),
+    ("tags that are not client-only", "+r=1;account=b;-x;+y", "+r=1;+y"),
+    ("the last value of a key, in its first place", "+b=2;a=1;+c;+b=3", "+b=3;+c"),
+    ("an empty value", "+y=;+z=\\", "+y;+z"),
+    ("the key + alone", "+;+=x;x", "+=x"),
+    ("tags with an empty key", "=x;;+a", "+a"),
+    ("every escape", ESCAPES, ESCAPES),
+    ("escapes that aren't needed", r"+a=\b\\\x;+b=1\ ", r"+a=b\\x;+b=1"),
+)
+
+
+def keeps(tags, kept):
+    """A test that a message with these tags is told and kept with those."""
+
+    def call(fixture):
+        node, server, session = begun(fixture)
+        knows = node.client("a client with tags").register(PAST)
+        plain = node.client("a plain client").register("server-time")
+        session.say(f"@{tags.rstrip()};msgid=m1;{TIME} :bob!b@h PRIVMSG #a :hi")
+        knows.hear(shown(kept))
+        plain.hear(f"@{TIME} :bob!b@h PRIVMSG #a :hi")
+        knows.say("CHATHISTORY LATEST #a * 10")
+        knows.hear(*page(1, "#a", shown(kept)))
+        late = node.client("a client without tags").register("batch draft/chathistory server-time")
+        late.say("CHATHISTORY LATEST #a * 10")
+        late.hear(*page(1, "#a", f"@{TIME} :bob!b@h PRIVMSG #a :hi"))
+
+    return call
+
+
+for name, tags, kept in KEPT:
+    add(f"tags: kept of {name}", keeps(tags, kept))
+
+
+@test
+def the_most_tags_of_a_record(fixture):
+    """A record has up to 4,094 bytes of client-only tags, whatever the length of its line. With a byte more the message is kept
+    without tags."""
+    node, server, session = begun(fixture)
+    client = node.client().register(PAST)
+    most = "+x=" + "x" * (MOST - 3)
+    body = "b" * (510 - len(":bob!b@h PRIVMSG #a :"))
+    session.say(f"@{most};msgid=m1;{TIME} :bob!b@h PRIVMSG #a :{body}", f"@{most}x;msgid=m2;{TIME} :bob!b@h PRIVMSG #a :{body}")
+    client.hear(shown(most, body), shown("", body, "m2"))
+    client.say("CHATHISTORY LATEST #a * 10")
+    client.hear(*page(1, "#a", shown(most, body), shown("", body, "m2")))
+
+
+@test
+def tags_take_a_detour_over_a_peer(fixture):
+    """A post with tags has a line of its own, which is read back byte for byte."""
+    node, server, session = begun(fixture, peers=[("n0", NOBODY)])
+    peer = Peer.dial(node).greet()
+    session.say(f"@{ESCAPES};msgid=m1;{TIME} :bob!b@h PRIVMSG #a :hi", f"@msgid=m2;{TIME} :bob!b@h PRIVMSG #a :plain")
+    first = f"C TPOST demo net #a m1 {MS} P {ESCAPES} #a bob!b@h :hi"
+    peer.hear_packet(0, 1, first)
+    peer.acknowledge(1)
+    peer.hear_packet(1, 2, f"C POST demo net #a m2 {MS} P #a bob!b@h :plain")
+    other = Node(fixture, servers=[NOBODY], peers=[("n0", NOBODY)]).begin()
+    giver = Peer.dial(other).greet()
+    giver.give(0, first)
+    giver.hear_acknowledged(1)
+    client = other.client().register(PAST)
+    client.say("CHATHISTORY LATEST #a * 10")
+    client.hear(*page(1, "#a", shown(ESCAPES)))
+
+
+# Lines of a post with tags that close a connection between nodes.
+REFUSED = (
+    ("an empty value behind =", "+y="),
+    ("a key without +", "y=1"),
+    ("a key twice", "+x;+x"),
+    ("a byte too many", "+x=" + "x" * (MOST - 2)),
+)
+
+
+def closes(tags):
+    def call(fixture):
+        node = Node(fixture, servers=[NOBODY], peers=[("n0", NOBODY)]).begin()
+        peer = Peer.dial(node).greet()
+        peer.give(0, f"C TPOST demo net #a m1 {MS} P {tags} #a bob!b@h :hi")
+        peer.hear_end()
+
+    return call
+
+
+for name, tags in REFUSED:
+    add(f"tags: a peer's post is refused for {name}", closes(tags))
+
+
+@test
+def the_most_tags_of_a_peer(fixture):
+    node = Node(fixture, servers=[NOBODY], peers=[("n0", NOBODY)]).begin()
+    peer = Peer.dial(node).greet()
+    most = "+x=" + "x" * (MOST - 3)
+    peer.give(0, f"C TPOST demo net #a m1 {MS} P {most} #a bob!b@h :hi")
+    peer.hear_acknowledged(1)
+    client = node.client().register(PAST)
+    client.say("CHATHISTORY LATEST #a * 10")
+    client.hear(*page(1, "#a", shown(most)))
+
+
+@test
+def of_two_posts_of_one_moment_that_with_the_greater_tags_is_kept(fixture):
+    """In whatever order they come, and whatever they say."""
+    lines = [
+        f"C TPOST demo net #a m1 {MS} P +x=1 #a bob!b@h :a",
+        f"C TPOST demo net #a m1 {MS} P +y #a bob!b@h :z",
+        f"C POST demo net #a m1 {MS} N #a bob!b@h :a",
+    ]
+    for order in (lines, lines[::-1], lines[1:] + lines[:1]):
+        node = Node(fixture, servers=[NOBODY], peers=[("n0", NOBODY)]).begin()
+        peer = Peer.dial(node).greet()
+        peer.give(0, *order)
+        peer.hear_acknowledged(3)
+        client = node.client().register(PAST)
+        client.say("CHATHISTORY LATEST #a * 10")
+        client.hear(*page(1, "#a", shown("+y", "z")))
+        node.kill()
+
+
+@test
+def a_typing_notice_goes_to_those_that_know_tags(fixture):
+    """A TAGMSG of the server, with its client-only tags in front. It isn't kept, and `echo-message` doesn't decide who hears it."""
+    node, server, session = begun(fixture, workers=2)
+    knows = [node.client(f"a client with tags {number}").register(PAST) for number in range(3)]
+    plain = node.client("a plain client").register("server-time")
+    session.say(
+        "@+typing=active;account=b;msgid=t1 :bob!b@h TAGMSG #a", "@account=b :bob!b@h TAGMSG #a", ":al!a@h TAGMSG #a",
+        "@+x :bob!b@h TAGMSG", f"@{'+x=' + 'x' * (8189 - 3)} :bob!b@h TAGMSG #a",
+    )
+    for client in knows:
+        client.hear("@+typing=active :bob!b@h TAGMSG #a", ":bob!b@h TAGMSG #a", ":al!a@h TAGMSG #a", "@+x :bob!b@h TAGMSG")
+        client.hear(f"@{'+x=' + 'x' * (8189 - 3)} :bob!b@h TAGMSG #a")
+        client.say("CHATHISTORY LATEST #a * 10")
+        client.hear(*page(1, "#a"))
+    plain.ping()
+
+
+@test
+def nothing_is_passed_on_before_the_network_is_up(fixture):
+    server = Server(fixture)
+    node = Node(fixture, servers=[server.address]).begin()
+    session = server.greeted()
+    client = node.client().register(PAST)
+    session.say("@+typing=active :bob!b@h TAGMSG #a", "PING :x")
+    session.hear("PONG :x")
+    client.ping()
+
+
+@test
+def what_a_client_says_goes_to_the_server_with_its_client_only_tags(fixture):
+    """Where that server was asked for `message-tags`; and so do replies and typing notices. Any other line goes without tags."""
+    node, server, session = begun(fixture)
+    speaker = node.client("the speaker").register()
+    speaker.say(
+        "@+r=m1;x=1 :me!u@h PRIVMSG #b :hi", "@x=1 NOTICE #b :hi", "@+typing=active;label=7 TAGMSG #b", "TAGMSG #b",
+        "@+r=1 JOIN #b", f"@{ESCAPES} NOTICE #b :x", f"@{'+x=' + 'x' * (MOST - 3)} PRIVMSG #b :x",
+    )
+    session.hear(
+        "@+r=m1 PRIVMSG #b :hi", "NOTICE #b :hi", "@+typing=active TAGMSG #b", "TAGMSG #b",
+        "JOIN #b", f"@{ESCAPES} NOTICE #b :x", f"@{'+x=' + 'x' * (MOST - 3)} PRIVMSG #b :x",
+    )
+    speaker.say(f"@{'+x=' + 'x' * (MOST - 2)} PRIVMSG #b :x")
+    speaker.hear(TOO_LONG)
+    speaker.ping()
+
+
+@test
+def a_server_without_tags_gets_none(fixture):
+    """And no TAGMSG. What is kept here then has no tags either."""
+    node, server, session = begun(fixture, "server-time")
+    speaker = node.client("the speaker").register()
+    other = node.client("another").register("batch draft/chathistory echo-message message-tags")
+    speaker.say("@+typing=active TAGMSG #a", "@+r=m1 PRIVMSG #a :hi")
+    session.hear("PRIVMSG #a :hi")
+    line = other.line()
+    expect("the other", True, line.startswith("@msgid=n1-") and line.endswith(" :al PRIVMSG #a :hi") and ";+" not in line)
+    other.say("CHATHISTORY LATEST #a * 10")
+    other.hear(*page(1, "#a", line))
+
+
+@test
+def what_is_kept_here_has_the_tags_that_the_server_got(fixture):
+    """Where the server doesn't echo."""
+    node, server, session = begun(fixture, "message-tags")
+    speaker = node.client("the speaker").register()
+    other = node.client("another").register("batch draft/chathistory echo-message message-tags")
+    speaker.say("@+r=m1;x=2 PRIVMSG #a :hi", "@+typing=active TAGMSG #a")
+    session.hear("@+r=m1 PRIVMSG #a :hi", "@+typing=active TAGMSG #a")
+    line = other.line()
+    expect("the other", True, line.startswith("@msgid=n1-") and line.endswith(";+r=m1 :al PRIVMSG #a :hi"))
+    other.say("CHATHISTORY LATEST #a * 10")
+    other.hear(*page(1, "#a", line))
+
+
+@test
+def a_typing_notice_to_a_network_that_is_not_up(fixture):
+    """Is answered like anything else that would go there."""
+    node = Node(fixture, servers=[NOBODY]).begin()
+    client = node.client().register()
+    client.say("TAGMSG #a", "@+typing=active TAGMSG #a", "TAGMSG")
+    client.hear(*3 * [":bnc.example NOTICE al :Not connected to net"])
