@@ -86,6 +86,18 @@ def the_most_tags_of_a_record(fixture):
 
 
 @test
+def the_longest_tags_of_a_page(fixture):
+    """The most client-only tags behind an id of 255 bytes, each of which is written as two."""
+    node, server, session = begun(fixture)
+    client = node.client().register(PAST)
+    most, id = "+x=" + "x" * (MOST - 3), r"\:" * 255
+    session.say(f"@{most};msgid={id};{TIME} :bob!b@h PRIVMSG #a :hi")
+    client.hear(shown(most, id=id))
+    client.say("CHATHISTORY LATEST #a * 10")
+    client.hear(*page(1, "#a", shown(most, id=id)))
+
+
+@test
 def tags_take_a_detour_over_a_peer(fixture):
     """A post with tags has a line of its own, which is read back byte for byte."""
     node, server, session = begun(fixture, peers=[("n0", NOBODY)])
