@@ -6,7 +6,7 @@ use Rattle.chat_change.specs.Words.{is_name, is_target, is_id, is_source, is_bod
 use Rattle.chat_change.specs.declared.message.TheConstants.{LINE_LIMIT}
 use Rattle.chat_change.specs.Message.{Message, line_of, IsLawfulMessage}
 use Rattle.chat_change.specs.Buffer.{IsLawfulBuffer, buffer_of}
-use Rattle.chat_change.specs.Faults.{unless_lawful, buffer_fault, id_fault, record_fault, first_fault, tagged_fault, is_message, fits_line}
+use Rattle.chat_change.specs.Faults.{unless_lawful, account_fault, buffer_fault, id_fault, record_fault, first_fault, tagged_fault, is_message, fits_line}
 use Rattle.chat_change.specs.declared.faults.ChangeFault.{ChangeFault}
 use Rattle.chat_change.specs.declared.faults.ChangeFault.TheVariants.{BadName, BadTarget, BadId, BadSource, BadBody, LineTooLong, BadTags}
 use Rattle.chat_change.proofs.WordsLemmas.{lower_case_of-twice, is_target-lower_case_of}
@@ -80,6 +80,9 @@ pub lawful_buffer : (account network target : List ℕ) → buffer_fault account
 lawful_buffer account network target e =
     let h = (buffer_fault-lawful account network target).0 e in
     record { account = h.0; network = h.1; target = is_target-lower_case_of target ∙ h.2; folded = lower_case_of-twice target }
+
+pub account_fault-lawful : (name : List ℕ) → (account_fault name ≡ None) ↔ (is_name name ≡ true)
+account_fault-lawful name = (λ e. (unless_none (is_name name) BadName None e).0, λ h. ap (λ b. unless_lawful b BadName None) h)
 
 pub id_fault-lawful : (text : List ℕ) → (id_fault text ≡ None) ↔ (is_id text ≡ true)
 id_fault-lawful text = (λ e. (unless_none (is_id text) BadId None e).0, λ h. ap (λ b. unless_lawful b BadId None) h)

@@ -1,4 +1,4 @@
--- Three texts in one block, of which the last is folded where it lies.
+-- Two texts in one block, of which the second is folded where it lies.
 use Rattle.std.proofs.Common.{◌≡◌, ◌≤◌, ℕ, ◌+◌, ◌-◌, List, [], ◌++◌, length, take, drop, map, sym, ◌∙◌, ap, arith}
 use Rattle.std.specs.Char.{to_ascii_lowercase}
 use Rattle.std.specs.List.{slice_range}
@@ -20,23 +20,15 @@ length-folded_rest n xs =
     ∙ sym (length-append (take n xs) (drop n xs))
     ∙ ap length (take-append-drop n xs)
 
-kept : (a b n : ℕ) (xs ys : List ℕ) → a ≤ b → b ≤ n → n ≤ length xs → slice_range (take n xs ++ ys) a b ≡ slice_range xs a b
-kept a b n xs ys ab bn h =
-    let m = a + (b - a) in
-    let within : m ≤ n = omega arith in
-    let inside : m ≤ length (take n xs) = omega (arith, length-take-le n xs h) in
-    sym (drop-take a (b - a) (take n xs ++ ys))
-    ∙ ap (drop a) (take-append-le m (take n xs) ys inside ∙ take-take m n xs within)
-    ∙ drop-take a (b - a) xs
-
--- the texts of a block whose bytes from the third text on are others
-pub texts_of-replaced : (second third : ℕ) (xs ys : List ℕ) → second ≤ third → third ≤ length xs →
-    let bytes = take third xs ++ ys in
-    let after : Texts = record { first = slice_range bytes 0 second; second = slice_range bytes second third; third = drop third bytes } in
-    let wanted : Texts = record { first = slice_range xs 0 second; second = slice_range xs second third; third = ys } in
+-- the texts of a block whose bytes from the second text on are others
+pub texts_of-replaced : (second : ℕ) (xs ys : List ℕ) → second ≤ length xs →
+    let bytes = take second xs ++ ys in
+    let after : Texts = record { first = take second bytes; second = drop second bytes } in
+    let wanted : Texts = record { first = take second xs; second = ys } in
     after ≡ wanted
-texts_of-replaced second third xs ys st h =
-    let p = kept 0 second third xs ys (omega arith) st h in
-    let q = kept second third third xs ys st (omega arith) h in
-    let r : drop third (take third xs ++ ys) ≡ ys = drop_at (take third xs) ys third (length-take-le third xs h) in
-    λ i. record { first = p i; second = q i; third = r i }
+texts_of-replaced second xs ys h =
+    let all : second ≤ length (take second xs) = omega (arith, length-take-le second xs h) in
+    let same : second ≤ second = omega arith in
+    let p = take-append-le second (take second xs) ys all ∙ take-take second second xs same in
+    let r : drop second (take second xs ++ ys) ≡ ys = drop_at (take second xs) ys second (length-take-le second xs h) in
+    λ i. record { first = p i; second = r i }

@@ -1,4 +1,4 @@
--- Which parts the makers of buffers, ids and records refuse, and why: of several faults the first is told.
+-- Which parts the makers of accounts, buffers, ids and records refuse, and why: of several faults the first is told.
 use Rattle.std.specs.Prelude.{ℕ, Bool, ◌&&◌, nat_le, List, length, Option, None, Some, is_none, unwrap_or, if◌then◌else◌}
 use Rattle.chat_change.specs.Words.{is_name, is_target, is_id, is_source, is_body, is_tags}
 use Rattle.chat_change.specs.Message.{Message, line_of}
@@ -9,6 +9,9 @@ use Rattle.chat_change.specs.declared.faults.ChangeFault.TheVariants.{BadName, B
 -- the fault, unless the text is as it should be; then what else there is
 abbrev pub unless_lawful : Bool → ChangeFault → Option ChangeFault → Option ChangeFault
 unless_lawful lawful fault more = if lawful then more else Some fault
+
+abbrev pub account_fault : List ℕ → Option ChangeFault
+account_fault name = unless_lawful (is_name name) BadName None
 
 abbrev pub buffer_fault : List ℕ → List ℕ → List ℕ → Option ChangeFault
 buffer_fault account network target =

@@ -1,5 +1,5 @@
--- ---- what a reader must believe: texts and their limits, buffers, messages, records, keys, orders, refusals and
--- lawful changes
+-- ---- what a reader must believe: texts and their limits, buffers, messages, records, keys, orders, refusals, lawful
+-- changes and lent ones
 pub mod Words
 pub mod Tags
 pub mod Buffer
@@ -7,9 +7,11 @@ pub mod Buffers
 pub mod Message
 pub mod Record
 pub mod Order
+pub mod Extent
 pub mod Key
 pub mod Faults
 pub mod Lawful
+pub mod ChangeRef
 -- ---- what only the proofs use of the code: how texts lie in memory
 pub mod Texts
 pub mod MessageTexts

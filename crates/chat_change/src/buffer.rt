@@ -4,6 +4,7 @@ ghost use Rattle.chat_change.specs.Words.{is_name, is_target, lower_case_of};
 ghost use Rattle.chat_change.specs.Faults.{buffer_fault, fault_or_no_memory};
 ghost use Rattle.chat_change.specs.Order.{buffer_cmp};
 
+use crate::account::Account;
 use crate::faults::ChangeFault;
 use crate::texts::Texts;
 use crate::words::{is_name, is_target};
@@ -18,8 +19,16 @@ use std::sync::Arc;
 /// buffer. Buffers are ordered by account, then network, then target, each compared byte by byte.
 #[derive(Drop)]
 pub struct Buffer {
-    // account, network and folded target, shared with every clone
-    texts: Arc<Texts>,
+    // shared with every clone
+    names: Arc<Names>,
+}
+
+// The names of a buffer.
+#[derive(Drop)]
+struct Names {
+    account: Account,
+    // the network and the folded target
+    texts: Texts,
 }
 
 impl Model for Buffer {
@@ -28,15 +37,15 @@ impl Model for Buffer {
     ghost Value = { spec.Buffer };
 
     ghost view = { λ b. record {
-      account = b.texts.value.first;
-      network = b.texts.value.second;
-      target = b.texts.value.third;
+      account = b.names.value.account;
+      network = b.names.value.texts.first;
+      target = b.names.value.texts.second;
     } };
 
     ghost invariant = { λ b. spec.IsLawfulBuffer (record {
-      account = b.texts.value.first;
-      network = b.texts.value.second;
-      target = b.texts.value.third;
+      account = b.names.value.account;
+      network = b.names.value.texts.first;
+      target = b.names.value.texts.second;
     }) };
 }
 
@@ -83,10 +92,18 @@ impl Buffer {
         requires target { is_target target.now ≡ true }
         ensures { IfOk result (λ b. b ≡ buffer_of account.now network.now target.now) }
     {
-        let mut names = Texts::new(alloc, account, network, target)?;
-        names.fold_third();
-        let texts = Arc::new(alloc, names)?;
-        Ok(Buffer { texts })
+        let account = Account::from_lawful(alloc, account)?;
+        let mut texts = Texts::new(alloc, network, target)?;
+        texts.fold_second();
+        let names = Arc::new(alloc, Names { account, texts })?;
+        Ok(Buffer { names })
+    }
+
+    /// The account whose buffer it is.
+    pub fn owner(&self) -> &Account
+        ensures { result.now ≡ self.now.account }
+    {
+        &self.names.account
     }
 
     /// The name of the account.
@@ -94,7 +111,7 @@ impl Buffer {
         ensures value { result.now ≡ self.now.account }
         ensures lawful { is_name result.now ≡ true }
     {
-        self.texts.first()
+        self.names.account.name()
     }
 
     /// The name of the network.
@@ -102,7 +119,7 @@ impl Buffer {
         ensures value { result.now ≡ self.now.network }
         ensures lawful { is_name result.now ≡ true }
     {
-        self.texts.second()
+        self.names.texts.first()
     }
 
     /// The folded target.
@@ -111,15 +128,15 @@ impl Buffer {
         ensures lawful { is_target result.now ≡ true }
         ensures folded { lower_case_of result.now ≡ result.now }
     {
-        self.texts.third()
+        self.names.texts.second()
     }
 
     /// An equal buffer, which shares its memory. It takes none, and fails only where the buffer has 2^63 - 1 owners.
     pub fn try_clone(&self) -> Result<Buffer, AllocError>
         ensures { IfOk result (λ copy. copy ≡ self.now) }
     {
-        let texts = Arc::try_clone(&self.texts)?;
-        Ok(Buffer { texts })
+        let names = Arc::try_clone(&self.names)?;
+        Ok(Buffer { names })
     }
 
     /// Whether both are one buffer.

@@ -1,7 +1,9 @@
 //! Changes: what a node learns, and what nodes tell one another.
 ghost use Rattle.std.specs.Prelude.{◌≡◌, IfOk};
 
+use crate::account::Account;
 use crate::buffer::Buffer;
+use crate::extent::Extent;
 use crate::key::Key;
 use crate::msg_id::MsgId;
 use crate::record::Record;
@@ -30,8 +32,14 @@ pub enum Change {
         buffer: Buffer,
         at: Moment,
     },
+    /// What is older than that moment is kept in no buffer of the account any longer.
+    AccountFloor {
+        account: Account,
+        at: Moment,
+    },
 }
 
+// Their bodies name each kind: the borrow checker can't plan a call that goes through `ChangeRef::of`.
 impl Change {
     ghost use Rattle.chat_change.specs.Key.{key_of, value_of};
 
@@ -43,7 +51,8 @@ impl Change {
             Change::Post(record) => record.key(),
             Change::Redact { buffer, id, .. } => Key::Message(buffer, id),
             Change::Mark { buffer, .. } => Key::Marker(buffer),
-            Change::Floor { buffer, .. } => Key::Floor(buffer),
+            Change::Floor { buffer, .. } => Key::Floor(Extent::Buffer(buffer)),
+            Change::AccountFloor { account, .. } => Key::Floor(Extent::Account(account)),
         }
     }
 
@@ -69,6 +78,10 @@ impl Change {
             }),
             Change::Floor { buffer, at } => Ok(Change::Floor {
                 buffer: buffer.try_clone()?,
+                at: *at,
+            }),
+            Change::AccountFloor { account, at } => Ok(Change::AccountFloor {
+                account: account.try_clone()?,
                 at: *at,
             }),
         }

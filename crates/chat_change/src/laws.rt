@@ -13,7 +13,7 @@ ghost use Rattle.irc_tags.specs.Text.{tags_text};
 ghost use Rattle.chat_change.specs.Buffer.{Buffer, buffer_of, IsLawfulBuffer};
 ghost use Rattle.chat_change.specs.Message.{Message, line_of, IsLawfulMessage};
 ghost use Rattle.chat_change.specs.Record.{Record};
-ghost use Rattle.chat_change.specs.Faults.{buffer_fault, id_fault, record_fault, tagged_fault};
+ghost use Rattle.chat_change.specs.Faults.{account_fault, buffer_fault, id_fault, record_fault, tagged_fault};
 ghost use Rattle.chat_change.specs.Order.{text_cmp, id_cmp, buffer_cmp, record_cmp, GoesBefore};
 ghost use Rattle.chat_change.specs.declared.faults.ChangeFault.TheVariants as fault;
 
@@ -55,6 +55,7 @@ pub fn ids_are_ordered_by_their_bytes()
 
 /// The makers refuse exactly what has no lawful parts, and what they make is lawful.
 pub fn makers_give_lawful_fields()
+    ensures accounts { (name : List ℕ) → (account_fault name ≡ None) ↔ (is_name name ≡ true) }
     ensures buffer_parts { (account network target : List ℕ) →
         (buffer_fault account network target ≡ None)
         ↔ ((is_name account ≡ true) × (is_name network ≡ true) × (is_target target ≡ true)) }

@@ -1,20 +1,26 @@
 //! The changes that a chat history is made of, and the order between the records of one message.
 //!
 //! A [`Change`] posts a message (a [`Record`]), redacts one, sets a read marker, or sets a floor below which nothing is
-//! kept. What it speaks of is its [`Key`]: the floor or the marker of a [`Buffer`], the conversation of an account on a
-//! network with a target, or one message of a buffer. [`goes_before`] says which of two records of one message is kept.
+//! kept, in a [`Buffer`], the conversation of an account on a network with a target, or in all buffers of an [`Account`].
+//! What it speaks of is its [`Key`]: the floor of an [`Extent`], the marker of a buffer, or one message of a buffer.
+//! [`goes_before`] says which of two records of one message is kept.
 //!
-//! The makers [`Buffer::new`], [`MsgId::new`], [`Record::new`] and [`Record::new_tagged`] refuse what can't stand in a
-//! line (RFC 1459 and RFC 2812, section 2.3; IRCv3 message-tags), each with the first [`ChangeFault`] that there is, so that every value of these types has lawful
-//! parts. Their tests are functions of their own, as [`is_target`] and [`is_message`], which take no memory.
+//! A [`ChangeRef`] says what a change says, lent from where it is held.
+//!
+//! The makers [`Account::new`], [`Buffer::new`], [`MsgId::new`], [`Record::new`] and [`Record::new_tagged`] refuse what
+//! can't stand in a line (RFC 1459 and RFC 2812, section 2.3; IRCv3 message-tags), each with the first [`ChangeFault`] that
+//! there is, so that every value of these types has lawful parts. Their tests are functions of their own, as [`is_target`] and [`is_message`], which take no memory.
 //!
 //! The makers take memory. Where there is none, a maker answers [`ChangeFault::NoMemory`] and leaves nothing behind. What
 //! they make lies in blocks that nobody writes to, which clones share: a `try_clone` takes no memory and copies no text, and
 //! fails only where a block has 2^63 - 1 owners.
 #![tactic(auto)]
 
+mod account;
 mod buffer;
 mod change;
+mod change_ref;
+mod extent;
 mod faults;
 mod id_text;
 mod key;
@@ -28,8 +34,11 @@ mod record;
 mod texts;
 mod words;
 
+pub use account::Account;
 pub use buffer::Buffer;
 pub use change::Change;
+pub use change_ref::ChangeRef;
+pub use extent::Extent;
 pub use faults::ChangeFault;
 pub use irc_time::Moment;
 pub use key::Key;

@@ -1,17 +1,16 @@
 use Rattle.std.proofs.Common.{◌≡◌, ◌-◌, ◌++◌, List, ℕ, length, take, drop, map, sym, ◌∙◌, ap}
 use Rattle.std.specs.Char.{to_ascii_lowercase}
-use Rattle.std.specs.List.{slice_range}
 use Rattle.std.specs.Vec.{with_items}
 use Rattle.std.proofs.lemmas.List.{with_items_is}
 use Rattle.chat_change.specs.Words.{lower_case_of}
 use Rattle.chat_change.specs.Texts.{Texts}
 use Rattle.chat_change.proofs.TextsLemmas.{folded_rest, length-folded_rest, texts_of-replaced}
-use Rattle.chat_change.proofs.texts.Texts.fold_third.Goals as goal
+use Rattle.chat_change.proofs.texts.Texts.fold_second.Goals as goal
 
 pub returns : goal.returns
 returns c =
     let t = c.self.inside in
-    let n = t.third in
+    let n = t.second in
     let xs = t.bytes.items in
     let bytes = c.deref_mut.result.now in
     let low = c.make_ascii_lowercase.new.self in
@@ -23,7 +22,7 @@ returns c =
     let long : length written ≡ t.bytes.len =
     ap length is ∙ length-folded_rest n xs ∙ ap length (sym c.deref_mut.ensures.value) ∙ c.deref_mut.ensures.len in
     let items : (with_items t.bytes written).items ≡ take n xs ++ lower_case_of (drop n xs) = with_items_is t.bytes written long ∙ is in
-    let made : (l : List ℕ) → Texts = λ l. record { first = slice_range l 0 t.second; second = slice_range l t.second n; third = drop n l } in
+    let made : (l : List ℕ) → Texts = λ l. record { first = take n l; second = drop n l } in
     ap made items
-    ∙ texts_of-replaced t.second n xs (lower_case_of (drop n xs)) c.self.invariant.0 c.self.invariant.1
-    ∙ ap (λ (s : Texts). record s { third = lower_case_of s.third }) c.self.view_is
+    ∙ texts_of-replaced n xs (lower_case_of (drop n xs)) c.self.invariant
+    ∙ ap (λ (s : Texts). record s { second = lower_case_of s.second }) c.self.view_is
