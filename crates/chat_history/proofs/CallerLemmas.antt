@@ -10,9 +10,10 @@ pub use Rattle.chat_history.proofs.SortedLemmas.{filter_alike, sorted_alike, les
 pub use Rattle.chat_history.proofs.SortedLemmas.{sorted_reverse, among-reverse, reverse_among}
 -- the normal form of a set of changes, and its pieces
 pub use Rattle.chat_history.proofs.PieceLemmas.{Bears, from_entries_keyed, norm_keyed, get-norm, piece_bears, piece_none}
+pub use Rattle.chat_history.proofs.PieceLemmas.{key_of-floor_change}
 pub use Rattle.chat_history.proofs.PieceLemmas.{bearers_of-changes_of}
 pub use Rattle.chat_history.proofs.SetLemmas.{norm_left, norm_of_set, norm-changes_of}
-pub use Rattle.chat_history.proofs.NormLemmas.{mark-norm, floor-norm, latest_total, latest_exact}
+pub use Rattle.chat_history.proofs.NormLemmas.{mark-norm, floor-norm, account_floor-norm, latest_total, latest_exact}
 pub use Rattle.chat_history.proofs.NormReadLemmas.{gone-norm, position-norm, position_in-norm}
 pub use Rattle.chat_history.proofs.StandingLemmas.{among-bearers_of, most_greatest}
 -- the visible records of a buffer
@@ -24,9 +25,9 @@ pub use Rattle.chat_history.proofs.BuffersLemmas.{in_order_member, member_in_ord
 pub use Rattle.chat_history.proofs.StoredLemmas.{not_below}
 -- what one more change does to a normal form and to its numbers
 pub use Rattle.chat_history.proofs.StepLemmas.{floor_set}
-pub use Rattle.chat_history.proofs.AbsorbLemmas.{append_none, get_after, get_floor, low_floor, floor_is, get_is_piece}
+pub use Rattle.chat_history.proofs.AbsorbLemmas.{append_none, get_after, get_floor, low_floor, own_floor_is, get_is_piece}
 pub use Rattle.chat_history.proofs.AbsorbLemmas.{new_form_differs, first_form_bears, new_form_bears}
-pub use Rattle.chat_history.proofs.AbsorbLemmas.{key_of-remainder, same_buffer_from}
+pub use Rattle.chat_history.proofs.AbsorbLemmas.{key_of-remainder, same_buffer_from, same_buffer_is, same_account_is, same_account_itself}
 pub use Rattle.chat_history.proofs.NumberLemmas.{get-numbers, get-numbers_after}
 pub use Rattle.chat_history.proofs.HeldLemmas.{held_counted, held_same}
 -- the test of two histories

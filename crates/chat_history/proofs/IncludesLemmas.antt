@@ -1,19 +1,18 @@
 -- What a set includes: its members, more when it grows, and with a redaction that names a moment also the one that names none.
-use Rattle.std.proofs.Common.{◌≡◌, ℕ, true, false, cond, Some, None, List, [], ◌∷◌, ◌++◌, refl, sym, ◌∙◌, ap, subst, append_assoc, ⊎_elim}
+use Rattle.std.proofs.Common.{◌≡◌, ℕ, max, true, false, cond, Some, None, List, [], ◌∷◌, ◌++◌, refl, sym, ◌∙◌, ap, subst, append_assoc, ⊎_elim}
 use Rattle.std.proofs.lemmas.List.Elements.{Contains-push_cases, Contains-append_left}
-use Rattle.std.specs.List.{AllByRecursion, filter_map}
-use Rattle.std.specs.Option.{unwrap_or}
+use Rattle.std.specs.List.{AllByRecursion}
 use Rattle.std.specs.Prelude.{Contains}
 use Rattle.chat_change.specs.Buffer.{Buffer}
 use Rattle.chat_change.specs.declared.change.Change.{Change}
 use Rattle.chat_change.specs.declared.change.Change.TheVariants.{Redact}
-use Rattle.chat_change.specs.Key.{Key, FloorOf, MarkerOf, MessageOf, same_key, bearers_of, key_buffer}
-use Rattle.chat_history.specs.Choice.{greatest}
-use Rattle.chat_history.specs.History.{floor, floor_moment, norm, changes_of, Includes}
+use Rattle.chat_change.specs.Extent.{Extent, OfAccount, OfBuffer}
+use Rattle.chat_change.specs.Key.{Key, FloorOf, MarkerOf, MessageOf, same_key, bearers_of}
+use Rattle.chat_history.specs.History.{own_floor, norm, changes_of, Includes}
 use Rattle.chat_history.proofs.PieceLemmas.{norm_from_pieces}
 use Rattle.chat_history.proofs.AbsorbLemmas.{append_none}
 use Rattle.chat_history.proofs.SetLemmas.{norm_of_set, norm_swap, norm_left, norm_right}
-use Rattle.chat_history.proofs.StepLemmas.{settle, piece-settle}
+use Rattle.chat_history.proofs.StepLemmas.{greatest_floor, floor_under, settle, piece-settle}
 
 pub same_left : (xs ys zs : List Change) → norm xs ≡ norm ys → norm (xs ++ zs) ≡ norm (ys ++ zs)
 same_left xs ys zs e = sym (norm_left xs zs) ∙ ap (λ h. norm (changes_of h ++ zs)) e ∙ norm_left ys zs
@@ -51,9 +50,6 @@ Includes-less xs c d e h =
     ∙ same_right xs (c ∷ d ∷ []) (c ∷ []) e
     ∙ h
 
-abbrev floor_at : List Change → ℕ
-floor_at cs = unwrap_or (greatest (filter_map floor_moment cs)) 0
-
 module _ (b : Buffer) (m : List ℕ) (t : ℕ) where
   abbrev named : Change
   named = Redact b m (Some t)
@@ -61,19 +57,25 @@ module _ (b : Buffer) (m : List ℕ) (t : ℕ) where
   abbrev bare : Change
   bare = Redact b m None
 
-  same_floor : (d : Buffer) → floor (named ∷ bare ∷ []) d ≡ floor (named ∷ []) d
-  same_floor d = elim (same_key (FloorOf d) (MessageOf b m)) as (λ s. floor_at (cond s (named ∷ cond s (bare ∷ []) []) (cond s (bare ∷ []) [])) ≡ floor_at (cond s (named ∷ []) [])) [ true ↦ refl | false ↦ refl ]
+  same_own_floor : (e : Extent) → own_floor (named ∷ bare ∷ []) e ≡ own_floor (named ∷ []) e
+  same_own_floor e = elim (same_key (FloorOf e) (MessageOf b m)) as (λ s. greatest_floor (cond s (named ∷ cond s (bare ∷ []) []) (cond s (bare ∷ []) [])) ≡ greatest_floor (cond s (named ∷ []) [])) [ true ↦ refl | false ↦ refl ]
+
+  same_under : (k : Key) → floor_under (named ∷ bare ∷ []) k ≡ floor_under (named ∷ []) k
+  same_under (FloorOf (OfAccount a)) = refl
+  same_under (FloorOf (OfBuffer d)) = same_own_floor (OfAccount d.account)
+  same_under (MarkerOf d) = refl
+  same_under (MessageOf d n) = λ i. max (same_own_floor (OfAccount d.account) i) (same_own_floor (OfBuffer d) i)
 
   same_settled : (k : Key) (f : ℕ) → settle k f (bearers_of k (named ∷ bare ∷ [])) ≡ settle k f (bearers_of k (named ∷ []))
-  same_settled (FloorOf d) f = refl
+  same_settled (FloorOf e) f = elim (same_key (FloorOf e) (MessageOf b m)) as (λ s. settle (FloorOf e) f (cond s (named ∷ cond s (bare ∷ []) []) (cond s (bare ∷ []) [])) ≡ settle (FloorOf e) f (cond s (named ∷ []) [])) [ true ↦ refl | false ↦ refl ]
   same_settled (MarkerOf d) f = elim (same_key (MarkerOf d) (MessageOf b m)) as (λ s. settle (MarkerOf d) f (cond s (named ∷ cond s (bare ∷ []) []) (cond s (bare ∷ []) [])) ≡ settle (MarkerOf d) f (cond s (named ∷ []) [])) [ true ↦ refl | false ↦ refl ]
   same_settled (MessageOf d n) f = elim (same_key (MessageOf d n) (MessageOf b m)) as (λ s. settle (MessageOf d n) f (cond s (named ∷ cond s (bare ∷ []) []) (cond s (bare ∷ []) [])) ≡ settle (MessageOf d n) f (cond s (named ∷ []) [])) [ true ↦ refl | false ↦ refl ]
 
   bare_adds_nothing : norm (named ∷ bare ∷ []) ≡ norm (named ∷ [])
   bare_adds_nothing = norm_from_pieces (named ∷ bare ∷ []) (named ∷ []) (λ k.
       piece-settle (named ∷ bare ∷ []) k
-      ∙ ap (λ f. settle k f (bearers_of k (named ∷ bare ∷ []))) (same_floor (key_buffer k))
-      ∙ same_settled k (floor (named ∷ []) (key_buffer k))
+      ∙ ap (λ f. settle k f (bearers_of k (named ∷ bare ∷ []))) (same_under k)
+      ∙ same_settled k (floor_under (named ∷ []) k)
       ∙ sym (piece-settle (named ∷ []) k))
 
   -- with a redaction that names a moment the one that names none

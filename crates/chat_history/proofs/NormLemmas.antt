@@ -1,5 +1,5 @@
 -- The normal form of two normal forms together is that of all changes together.
-use Rattle.std.proofs.Common.{◌≡◌, ℕ, max, Bool, true, false, cond, ◌||◌, Option, Some, None, List, [], ◌∷◌, ◌++◌, refl, sym, ◌∙◌, ap, arith}
+use Rattle.std.proofs.Common.{◌≡◌, ℕ, ◌<◌, max, Bool, true, false, cond, ◌||◌, Option, Some, None, List, [], ◌∷◌, ◌++◌, refl, sym, ◌∙◌, ap, arith}
 use Rattle.std.specs.declared.cmp.Ordering.{Ordering}
 use Rattle.std.specs.declared.cmp.Ordering.TheVariants.{Less, Equal, Greater}
 use Rattle.std.proofs.lemmas.Bool.{false≢true}
@@ -17,13 +17,14 @@ use Rattle.chat_change.specs.Buffer.{Buffer}
 use Rattle.chat_change.specs.Record.{Record}
 use Rattle.chat_change.specs.Order.{record_cmp, tie_cmp}
 use Rattle.chat_change.specs.declared.change.Change.{Change}
-use Rattle.chat_change.specs.declared.change.Change.TheVariants.{Post, Redact, Mark, Floor}
+use Rattle.chat_change.specs.declared.change.Change.TheVariants.{Post, Redact, Mark, Floor, AccountFloor}
 use Rattle.chat_change.proofs.CallerLemmas.{record_total, record_exact}
 use Rattle.chat_history.specs.Choice.{earlier, first_by, greatest}
-use Rattle.chat_change.specs.Key.{Key, FloorOf, MarkerOf, MessageOf, bearers_of}
-use Rattle.chat_history.specs.History.{floor, mark, is_gone, kept_record, position_of, floor_moment, marker_moment, posted_record, message_moment, is_redaction, piece, norm, changes_of}
+use Rattle.chat_change.specs.Extent.{Extent, OfAccount, OfBuffer}
+use Rattle.chat_change.specs.Key.{Key, FloorOf, MarkerOf, MessageOf, bearers_of, floor_change}
+use Rattle.chat_history.specs.History.{floor, own_floor, account_floor, floor_around, mark, is_gone, kept_record, position_of, floor_moment, marker_moment, posted_record, message_moment, is_redaction, piece, norm, changes_of}
 use Rattle.chat_history.proofs.ChoiceLemmas.{keep, Closed, first_by-append, first_by-filter, keep_parts}
-use Rattle.chat_history.proofs.PieceLemmas.{bearers_of-append, bearers_of-norm, norm_from_pieces}
+use Rattle.chat_history.proofs.PieceLemmas.{floor_piece, floor_piece_alike, bearers_of-append, bearers_of-norm, norm_from_pieces}
 
 -- ---- the greatest moment
 
@@ -99,6 +100,7 @@ top-best (Post r ∷ cs) e =
 top-best (Redact b m t ∷ cs) e = absurd (false≢true (sym e))
 top-best (Mark b t ∷ cs) e = top-best cs e
 top-best (Floor b t ∷ cs) e = top-best cs e
+top-best (AccountFloor a t ∷ cs) e = top-best cs e
 
 -- ---- what a piece says
 
@@ -146,21 +148,53 @@ greatest_of_both None (Some y) = omega arith
 greatest_of_both (Some x) None = omega arith
 greatest_of_both (Some x) (Some y) = grind (arith, nat_tests)
 
+pub own_floor-append : (xs ys : List Change) (e : Extent) → own_floor (xs ++ ys) e ≡ max (own_floor xs e) (own_floor ys e)
+own_floor-append xs ys e =
+    ap (λ cs. unwrap_or (greatest (filter_map floor_moment cs)) 0) (bearers_of-append (FloorOf e) xs ys)
+    ∙ ap (λ ts. unwrap_or (greatest ts) 0) (filter_map-append floor_moment (bearers_of (FloorOf e) xs) (bearers_of (FloorOf e) ys))
+    ∙ ap (λ o. unwrap_or o 0) (greatest-append (filter_map floor_moment (bearers_of (FloorOf e) xs)) (filter_map floor_moment (bearers_of (FloorOf e) ys)))
+    ∙ greatest_of_both (greatest (filter_map floor_moment (bearers_of (FloorOf e) xs))) (greatest (filter_map floor_moment (bearers_of (FloorOf e) ys)))
+
+max_of_four : (p q r s : ℕ) → max (max p q) (max r s) ≡ max (max p r) (max q s)
+max_of_four p q r s = omega arith
+
 pub floor-append : (xs ys : List Change) (b : Buffer) → floor (xs ++ ys) b ≡ max (floor xs b) (floor ys b)
 floor-append xs ys b =
-    ap (λ cs. unwrap_or (greatest (filter_map floor_moment cs)) 0) (bearers_of-append (FloorOf b) xs ys)
-    ∙ ap (λ ts. unwrap_or (greatest ts) 0) (filter_map-append floor_moment (bearers_of (FloorOf b) xs) (bearers_of (FloorOf b) ys))
-    ∙ ap (λ o. unwrap_or o 0) (greatest-append (filter_map floor_moment (bearers_of (FloorOf b) xs)) (filter_map floor_moment (bearers_of (FloorOf b) ys)))
-    ∙ greatest_of_both (greatest (filter_map floor_moment (bearers_of (FloorOf b) xs))) (greatest (filter_map floor_moment (bearers_of (FloorOf b) ys)))
+    (λ i. max (own_floor-append xs ys (OfAccount b.account) i) (own_floor-append xs ys (OfBuffer b) i))
+    ∙ max_of_four (own_floor xs (OfAccount b.account)) (own_floor ys (OfAccount b.account)) (own_floor xs (OfBuffer b)) (own_floor ys (OfBuffer b))
 
-floor_in : (b : Buffer) (f : ℕ) (t : Bool) → nat_lt 0 f ≡ t → unwrap_or (greatest (filter_map floor_moment (option_to_list (cond t (Some (Floor b f)) None)))) 0 ≡ f
-floor_in b f true e = refl
-floor_in b f false e = grind (arith, nat_tests)
+around-append : (xs ys : List Change) (e : Extent) → floor_around (xs ++ ys) e ≡ max (floor_around xs e) (floor_around ys e)
+around-append xs ys (OfAccount a) = omega arith
+around-append xs ys (OfBuffer b) = own_floor-append xs ys (OfAccount b.account)
+
+-- an own floor as a normal form keeps it: where it is above the one around
+abbrev pub held_floor : ℕ → ℕ → ℕ
+held_floor around own = cond (nat_lt around own) own 0
+
+floor_in : (e : Extent) (f : ℕ) (t : Bool) → unwrap_or (greatest (filter_map floor_moment (option_to_list (cond t (Some (floor_change e f)) None)))) 0 ≡ cond t f 0
+floor_in (OfAccount a) f true = refl
+floor_in (OfAccount a) f false = refl
+floor_in (OfBuffer b) f true = refl
+floor_in (OfBuffer b) f false = refl
+
+pub own_floor-norm : (changes : List Change) (e : Extent) → own_floor (changes_of (norm changes)) e ≡ held_floor (floor_around changes e) (own_floor changes e)
+own_floor-norm changes e =
+    ap (λ cs. unwrap_or (greatest (filter_map floor_moment cs)) 0) (bearers_of-norm changes (FloorOf e))
+    ∙ floor_in e (own_floor changes e) (nat_lt (floor_around changes e) (own_floor changes e))
+
+held_alone : (own : ℕ) → held_floor 0 own ≡ own
+held_alone own = grind (arith, nat_tests)
+
+held_under : (around own : ℕ) → max around (held_floor around own) ≡ max around own
+held_under around own = grind (arith, nat_tests)
+
+pub account_floor-norm : (changes : List Change) (a : List ℕ) → account_floor (changes_of (norm changes)) a ≡ account_floor changes a
+account_floor-norm changes a = own_floor-norm changes (OfAccount a) ∙ held_alone (account_floor changes a)
 
 pub floor-norm : (changes : List Change) (b : Buffer) → floor (changes_of (norm changes)) b ≡ floor changes b
 floor-norm changes b =
-    ap (λ cs. unwrap_or (greatest (filter_map floor_moment cs)) 0) (bearers_of-norm changes (FloorOf b))
-    ∙ floor_in b (floor changes b) _ refl
+    (λ i. max (account_floor-norm changes b.account i) (own_floor-norm changes (OfBuffer b) i))
+    ∙ held_under (account_floor changes b.account) (own_floor changes (OfBuffer b))
 
 pub mark-append : (xs ys : List Change) (b : Buffer) → mark (xs ++ ys) b ≡ earlier (flip_args nat_cmp) (mark xs b) (mark ys b)
 mark-append xs ys b =
@@ -177,12 +211,38 @@ mark-norm changes b = ap (λ cs. greatest (filter_map marker_moment cs)) (bearer
 
 -- ---- two normal forms together
 
+-- of two own floors together only what is above both around counts
+both_held : (a o b p : ℕ) → max a b < max o p → max (held_floor a o) (held_floor b p) ≡ max o p
+both_held a o b p h = grind (arith, nat_tests)
+
+held_both : (a o b p : ℕ) → max a b < max (held_floor a o) (held_floor b p) → max (held_floor a o) (held_floor b p) ≡ max o p
+held_both a o b p h = grind (arith, nat_tests)
+
+floors_of_both : (e : Extent) (a o b p : ℕ) → floor_piece e (max a b) (max (held_floor a o) (held_floor b p)) ≡ floor_piece e (max a b) (max o p)
+floors_of_both e a o b p = floor_piece_alike e (max a b) (max (held_floor a o) (held_floor b p)) (max o p) (held_both a o b p) (both_held a o b p)
+
 module _ (xs ys : List Change) where
   abbrev parts : List Change
   parts = changes_of (norm xs) ++ changes_of (norm ys)
 
   pub floor_parts : (b : Buffer) → floor parts b ≡ floor (xs ++ ys) b
   floor_parts b = floor-append (changes_of (norm xs)) (changes_of (norm ys)) b ∙ (λ i. max (floor-norm xs b i) (floor-norm ys b i)) ∙ sym (floor-append xs ys b)
+
+  around_parts : (e : Extent) → floor_around parts e ≡ floor_around (xs ++ ys) e
+  around_parts (OfAccount a) = refl
+  around_parts (OfBuffer b) =
+      own_floor-append (changes_of (norm xs)) (changes_of (norm ys)) (OfAccount b.account)
+      ∙ (λ i. max (account_floor-norm xs b.account i) (account_floor-norm ys b.account i))
+      ∙ sym (own_floor-append xs ys (OfAccount b.account))
+
+  own_parts : (e : Extent) → own_floor parts e ≡ max (held_floor (floor_around xs e) (own_floor xs e)) (held_floor (floor_around ys e) (own_floor ys e))
+  own_parts e = own_floor-append (changes_of (norm xs)) (changes_of (norm ys)) e ∙ (λ i. max (own_floor-norm xs e i) (own_floor-norm ys e i))
+
+  floors_of_parts : (e : Extent) → floor_piece e (floor_around parts e) (own_floor parts e) ≡ floor_piece e (floor_around (xs ++ ys) e) (own_floor (xs ++ ys) e)
+  floors_of_parts e =
+      (λ i. floor_piece e ((around_parts e ∙ around-append xs ys e) i) (own_parts e i))
+      ∙ floors_of_both e (floor_around xs e) (own_floor xs e) (floor_around ys e) (own_floor ys e)
+      ∙ sym (λ i. floor_piece e (around-append xs ys e i) (own_floor-append xs ys e i))
 
   pub mark_parts : (b : Buffer) → mark parts b ≡ mark (xs ++ ys) b
   mark_parts b = mark-append (changes_of (norm xs)) (changes_of (norm ys)) b ∙ (λ i. earlier (flip_args nat_cmp) (mark-norm xs b i) (mark-norm ys b i)) ∙ sym (mark-append xs ys b)
@@ -244,7 +304,7 @@ module _ (xs ys : List Change) where
         ] refl
 
   piece_parts : (k : Key) → piece parts k ≡ piece (xs ++ ys) k
-  piece_parts (FloorOf b) = ap (λ f. cond (nat_lt 0 f) (Some (Floor b f)) None) (floor_parts b)
+  piece_parts (FloorOf e) = floors_of_parts e
   piece_parts (MarkerOf b) = ap (option_map (Mark b)) (mark_parts b)
   piece_parts (MessageOf b m) = message_parts b m
 

@@ -1,15 +1,20 @@
 -- What is read off the normal form of a set of changes is what the set says.
-use Rattle.std.proofs.Common.{◌≡◌, ℕ, Bool, true, false, cond, Option, Some, None, List, [], refl, sym, ◌∙◌, ap}
+use Rattle.std.proofs.Common.{◌≡◌, ℕ, ◌<◌, Bool, true, false, cond, Option, Some, None, List, [], refl, sym, ◌∙◌, ap, arith}
+use Rattle.std.proofs.lemmas.Bool.Decides.{nat_tests}
+use Rattle.std.specs.Prelude.{nat_lt}
+use Rattle.std.specs.FinMap.{get}
 use Rattle.std.specs.List.{list_any, cons_option}
 use Rattle.std.specs.Option.{option_and_then, option_to_list}
 use Rattle.chat_change.specs.Buffer.{Buffer}
+use Rattle.chat_change.specs.Extent.{OfAccount, OfBuffer}
 use Rattle.chat_change.specs.declared.change.Change.{Change}
+use Rattle.chat_change.specs.declared.change.Change.TheVariants.{Floor, AccountFloor}
 use Rattle.chat_history.specs.Choice.{greatest}
-use Rattle.chat_change.specs.Key.{MessageOf, bearers_of}
-use Rattle.chat_history.specs.History.{floor, is_gone, kept_record, position_of, message_moment, is_redaction, piece, norm, changes_of}
+use Rattle.chat_change.specs.Key.{FloorOf, MessageOf, bearers_of}
+use Rattle.chat_history.specs.History.{floor, own_floor, account_floor, is_gone, kept_record, position_of, message_moment, is_redaction, piece, norm, changes_of}
 use Rattle.chat_history.specs.Lookups.{position_in}
 use Rattle.chat_history.proofs.ChoiceLemmas.{keep}
-use Rattle.chat_history.proofs.PieceLemmas.{bearers_of-norm, get-norm}
+use Rattle.chat_history.proofs.PieceLemmas.{floor_piece, not_below_zero, bearers_of-norm, get-norm}
 use Rattle.chat_history.proofs.NormLemmas.{top, best, at_least, stays, floor-norm, kept-best, position-top, gone_piece, best_piece, top_piece}
 
 keep_twice : {A : Type 0} (p : A → Bool) (u : Option A) → keep p (keep p u) ≡ keep p u
@@ -50,3 +55,32 @@ module _ (changes : List Change) (b : Buffer) (m : List ℕ) where
 
   pub position_in-norm : position_in (norm changes) b m ≡ position_of changes b m
   position_in-norm = ap (option_and_then message_moment) (get-norm changes (MessageOf b m)) ∙ sym (top_one (piece changes (MessageOf b m))) ∙ top_piece changes b m
+
+-- ---- which floors are held
+
+module _ (changes : List Change) where
+  pub account_held : (a : List ℕ) → 0 < account_floor changes a → get (norm changes) (FloorOf (OfAccount a)) ≡ Some (AccountFloor a (account_floor changes a))
+  account_held a l =
+      let f = account_floor changes a in
+      let above : nat_lt 0 f ≡ true = grind (arith, nat_tests) in
+      get-norm changes (FloorOf (OfAccount a)) ∙ ap (λ s. cond s (Some (AccountFloor a f)) None) above
+
+  pub account_not_held : (a : List ℕ) → account_floor changes a ≡ 0 → get (norm changes) (FloorOf (OfAccount a)) ≡ None
+  account_not_held a z =
+      get-norm changes (FloorOf (OfAccount a)) ∙ ap (floor_piece (OfAccount a) 0) z ∙ ap (λ s. cond s (Some (AccountFloor a 0)) None) (not_below_zero 0)
+
+  pub buffer_held : (b : Buffer) → account_floor changes b.account < floor changes b → get (norm changes) (FloorOf (OfBuffer b)) ≡ Some (Floor b (floor changes b))
+  buffer_held b l =
+      let around = account_floor changes b.account in
+      let is : own_floor changes (OfBuffer b) ≡ floor changes b = omega arith in
+      let above : nat_lt around (floor changes b) ≡ true = grind (arith, nat_tests) in
+      get-norm changes (FloorOf (OfBuffer b))
+      ∙ ap (floor_piece (OfBuffer b) around) is
+      ∙ ap (λ s. cond s (Some (Floor b (floor changes b))) None) above
+
+  pub buffer_not_held : (b : Buffer) → floor changes b ≡ account_floor changes b.account → get (norm changes) (FloorOf (OfBuffer b)) ≡ None
+  buffer_not_held b e =
+      let around = account_floor changes b.account in
+      let own = own_floor changes (OfBuffer b) in
+      let under : nat_lt around own ≡ false = grind (arith, nat_tests) in
+      get-norm changes (FloorOf (OfBuffer b)) ∙ ap (λ s. cond s (Some (Floor b own)) None) under

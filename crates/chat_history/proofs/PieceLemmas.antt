@@ -1,8 +1,9 @@
 -- A history keeps under each key a change that bears it: what `norm` has at a key, and which changes of a history bear a key.
-use Rattle.std.proofs.Common.{◌≡◌, Bool, true, false, cond, ◌&&◌, ◌||◌, Option, Some, None, List, [], ◌∷◌, ◌++◌, map, refl, sym, ◌∙◌, ap, subst, T, length, arith}
+use Rattle.std.proofs.Common.{◌≡◌, Bool, true, false, cond, ◌&&◌, ◌||◌, Option, Some, None, List, [], ◌∷◌, ◌++◌, map, refl, sym, ◌∙◌, ap, subst, T, ℕ, ◌<◌, length, arith}
 use Rattle.std.specs.declared.cmp.Ordering.{Ordering}
 use Rattle.std.specs.declared.cmp.Ordering.TheVariants.{Less, Equal, Greater}
 use Rattle.std.proofs.lemmas.Bool.{false≢true}
+use Rattle.std.proofs.lemmas.Bool.Decides.{nat_tests}
 use Rattle.std.proofs.lemmas.List.Elements.{filter-append}
 use Rattle.std.specs.Ordering.{is_lt, is_eq}
 use Rattle.std.specs.List.{filter, filter_map, cons_option, list_any, AllByRecursion}
@@ -12,10 +13,11 @@ use Rattle.std.specs.FinMap.{find, put, is_sorted, entries, entries_sorted, entr
 use Rattle.std.specs.FinMap.Entries.{by_order, below_all}
 use Rattle.chat_change.specs.Order.{record_cmp}
 use Rattle.chat_change.specs.declared.change.Change.{Change}
-use Rattle.chat_change.specs.declared.change.Change.TheVariants.{Post, Redact, Mark, Floor}
+use Rattle.chat_change.specs.declared.change.Change.TheVariants.{Post, Redact, Mark, Floor, AccountFloor}
 use Rattle.chat_history.specs.Choice.{earlier, first_by, greatest}
-use Rattle.chat_change.specs.Key.{Key, FloorOf, MarkerOf, MessageOf, key_cmp, same_key, key_of, bearers_of}
-use Rattle.chat_history.specs.History.{floor, mark, is_gone, kept_record, position_of, floor_moment, marker_moment, posted_record, message_moment, is_redaction, piece, piece_entry, History, norm, changes_of, IsKeyedEntry, IsKeyed}
+use Rattle.chat_change.specs.Extent.{Extent, OfAccount, OfBuffer}
+use Rattle.chat_change.specs.Key.{Key, FloorOf, MarkerOf, MessageOf, key_cmp, same_key, key_of, bearers_of, floor_change}
+use Rattle.chat_history.specs.History.{floor, own_floor, floor_around, mark, is_gone, kept_record, position_of, floor_moment, marker_moment, posted_record, message_moment, is_redaction, piece, piece_entry, History, norm, changes_of, IsKeyedEntry, IsKeyed}
 use Rattle.chat_change.proofs.CallerLemmas.{key_total, key_exact, same_key_is}
 
 -- ---- a change of a key in the piece of that key
@@ -50,6 +52,7 @@ All-posted k (Post r ∷ cs) h = (h.0, All-posted k cs h.1)
 All-posted k (Redact b m t ∷ cs) h = All-posted k cs h.1
 All-posted k (Mark b t ∷ cs) h = All-posted k cs h.1
 All-posted k (Floor b t ∷ cs) h = All-posted k cs h.1
+All-posted k (AccountFloor a t ∷ cs) h = All-posted k cs h.1
 
 IfSome-map : {A B : Type 0} (f : A → B) (P : B → Type 0) (u : Option A) → IfSome u (λ x. P (f x)) → IfSome (option_map f u) P
 IfSome-map f P None h = tt
@@ -59,8 +62,20 @@ IfSome-any : {A : Type 0} (P : A → Type 0) (u : Option A) → ((x : A) → P x
 IfSome-any P None h = tt
 IfSome-any P (Some x) h = h x
 
+pub key_of-floor_change : (e : Extent) (t : ℕ) → key_of (floor_change e t) ≡ FloorOf e
+key_of-floor_change (OfAccount a) t = refl
+key_of-floor_change (OfBuffer b) t = refl
+
+-- the piece of a floor: the own one, where it is above the one around
+abbrev pub floor_piece : Extent → ℕ → ℕ → Option Change
+floor_piece e around own = cond (nat_lt around own) (Some (floor_change e own)) None
+
 pub piece_bears : (changes : List Change) (k : Key) → IfSome (piece changes k) (Bears k)
-piece_bears changes (FloorOf b) = elim (nat_lt 0 (floor changes b)) as (λ t. IfSome (cond t (Some (Floor b (floor changes b))) None) (Bears (FloorOf b))) [ true ↦ refl | false ↦ tt ]
+piece_bears changes (FloorOf e) =
+    elim (nat_lt (floor_around changes e) (own_floor changes e)) as (λ t. IfSome (cond t (Some (floor_change e (own_floor changes e))) None) (Bears (FloorOf e))) [
+      | true ↦ key_of-floor_change e (own_floor changes e)
+      | false ↦ tt
+    ]
 piece_bears changes (MarkerOf b) = IfSome-map (Mark b) (Bears (MarkerOf b)) (mark changes b) (IfSome-any _ (mark changes b) (λ t. refl))
 piece_bears changes (MessageOf b m) =
     let k = MessageOf b m in
@@ -73,10 +88,26 @@ piece_bears changes (MessageOf b m) =
 
 -- ---- what `norm` has at a key
 
+pub not_below_zero : (around : ℕ) → nat_lt around 0 ≡ false
+not_below_zero around = grind (arith, nat_tests)
+
+less_from_test : (around own : ℕ) → nat_lt around own ≡ true → around < own
+less_from_test around own e = grind (arith, nat_tests)
+
+-- two own floors have one piece, where they are equal as soon as one of them is above the one around
+pub floor_piece_alike : (e : Extent) (around own other : ℕ) → (around < own → own ≡ other) → (around < other → own ≡ other) → floor_piece e around own ≡ floor_piece e around other
+floor_piece_alike e around own other h k = decide (nat_lt around own) (nat_lt around other) refl refl
+  where
+    decide : (s t : Bool) → nat_lt around own ≡ s → nat_lt around other ≡ t → floor_piece e around own ≡ floor_piece e around other
+    decide true t p q = ap (floor_piece e around) (h (less_from_test around own p))
+    decide false true p q = ap (floor_piece e around) (k (less_from_test around other q))
+    decide false false p q = ap (λ s. cond s (Some (floor_change e own)) None) p ∙ sym (ap (λ t. cond t (Some (floor_change e other)) None) q)
+
 -- a key that nothing bears has no piece
 pub piece_none : (changes : List Change) (k : Key) → bearers_of k changes ≡ [] → piece changes k ≡ None
-piece_none changes (FloorOf b) e =
-    ap (λ cs. let f = unwrap_or (greatest (filter_map floor_moment cs)) 0 in cond (nat_lt 0 f) (Some (Floor b f)) None) e
+piece_none changes (FloorOf d) e =
+    ap (λ cs. floor_piece d (floor_around changes d) (unwrap_or (greatest (filter_map floor_moment cs)) 0)) e
+    ∙ ap (λ t. cond t (Some (floor_change d 0)) None) (not_below_zero (floor_around changes d))
 piece_none changes (MarkerOf b) e = ap (λ cs. option_map (Mark b) (greatest (filter_map marker_moment cs))) e
 piece_none changes (MessageOf b m) e =
     ap (λ cs. cond (list_any is_redaction cs)

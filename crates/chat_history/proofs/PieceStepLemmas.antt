@@ -2,26 +2,27 @@
 use Rattle.std.proofs.Common.{◌≡◌, ℕ, suc, ◌+◌, ◌≤◌, ◌<◌, Bool, true, false, cond, ◌||◌, Option, Some, None, List, [], ◌∷◌, ◌++◌, length, refl, sym, ◌∙◌, ap, subst, arith, append_assoc, ◌⊎◌, inl, inr, ⊎_elim}
 use Rattle.std.proofs.lemmas.Bool.{false≢true}
 use Rattle.std.specs.List.{filter_map, list_any}
-use Rattle.std.specs.Option.{IfSome, option_map, option_to_list, unwrap_or}
+use Rattle.std.specs.Option.{IfSome, option_map, option_to_list}
 use Rattle.std.specs.Prelude.{nat_lt, nat_le, not}
 use Rattle.std.specs.FinMap.{get}
 use Rattle.chat_change.specs.Buffer.{Buffer}
 use Rattle.chat_change.specs.Record.{Record}
 use Rattle.chat_change.specs.declared.change.Change.{Change}
-use Rattle.chat_change.specs.declared.change.Change.TheVariants.{Post, Redact, Mark, Floor}
+use Rattle.chat_change.specs.declared.change.Change.TheVariants.{Post, Redact, Mark, Floor, AccountFloor}
 use Rattle.chat_history.specs.Choice.{greatest}
-use Rattle.chat_change.specs.Key.{Key, FloorOf, MarkerOf, MessageOf, key_of, same_key, bearers_of}
-use Rattle.chat_history.specs.History.{floor, floor_moment, marker_moment, piece, norm, changes_of, Includes}
+use Rattle.chat_change.specs.Extent.{Extent, OfAccount, OfBuffer}
+use Rattle.chat_change.specs.Key.{Key, FloorOf, MarkerOf, MessageOf, key_of, same_key, bearers_of, floor_change}
+use Rattle.chat_history.specs.History.{marker_moment, piece, norm, changes_of, Includes}
 use Rattle.chat_history.specs.Same.{same_history}
 use Rattle.chat_history.specs.Numbering.{counts_after, changes_that_count, front, up_to_last, number}
 use Rattle.chat_history.proofs.ChoiceLemmas.{keep}
-use Rattle.chat_history.proofs.PieceLemmas.{Bears, get-norm, piece_bears, norm_keyed}
+use Rattle.chat_history.proofs.PieceLemmas.{Bears, floor_piece, not_below_zero, get-norm, piece_bears, piece_none, norm_keyed}
 use Rattle.chat_history.proofs.NormLemmas.{at_least}
 use Rattle.chat_history.proofs.SameLemmas.{same_history_decides}
 use Rattle.chat_history.proofs.SetLemmas.{norm_left}
 use Rattle.chat_history.proofs.AbsorbLemmas.{append_none, bearing_other}
 use Rattle.chat_history.proofs.NumberLemmas.{counted-push, front-push, number-push}
-use Rattle.chat_history.proofs.StepLemmas.{settle, get_step, settle-post, settle-redaction}
+use Rattle.chat_history.proofs.StepLemmas.{floor_under, settle, get_step, settle-post, settle-redaction}
 use Rattle.chat_change.proofs.CallerLemmas.{same_key_is}
 use Rattle.chat_history.proofs.IncludesLemmas.{Includes-bare}
 
@@ -60,30 +61,57 @@ message_before b m f (Some (Redact d n t)) new k e =
     (Redact d n t, refl, λ xs h. subst (Includes xs) is (redaction_before b m f t xs (subst (Includes xs) (λ i. Redact (p i) (q i) t) h)))
 message_before b m f (Some (Mark d t)) new k e = cc
 message_before b m f (Some (Floor d t)) new k e = cc
+message_before b m f (Some (AccountFloor a t)) new k e = cc
+
+-- ---- a floor, where the one around rises
+
+floor_unchanged : (e : Extent) (around own : ℕ) (old new : Change) → old ≡ floor_change e own → floor_piece e around own ≡ Some new → Before (Some old) new
+floor_unchanged e around own old new is =
+    elim (nat_lt around own) as (λ s. cond s (Some (floor_change e own)) None ≡ Some new → Before (Some old) new) [
+      | true ↦ λ h. let same : floor_change e own ≡ new = cc h in (old, refl, λ xs i. subst (Includes xs) (is ∙ same) i)
+      | false ↦ λ h. cc
+    ]
+
+none_not : {A : Type 0} (new : Change) (o : Option Change) → o ≡ None → o ≡ Some new → A
+none_not new o e f = cc (sym e ∙ f)
+
+floor_before : (e : Extent) (around : ℕ) (o : Option Change) (new : Change) → IfSome o (Bears (FloorOf e)) → settle (FloorOf e) around (option_to_list o) ≡ Some new → Before o new
+floor_before e around None new k h = none_not new (floor_piece e around 0) (ap (λ s. cond s (Some (floor_change e 0)) None) (not_below_zero around)) h
+floor_before e around (Some (Post r)) new k h = cc
+floor_before e around (Some (Redact d m t)) new k h = cc
+floor_before e around (Some (Mark d t)) new k h = cc
+floor_before e around (Some (Floor d t)) new k h = let is : OfBuffer d ≡ e = cc k in floor_unchanged e around t (Floor d t) new (ap (λ x. floor_change x t) is) h
+floor_before e around (Some (AccountFloor a t)) new k h = let is : OfAccount a ≡ e = cc k in floor_unchanged e around t (AccountFloor a t) new (ap (λ x. floor_change x t) is) h
 
 module _ (changes : List Change) (c : Change) where
   borne_none : (k : Key) → same_key k (key_of c) ≡ false → bearers_of k (c ∷ []) ≡ []
   borne_none k e = ap (λ b. cond b (c ∷ []) []) e
 
+  -- what is left under a key that the change doesn't bear is what its present piece makes at the new floor
+  settled : (k : Key) (new : Change) → same_key k (key_of c) ≡ false → get (norm (changes ++ c ∷ [])) k ≡ Some new → settle k (floor_under (changes_of (norm changes) ++ c ∷ []) k) (option_to_list (get (norm changes) k)) ≡ Some new
+  settled k new e is =
+      let h = norm changes in
+      let f = floor_under (changes_of h ++ c ∷ []) k in
+      ap (settle k f) (sym (append_none (option_to_list (get h k))) ∙ ap (λ cs. option_to_list (get h k) ++ cs) (sym (borne_none k e)))
+      ∙ sym (get_step h (norm_keyed changes) (c ∷ []) k)
+      ∙ ap (λ g. get g k) (norm_left changes (c ∷ []))
+      ∙ is
+
+  bears : (k : Key) → IfSome (get (norm changes) k) (Bears k)
+  bears k = subst (λ o. IfSome o (Bears k)) (sym (get-norm changes k)) (piece_bears changes k)
+
   -- a key that a change doesn't bear
   pub other_before : (k : Key) (new : Change) → same_key k (key_of c) ≡ false → get (norm (changes ++ c ∷ [])) k ≡ Some new → Before (get (norm changes) k) new
-  other_before (FloorOf b) new e is =
-      let k = FloorOf b in
-      let same : piece (changes ++ c ∷ []) k ≡ piece changes k = ap (λ ds. let f = unwrap_or (greatest (filter_map floor_moment ds)) 0 in cond (nat_lt 0 f) (Some (Floor b f)) None) (bearing_other k changes c e) in
-      before_same (get (norm changes) k) (get (norm (changes ++ c ∷ [])) k) new (get-norm changes k ∙ sym same ∙ sym (get-norm (changes ++ c ∷ []) k)) is
+  other_before (FloorOf d) new e is =
+      let k = FloorOf d in
+      floor_before d (floor_under (changes_of (norm changes) ++ c ∷ []) k) (get (norm changes) k) new (bears k) (settled k new e is)
   other_before (MarkerOf b) new e is =
       let k = MarkerOf b in
       let same : piece (changes ++ c ∷ []) k ≡ piece changes k = ap (λ ds. option_map (Mark b) (greatest (filter_map marker_moment ds))) (bearing_other k changes c e) in
       before_same (get (norm changes) k) (get (norm (changes ++ c ∷ [])) k) new (get-norm changes k ∙ sym same ∙ sym (get-norm (changes ++ c ∷ []) k)) is
   other_before (MessageOf b m) new e is =
       let k = MessageOf b m in
-      let h = norm changes in
-      let f = floor (changes_of h ++ c ∷ []) b in
-      message_before b m f (get h k) new (subst (λ o. IfSome o (Bears k)) (sym (get-norm changes k)) (piece_bears changes k))
-      (ap (settle k f) (sym (append_none (option_to_list (get h k))) ∙ ap (λ cs. option_to_list (get h k) ++ cs) (sym (borne_none k e)))
-      ∙ sym (get_step h (norm_keyed changes) (c ∷ []) k)
-      ∙ ap (λ g. get g k) (norm_left changes (c ∷ []))
-      ∙ is)
+      message_before b m (floor_under (changes_of (norm changes) ++ c ∷ []) k) (get (norm changes) k) new (bears k) (settled k new e is)
 
   not_counted : counts_after changes c ≡ false → norm (changes ++ c ∷ []) ≡ norm changes
   not_counted e = (same_history_decides (norm (changes ++ c ∷ [])) (norm changes)).0 (opposite (same_history (norm (changes ++ c ∷ [])) (norm changes)) e)
@@ -149,9 +177,7 @@ module _ (start : ℕ) where
   Above cs = (k : Key) (c : Change) → get (norm cs) k ≡ Some c → start < number start cs k
 
   nothing : (k : Key) (c : Change) → piece [] k ≡ Some c → start < number start [] k
-  nothing (FloorOf b) c e = cc
-  nothing (MarkerOf b) c e = cc
-  nothing (MessageOf b m) c e = cc
+  nothing k c e = none_not c (piece [] k) (piece_none [] k refl) e
 
   above_more : (cs : List Change) (d : Change) → Above cs → Above (cs ++ d ∷ [])
   above_more cs d h k c is = ⊎_elim

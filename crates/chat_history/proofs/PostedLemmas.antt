@@ -8,7 +8,7 @@ use Rattle.chat_change.specs.Buffer.{Buffer}
 use Rattle.chat_change.specs.Record.{Record}
 use Rattle.chat_change.specs.Key.{MessageOf}
 use Rattle.chat_change.specs.declared.change.Change.{Change}
-use Rattle.chat_change.specs.declared.change.Change.TheVariants.{Post, Redact, Mark, Floor}
+use Rattle.chat_change.specs.declared.change.Change.TheVariants.{Post, Redact, Mark, Floor, AccountFloor}
 use Rattle.chat_history.specs.Choice.{greatest, Among}
 use Rattle.chat_history.specs.History.{norm, changes_of}
 use Rattle.chat_history.specs.Visible.{visible}
@@ -38,6 +38,7 @@ post_where p (Post r) b e =
 post_where p (Redact d m t) b e = cc
 post_where p (Mark d t) b e = cc
 post_where p (Floor d t) b e = cc
+post_where p (AccountFloor a t) b e = cc
 
 -- a record was posted in that buffer at that moment
 abbrev pub IsPostedAt : List Change → Buffer → ℕ → Type 0

@@ -8,7 +8,7 @@ use Rattle.std.specs.FinMap.{entries, same_entries_map}
 use Rattle.std.proofs.lemmas.Bool.{false≢true}
 use Rattle.std.proofs.lemmas.Cmp.{tied_itself}
 use Rattle.chat_change.specs.declared.change.Change.{Change}
-use Rattle.chat_change.specs.declared.change.Change.TheVariants.{Post, Redact, Mark, Floor}
+use Rattle.chat_change.specs.declared.change.Change.TheVariants.{Post, Redact, Mark, Floor, AccountFloor}
 use Rattle.chat_change.proofs.CallerLemmas.{texts_total, texts_exact, buffer_apart, record_apart}
 use Rattle.chat_change.specs.Key.{Key, same_key}
 use Rattle.chat_history.specs.History.{History}
@@ -26,6 +26,7 @@ changes_apart (Post r) (Post s) e = ap Post (record_apart r s (cc e) (cc e) (cc 
 changes_apart (Post r) (Redact d n u) e = cc e
 changes_apart (Post r) (Mark d u) e = cc e
 changes_apart (Post r) (Floor d u) e = cc e
+changes_apart (Post r) (AccountFloor a u) e = cc e
 changes_apart (Redact b m t) (Post s) e = cc e
 changes_apart (Redact b m t) (Redact d n u) e =
     let p = buffer_apart b d (cc e) (cc e) (cc e) in
@@ -34,6 +35,7 @@ changes_apart (Redact b m t) (Redact d n u) e =
     λ i. Redact (p i) (q i) (o i)
 changes_apart (Redact b m t) (Mark d u) e = cc e
 changes_apart (Redact b m t) (Floor d u) e = cc e
+changes_apart (Redact b m t) (AccountFloor a u) e = cc e
 changes_apart (Mark b t) (Post s) e = cc e
 changes_apart (Mark b t) (Redact d n u) e = cc e
 changes_apart (Mark b t) (Mark d u) e =
@@ -41,6 +43,7 @@ changes_apart (Mark b t) (Mark d u) e =
     let o : t ≡ u = cc e in
     λ i. Mark (p i) (o i)
 changes_apart (Mark b t) (Floor d u) e = cc e
+changes_apart (Mark b t) (AccountFloor a u) e = cc e
 changes_apart (Floor b t) (Post s) e = cc e
 changes_apart (Floor b t) (Redact d n u) e = cc e
 changes_apart (Floor b t) (Mark d u) e = cc e
@@ -48,6 +51,15 @@ changes_apart (Floor b t) (Floor d u) e =
     let p = buffer_apart b d (cc e) (cc e) (cc e) in
     let o : t ≡ u = cc e in
     λ i. Floor (p i) (o i)
+changes_apart (Floor b t) (AccountFloor a u) e = cc e
+changes_apart (AccountFloor a t) (Post s) e = cc e
+changes_apart (AccountFloor a t) (Redact d n u) e = cc e
+changes_apart (AccountFloor a t) (Mark d u) e = cc e
+changes_apart (AccountFloor a t) (Floor d u) e = cc e
+changes_apart (AccountFloor a t) (AccountFloor d u) e =
+    let p : a ≡ d = cc e in
+    let o : t ≡ u = cc e in
+    λ i. AccountFloor (p i) (o i)
 
 pub same_change_is : (c d : Change) → same_change c d ≡ true → c ≡ d
 same_change_is c d e = changes_apart c d (texts_exact (change_texts c) (change_texts d) ((Equal-is _).0 e))

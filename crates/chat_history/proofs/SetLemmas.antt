@@ -1,24 +1,25 @@
 -- Only membership counts, and what follows for `join`.
-use Rattle.std.proofs.Common.{◌≡◌, ℕ, zero, suc, ◌<◌, Bool, true, false, cond, ◌||◌, Option, Some, None, List, [], ◌∷◌, ◌++◌, length, refl, sym, ◌∙◌, ap, subst, arith, append_assoc, ⊎_elim}
+use Rattle.std.proofs.Common.{◌≡◌, ℕ, zero, suc, ◌<◌, max, Bool, true, false, cond, ◌||◌, Option, Some, None, List, [], ◌∷◌, ◌++◌, length, refl, sym, ◌∙◌, ap, subst, arith, append_assoc, ⊎_elim}
 use Rattle.std.specs.declared.cmp.Ordering.{Ordering}
 use Rattle.std.proofs.lemmas.Bool.Decides.{nat_tests}
 use Rattle.std.proofs.lemmas.List.Elements.{filter_map-append, Contains-append_right, Contains-append_left, Contains-append_cases}
 use Rattle.std.proofs.lemmas.List.Folds.{list_any-append}
 use Rattle.std.proofs.lemmas.Map.Lookups.{CmpEqualImpliesEq}
-use Rattle.std.specs.Prelude.{Contains, slice_index_or, nat_lt}
+use Rattle.std.specs.Prelude.{Contains, slice_index_or}
 use Rattle.std.specs.Ordering.{nat_cmp, flip_args}
 use Rattle.std.specs.Cmp.{IsTotalOrder}
 use Rattle.std.specs.List.{filter_map, list_any}
 use Rattle.std.specs.Option.{option_map, unwrap_or}
 use Rattle.chat_change.specs.Buffer.{Buffer}
 use Rattle.chat_change.specs.declared.change.Change.{Change}
-use Rattle.chat_change.specs.declared.change.Change.TheVariants.{Post, Redact, Mark, Floor}
+use Rattle.chat_change.specs.declared.change.Change.TheVariants.{Post, Redact, Mark}
 use Rattle.chat_change.proofs.CallerLemmas.{record_total, record_exact}
 use Rattle.chat_history.specs.Choice.{earlier, greatest}
+use Rattle.chat_change.specs.Extent.{Extent, OfAccount, OfBuffer}
 use Rattle.chat_change.specs.Key.{Key, FloorOf, MarkerOf, MessageOf, bearers_of}
-use Rattle.chat_history.specs.History.{floor, mark, is_gone, kept_record, position_of, floor_moment, is_redaction, piece, norm, changes_of, SameSet, join, IsAtMost}
+use Rattle.chat_history.specs.History.{floor, own_floor, floor_around, mark, is_gone, kept_record, position_of, floor_moment, is_redaction, piece, norm, changes_of, SameSet, join, IsAtMost}
 use Rattle.chat_history.proofs.ChoiceLemmas.{keep, earlier_comm, earlier_assoc, earlier_idem}
-use Rattle.chat_history.proofs.PieceLemmas.{bearers_of-append, norm_from_pieces}
+use Rattle.chat_history.proofs.PieceLemmas.{floor_piece, bearers_of-append, norm_from_pieces}
 use Rattle.chat_history.proofs.NormLemmas.{latest_total, latest_exact, greatest-append, best, top, best-append, top-append, kept-best, position-top, at_least, stays, mark-append, norm_parts}
 
 -- a value that is all_changes from the parts of a list depends on the members alone
@@ -70,14 +71,21 @@ module _ (xs ys : List Change) (same : SameSet xs ys) where
     same_first : f xs ≡ f ys
     same_first = same_members (earlier R) (earlier_comm o exact) (earlier_assoc o exact) (earlier_idem o exact) f parts xs ys (λ c. (same c).0) (λ c. (same c).1)
 
-  floor_parts : (b : Buffer) (us vs : List Change) → greatest (filter_map floor_moment (bearers_of (FloorOf b) (us ++ vs))) ≡ earlier (flip_args nat_cmp) (greatest (filter_map floor_moment (bearers_of (FloorOf b) us))) (greatest (filter_map floor_moment (bearers_of (FloorOf b) vs)))
-  floor_parts b us vs =
-      ap (λ cs. greatest (filter_map floor_moment cs)) (bearers_of-append (FloorOf b) us vs)
-      ∙ ap greatest (filter_map-append floor_moment (bearers_of (FloorOf b) us) (bearers_of (FloorOf b) vs))
-      ∙ greatest-append (filter_map floor_moment (bearers_of (FloorOf b) us)) (filter_map floor_moment (bearers_of (FloorOf b) vs))
+  floor_parts : (e : Extent) (us vs : List Change) → greatest (filter_map floor_moment (bearers_of (FloorOf e) (us ++ vs))) ≡ earlier (flip_args nat_cmp) (greatest (filter_map floor_moment (bearers_of (FloorOf e) us))) (greatest (filter_map floor_moment (bearers_of (FloorOf e) vs)))
+  floor_parts e us vs =
+      ap (λ cs. greatest (filter_map floor_moment cs)) (bearers_of-append (FloorOf e) us vs)
+      ∙ ap greatest (filter_map-append floor_moment (bearers_of (FloorOf e) us) (bearers_of (FloorOf e) vs))
+      ∙ greatest-append (filter_map floor_moment (bearers_of (FloorOf e) us)) (filter_map floor_moment (bearers_of (FloorOf e) vs))
+
+  same_own_floor : (e : Extent) → own_floor xs e ≡ own_floor ys e
+  same_own_floor e = ap (λ u. unwrap_or u 0) (same_first latest_total latest_exact (λ cs. greatest (filter_map floor_moment (bearers_of (FloorOf e) cs))) (floor_parts e))
+
+  same_around : (e : Extent) → floor_around xs e ≡ floor_around ys e
+  same_around (OfAccount a) = refl
+  same_around (OfBuffer b) = same_own_floor (OfAccount b.account)
 
   same_floor : (b : Buffer) → floor xs b ≡ floor ys b
-  same_floor b = ap (λ u. unwrap_or u 0) (same_first latest_total latest_exact (λ cs. greatest (filter_map floor_moment (bearers_of (FloorOf b) cs))) (floor_parts b))
+  same_floor b = λ i. max (same_own_floor (OfAccount b.account) i) (same_own_floor (OfBuffer b) i)
 
   same_mark : (b : Buffer) → mark xs b ≡ mark ys b
   same_mark b = same_first latest_total latest_exact (λ cs. mark cs b) (λ us vs. mark-append us vs b)
@@ -103,7 +111,7 @@ module _ (xs ys : List Change) (same : SameSet xs ys) where
     same_kept = kept-best xs b m ∙ (λ i. keep (stays (same_floor b i)) (same_best i)) ∙ sym (kept-best ys b m)
 
   same_piece : (k : Key) → piece xs k ≡ piece ys k
-  same_piece (FloorOf b) = ap (λ f. cond (nat_lt 0 f) (Some (Floor b f)) None) (same_floor b)
+  same_piece (FloorOf e) = λ i. floor_piece e (same_around e i) (same_own_floor e i)
   same_piece (MarkerOf b) = ap (option_map (Mark b)) (same_mark b)
   same_piece (MessageOf b m) = λ i. cond (same_gone b m i) (Some (Redact b m (same_position b m i))) (option_map Post (same_kept b m i))
 

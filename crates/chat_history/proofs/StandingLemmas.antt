@@ -1,11 +1,11 @@
 -- Markers, floors, positions and kept records as what the members of a set of changes say.
-use Rattle.std.proofs.Common.{◌≡◌, ◌≢◌, ℕ, ◌≤◌, Bool, true, false, ◌||◌, Option, Some, None, List, [], ◌∷◌, refl, sym, ◌∙◌, ap, subst, arith, ⊎_elim, inl, inr, ◌⊎◌}
+use Rattle.std.proofs.Common.{◌≡◌, ◌≢◌, ℕ, ◌≤◌, ◌<◌, Bool, true, false, ◌||◌, Option, Some, None, List, [], ◌∷◌, refl, sym, ◌∙◌, ap, subst, arith, ⊎_elim, inl, inr, ◌⊎◌}
 use Rattle.std.specs.declared.cmp.Ordering.{Ordering}
 use Rattle.std.specs.declared.cmp.Ordering.TheVariants.{Less, Equal, Greater}
 use Rattle.std.proofs.lemmas.Bool.{false≢true}
 use Rattle.std.proofs.lemmas.Bool.Decides.{nat_tests}
 use Rattle.std.proofs.lemmas.Map.Keys.{le_from_not_gt}
-use Rattle.std.specs.Prelude.{Contains, ◌↔◌, IsTrue, nat_le}
+use Rattle.std.specs.Prelude.{Contains, ◌↔◌, IsTrue, nat_lt, nat_le}
 use Rattle.std.specs.Ordering.{is_gt, nat_cmp, ordering_reverse}
 use Rattle.std.specs.Cmp.{IsTotalOrder}
 use Rattle.std.specs.List.{filter, filter_map, list_any}
@@ -14,15 +14,17 @@ use Rattle.chat_change.specs.Buffer.{Buffer}
 use Rattle.chat_change.specs.Record.{Record}
 use Rattle.chat_change.specs.Order.{record_cmp}
 use Rattle.chat_change.specs.declared.change.Change.{Change}
-use Rattle.chat_change.specs.declared.change.Change.TheVariants.{Post, Redact, Mark, Floor}
+use Rattle.chat_change.specs.declared.change.Change.TheVariants.{Post, Redact, Mark, Floor, AccountFloor}
 use Rattle.chat_change.proofs.CallerLemmas.{record_total, record_exact}
 use Rattle.chat_history.specs.Choice.{greatest, Among}
-use Rattle.chat_change.specs.Key.{Key, FloorOf, MarkerOf, MessageOf, same_key, key_of, bearers_of}
-use Rattle.chat_history.specs.History.{floor, mark, is_gone, kept_record, position_of, floor_moment, marker_moment, posted_record, message_moment, is_redaction}
+use Rattle.chat_change.specs.Extent.{Extent, OfAccount, OfBuffer}
+use Rattle.chat_change.specs.Key.{Key, FloorOf, MarkerOf, MessageOf, same_key, key_of, bearers_of, floor_change}
+use Rattle.chat_history.specs.History.{floor, own_floor, account_floor, mark, is_gone, kept_record, position_of, floor_moment, marker_moment, posted_record, message_moment, is_redaction}
 use Rattle.chat_history.specs.Members.{IsPosted, IsStandingPost, IsMomentOf}
 use Rattle.chat_change.proofs.CallerLemmas.{same_key_itself, same_key_is}
 use Rattle.chat_history.proofs.NormLemmas.{latest_total, latest_exact}
 use Rattle.chat_history.proofs.MemberLemmas.{among, contained, among-filter, among_passing, among-filter_map, among_made, first_member, member_first, first_none, none_first}
+use Rattle.chat_history.proofs.PieceLemmas.{key_of-floor_change}
 
 -- ---- changes of a key
 
@@ -58,6 +60,7 @@ marker_is (Post r) b t k e = cc
 marker_is (Redact d m u) b t k e = cc
 marker_is (Mark d u) b t k e = cc
 marker_is (Floor d u) b t k e = cc
+marker_is (AccountFloor a u) b t k e = cc
 
 module _ (changes : List Change) (b : Buffer) where
   abbrev marks : List ℕ
@@ -86,38 +89,74 @@ module _ (changes : List Change) (b : Buffer) where
 
 -- ---- floors
 
-floor_is : (c : Change) (b : Buffer) (t : ℕ) → key_of c ≡ FloorOf b → floor_moment c ≡ Some t → c ≡ Floor b t
-floor_is (Post r) b t k e = cc
-floor_is (Redact d m u) b t k e = cc
-floor_is (Mark d u) b t k e = cc
-floor_is (Floor d u) b t k e = cc
+floor_is : (c : Change) (e : Extent) (t : ℕ) → key_of c ≡ FloorOf e → floor_moment c ≡ Some t → c ≡ floor_change e t
+floor_is (Post r) e t k m = cc
+floor_is (Redact d n u) e t k m = cc
+floor_is (Mark d u) e t k m = cc
+floor_is (Floor d u) e t k m =
+    let p : OfBuffer d ≡ e = cc in
+    let q : u ≡ t = cc in
+    λ i. floor_change (p i) (q i)
+floor_is (AccountFloor a u) e t k m =
+    let p : OfAccount a ≡ e = cc in
+    let q : u ≡ t = cc in
+    λ i. floor_change (p i) (q i)
 
-module _ (changes : List Change) (b : Buffer) where
+moment_of-floor_change : (e : Extent) (t : ℕ) → floor_moment (floor_change e t) ≡ Some t
+moment_of-floor_change (OfAccount a) t = refl
+moment_of-floor_change (OfBuffer b) t = refl
+
+module _ (changes : List Change) (e : Extent) where
   abbrev floors : List ℕ
-  floors = filter_map floor_moment (bearers_of (FloorOf b) changes)
+  floors = filter_map floor_moment (bearers_of (FloorOf e) changes)
 
-  set : (t : ℕ) → Among t floors → Contains changes (Floor b t)
+  set : (t : ℕ) → Among t floors → Contains changes (floor_change e t)
   set t m =
-      let r = among-filter_map floor_moment (bearers_of (FloorOf b) changes) t m in
-      let c = among-bearers_of (FloorOf b) changes r.0 r.1 in
-      subst (Contains changes) (floor_is r.0 b t c.1 r.2) c.0
+      let r = among-filter_map floor_moment (bearers_of (FloorOf e) changes) t m in
+      let c = among-bearers_of (FloorOf e) changes r.0 r.1 in
+      subst (Contains changes) (floor_is r.0 e t c.1 r.2) c.0
 
-  in_floors : (t : ℕ) → Contains changes (Floor b t) → Among t floors
-  in_floors t h = among_made floor_moment (bearers_of (FloorOf b) changes) (Floor b t) t (among_borne (FloorOf b) changes (Floor b t) h refl) refl
+  in_floors : (t : ℕ) → Contains changes (floor_change e t) → Among t floors
+  in_floors t h =
+      among_made floor_moment (bearers_of (FloorOf e) changes) (floor_change e t) t
+      (among_borne (FloorOf e) changes (floor_change e t) h (key_of-floor_change e t)) (moment_of-floor_change e t)
 
-  bounded : (u : Option ℕ) → greatest floors ≡ u → (t : ℕ) → Contains changes (Floor b t) → t ≤ unwrap_or u 0
-  bounded None e t c = absurd (no_member floors (first_none latest_total latest_exact floors e) t (in_floors t c))
-  bounded (Some v) e t c = (greatest_most floors v e).1 t (in_floors t c)
+  bounded : (u : Option ℕ) → greatest floors ≡ u → (t : ℕ) → Contains changes (floor_change e t) → t ≤ unwrap_or u 0
+  bounded None g t c = absurd (no_member floors (first_none latest_total latest_exact floors g) t (in_floors t c))
+  bounded (Some v) g t c = (greatest_most floors v g).1 t (in_floors t c)
 
-  pub floor_bound : (t : ℕ) → Contains changes (Floor b t) → t ≤ floor changes b
-  floor_bound = bounded (greatest floors) refl
+  own_floor_bound : (t : ℕ) → Contains changes (floor_change e t) → t ≤ own_floor changes e
+  own_floor_bound = bounded (greatest floors) refl
 
-  is_set : (u : Option ℕ) → greatest floors ≡ u → (unwrap_or u 0 ≡ 0) ⊎ Contains changes (Floor b (unwrap_or u 0))
-  is_set None e = inl refl
-  is_set (Some v) e = inr (set v (greatest_most floors v e).0)
+  is_set : (u : Option ℕ) → greatest floors ≡ u → (unwrap_or u 0 ≡ 0) ⊎ Contains changes (floor_change e (unwrap_or u 0))
+  is_set None g = inl refl
+  is_set (Some v) g = inr (set v (greatest_most floors v g).0)
 
-  pub floor_set : (floor changes b ≡ 0) ⊎ Contains changes (Floor b (floor changes b))
-  floor_set = is_set (greatest floors) refl
+  own_floor_set : (own_floor changes e ≡ 0) ⊎ Contains changes (floor_change e (own_floor changes e))
+  own_floor_set = is_set (greatest floors) refl
+
+module _ (changes : List Change) where
+  pub account_floor_bound : (a : List ℕ) (t : ℕ) → Contains changes (AccountFloor a t) → t ≤ account_floor changes a
+  account_floor_bound a t = own_floor_bound changes (OfAccount a) t
+
+  pub account_floor_set : (a : List ℕ) → (account_floor changes a ≡ 0) ⊎ Contains changes (AccountFloor a (account_floor changes a))
+  account_floor_set a = own_floor_set changes (OfAccount a)
+
+  pub floor_around_bound : (b : Buffer) → account_floor changes b.account ≤ floor changes b
+  floor_around_bound b = omega arith
+
+  pub floor_bound : (b : Buffer) (t : ℕ) → Contains changes (Floor b t) → t ≤ floor changes b
+  floor_bound b t c = let h = own_floor_bound changes (OfBuffer b) t c in omega arith
+
+  pub floor_set : (b : Buffer) → (floor changes b ≡ account_floor changes b.account) ⊎ Contains changes (Floor b (floor changes b))
+  floor_set b = decide (nat_lt (account_floor changes b.account) (own_floor changes (OfBuffer b))) refl
+    where
+      decide : (s : Bool) → nat_lt (account_floor changes b.account) (own_floor changes (OfBuffer b)) ≡ s → (floor changes b ≡ account_floor changes b.account) ⊎ Contains changes (Floor b (floor changes b))
+      decide true p =
+          let above : account_floor changes b.account < own_floor changes (OfBuffer b) = grind (arith, nat_tests) in
+          let is : own_floor changes (OfBuffer b) ≡ floor changes b = omega arith in
+          ⊎_elim (λ z. absurd (omega (arith, z))) (λ c. inr (subst (λ t. Contains changes (Floor b t)) is c)) (own_floor_set changes (OfBuffer b))
+      decide false p = inl (grind (arith, nat_tests))
 
 -- ---- redactions
 
@@ -126,6 +165,7 @@ redaction_is (Post r) b m k e = absurd (false≢true e)
 redaction_is (Redact d n t) b m k e = (t, cc)
 redaction_is (Mark d u) b m k e = absurd (false≢true e)
 redaction_is (Floor d u) b m k e = absurd (false≢true e)
+redaction_is (AccountFloor a u) b m k e = absurd (false≢true e)
 
 any_member : {A : Type 0} (p : A → Bool) (xs : List A) → list_any p xs ≡ true → (x : A) × Among x xs × (p x ≡ true)
 any_member p [] e = absurd (false≢true e)
@@ -160,6 +200,7 @@ post_is (Post q) r e = cc
 post_is (Redact d n t) r e = cc
 post_is (Mark d u) r e = cc
 post_is (Floor d u) r e = cc
+post_is (AccountFloor a u) r e = cc
 
 at_least_is : (f t : ℕ) → nat_le f t ≡ true → f ≤ t
 at_least_is f t e = grind (arith, nat_tests)
@@ -220,6 +261,7 @@ module _ (changes : List Change) (b : Buffer) (m : List ℕ) where
   moment_is (Redact d n u) t k e = let s : Redact d n u ≡ Redact b m (Some t) = cc in inr s
   moment_is (Mark d u) t k e = cc
   moment_is (Floor d u) t k e = cc
+  moment_is (AccountFloor a u) t k e = cc
 
   abbrev moments : List ℕ
   moments = filter (λ t. nat_le (floor changes b) t) (filter_map message_moment (bearers_of (MessageOf b m) changes))

@@ -15,7 +15,7 @@ use Rattle.chat_change.specs.Buffer.{Buffer}
 use Rattle.chat_change.specs.Record.{Record}
 use Rattle.chat_change.specs.Order.{text_cmp, buffer_cmp}
 use Rattle.chat_change.specs.declared.change.Change.{Change}
-use Rattle.chat_change.specs.declared.change.Change.TheVariants.{Post, Redact, Mark, Floor}
+use Rattle.chat_change.specs.declared.change.Change.TheVariants.{Post, Redact, Mark, Floor, AccountFloor}
 use Rattle.chat_change.proofs.CallerLemmas.{text_total, text_exact, buffer_total, buffer_exact}
 use Rattle.chat_change.specs.Key.{MessageOf, key_of}
 use Rattle.chat_history.specs.Choice.{Among}
@@ -85,6 +85,7 @@ posted_is b (Post q) r e =
 posted_is b (Redact d m t) r e = cc
 posted_is b (Mark d t) r e = cc
 posted_is b (Floor d t) r e = cc
+posted_is b (AccountFloor a t) r e = cc
 
 pub posted_here : (b : Buffer) (r : Record) → r.buffer ≡ b → posted_in b (Post r) ≡ Some r
 posted_here b r e = ap (λ t. cond t (Some r) None) (ap (λ d. eq_by_cmp buffer_cmp b d) e ∙ ap is_eq (tied_itself buffer_total b))

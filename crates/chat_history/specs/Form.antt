@@ -3,12 +3,13 @@ use Rattle.std.specs.Prelude.{ℕ, Bool, true, false, ◌&&◌, ⊤, Option, Som
 use Rattle.std.specs.Ordering.{is_lt}
 use Rattle.chat_change.specs.Order.{record_cmp}
 use Rattle.chat_change.specs.declared.change.Change.{Change}
-use Rattle.chat_change.specs.declared.change.Change.TheVariants.{Post, Redact, Mark, Floor}
+use Rattle.chat_change.specs.declared.change.Change.TheVariants.{Post, Redact, Mark, Floor, AccountFloor}
 use Rattle.chat_history.specs.Choice.{later}
 use Rattle.chat_history.specs.Retention.{at_or_above}
 
 abbrev pub IsNoFloor : Change → Type 0
 IsNoFloor (Floor b t) = ⊥
+IsNoFloor (AccountFloor a t) = ⊥
 IsNoFloor c = ⊤
 
 -- whether a moment is later than another, where there may be none
@@ -47,7 +48,7 @@ abbrev pub first_form : ℕ → Change → Option Change
 first_form f (Post r) = if nat_le f r.at then Some (Post r) else None
 first_form f (Redact b m t) = Some (Redact b m (at_or_above f t))
 first_form f (Mark b t) = Some (Mark b t)
-first_form f (Floor b t) = None
+first_form f c = None
 
 -- the piece of a key after one more change of it
 abbrev pub next_piece : ℕ → Option Change → Change → Option Change

@@ -1,5 +1,5 @@
 -- What a set of changes means. A set is given as a list of which only membership counts.
-use Rattle.std.specs.Prelude.{ℕ, ◌≡◌, ◌≤◌, ◌↔◌, ⊤, Bool, Contains, true, false, Option, Some, None, List, [], ◌∷◌, ◌++◌, filter, unwrap_or, nat_lt, nat_le, if◌then◌else◌}
+use Rattle.std.specs.Prelude.{ℕ, ◌≡◌, ◌≤◌, ◌↔◌, ⊤, max, Bool, Contains, true, false, Option, Some, None, List, [], ◌∷◌, ◌++◌, filter, unwrap_or, nat_lt, nat_le, if◌then◌else◌}
 use Rattle.std.specs.List.{filter_map, list_any, AllByRecursion}
 use Rattle.std.specs.Option.{option_map}
 use Rattle.std.specs.FinMap.{FinMap, from_entries, entries, values}
@@ -7,14 +7,16 @@ use Rattle.chat_change.specs.Buffer.{Buffer}
 use Rattle.chat_change.specs.Record.{Record}
 use Rattle.chat_change.specs.Order.{record_cmp}
 use Rattle.chat_change.specs.declared.change.Change.{Change}
-use Rattle.chat_change.specs.declared.change.Change.TheVariants.{Post, Redact, Mark, Floor}
+use Rattle.chat_change.specs.declared.change.Change.TheVariants.{Post, Redact, Mark, Floor, AccountFloor}
+use Rattle.chat_change.specs.Extent.{Extent, OfAccount, OfBuffer}
+use Rattle.chat_change.specs.Key.{Key, FloorOf, MarkerOf, MessageOf, key_cmp, key_of, bearers_of, floor_change}
 use Rattle.chat_history.specs.Choice.{first_by, greatest}
-use Rattle.chat_change.specs.Key.{Key, FloorOf, MarkerOf, MessageOf, key_cmp, key_of, bearers_of}
 
 -- ---- what one change says
 
 abbrev pub floor_moment : Change → Option ℕ
 floor_moment (Floor b t) = Some t
+floor_moment (AccountFloor a t) = Some t
 floor_moment c = None
 
 abbrev pub marker_moment : Change → Option ℕ
@@ -37,14 +39,28 @@ is_redaction c = false
 
 -- ---- what a set of changes says
 
--- a buffer's own floor: the greatest that was set for it, or 0
-abbrev pub own_floor : List Change → Buffer → ℕ
-own_floor changes b =
-    unwrap_or (greatest (filter_map floor_moment (bearers_of (FloorOf b) changes))) 0
+-- the own floor of an account or of a buffer: the greatest that was set for it, or 0
+abbrev pub own_floor : List Change → Extent → ℕ
+own_floor changes e =
+    unwrap_or (greatest (filter_map floor_moment (bearers_of (FloorOf e) changes))) 0
 
--- the retention floor of a buffer, which is its own one
+-- the retention floor of an account: the greatest that was set for it, or 0
+abbrev pub account_floor : List Change → List ℕ → ℕ
+account_floor changes a = own_floor changes (OfAccount a)
+
+-- the retention floor of a buffer: that of its account or its own one, whichever is greater
 abbrev pub floor : List Change → Buffer → ℕ
-floor changes b = own_floor changes b
+floor changes b = max (account_floor changes b.account) (own_floor changes (OfBuffer b))
+
+-- the retention floor of an account or of a buffer
+abbrev pub floor_at : List Change → Extent → ℕ
+floor_at changes (OfAccount a) = account_floor changes a
+floor_at changes (OfBuffer b) = floor changes b
+
+-- the floor that the own one has to exceed to say anything: for a buffer that of its account
+abbrev pub floor_around : List Change → Extent → ℕ
+floor_around changes (OfAccount a) = 0
+floor_around changes (OfBuffer b) = account_floor changes b.account
 
 -- the read marker of a buffer: the greatest that was set
 abbrev pub mark : List Change → Buffer → Option ℕ
@@ -74,8 +90,9 @@ position_of changes b m =
 
 -- the one change that stands for all those of a key, if any does
 abbrev pub piece : List Change → Key → Option Change
-piece changes (FloorOf b) =
-    if nat_lt 0 (own_floor changes b) then Some (Floor b (own_floor changes b)) else None
+piece changes (FloorOf e) =
+    if nat_lt (floor_around changes e) (own_floor changes e)
+    then Some (floor_change e (own_floor changes e)) else None
 piece changes (MarkerOf b) = option_map (Mark b) (mark changes b)
 piece changes (MessageOf b m) =
     if is_gone changes b m then Some (Redact b m (position_of changes b m))

@@ -1,10 +1,11 @@
 -- What a floor takes away, and which floors are due.
 use Rattle.std.specs.Prelude.{ℕ, ◌-◌, ◌*◌, ◌||◌, ◌==◌, Bool, true, not, Option, Some, None, List, [], map, nat_lt, nat_le, if◌then◌else◌}
-use Rattle.std.specs.Ordering.{eq_by_cmp}
+use Rattle.std.specs.Ordering.{eq_by_cmp, is_eq}
 use Rattle.chat_change.specs.declared.change.Change.{Change}
 use Rattle.chat_change.specs.declared.change.Change.TheVariants.{Post, Redact, Floor}
 use Rattle.chat_change.specs.Buffer.{Buffer}
-use Rattle.chat_change.specs.Order.{buffer_cmp}
+use Rattle.chat_change.specs.Order.{text_cmp, buffer_cmp}
+use Rattle.chat_change.specs.Extent.{Extent, OfAccount, OfBuffer}
 use Rattle.chat_history.specs.Choice.{keep}
 use Rattle.chat_history.specs.History.{History}
 use Rattle.chat_history.specs.Buffers.{buffers_with}
@@ -14,25 +15,30 @@ use Rattle.chat_history.specs.Buffers.{buffers_with}
 abbrev pub same_buffer : Buffer → Buffer → Bool
 same_buffer = eq_by_cmp buffer_cmp
 
--- whether a floor that is set for `b` covers what stands in `d`
-abbrev pub is_covered : Buffer → Buffer → Bool
-is_covered b d = same_buffer b d
+abbrev pub same_account : List ℕ → List ℕ → Bool
+same_account a d = is_eq (text_cmp a d)
+
+-- whether a floor of that extent covers what stands in a buffer
+abbrev pub is_covered : Extent → Buffer → Bool
+is_covered (OfAccount a) d = same_account a d.account
+is_covered (OfBuffer b) d = same_buffer b d
 
 -- the moment where it is at or above the floor
 abbrev pub at_or_above : ℕ → Option ℕ → Option ℕ
 at_or_above f = keep (λ t. nat_le f t)
 
--- whether a piece outlasts a higher floor that is set for `b`. The present floor of `b` doesn't
-abbrev pub outlasts : Buffer → ℕ → Change → Bool
-outlasts b f (Post r) = not (is_covered b r.buffer) || nat_le f r.at
-outlasts b f (Floor d u) = not (same_buffer b d)
-outlasts b f c = true
+-- whether a piece outlasts a higher floor that is set for an extent. An own floor of a buffer within
+-- it does only where it is higher still
+abbrev pub outlasts : Extent → ℕ → Change → Bool
+outlasts e f (Post r) = not (is_covered e r.buffer) || nat_le f r.at
+outlasts e f (Floor d u) = not (is_covered e d) || nat_lt f u
+outlasts e f c = true
 
--- what is left of a piece at a higher floor that is set for `b`: a redaction forgets a moment below
--- it
-abbrev pub remainder : Buffer → ℕ → Change → Change
-remainder b f (Redact d n u) = Redact d n (if is_covered b d then at_or_above f u else u)
-remainder b f c = c
+-- what is left of a piece at a higher floor that is set for an extent: a redaction forgets a moment
+-- below it
+abbrev pub remainder : Extent → ℕ → Change → Change
+remainder e f (Redact d n u) = Redact d n (if is_covered e d then at_or_above f u else u)
+remainder e f c = c
 
 -- ---- which floors are due: one for each buffer that holds a record older than so many days
 

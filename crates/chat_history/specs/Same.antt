@@ -6,7 +6,7 @@ use Rattle.std.specs.FinMap.{entries}
 use Rattle.chat_change.specs.Buffer.{buffer_texts}
 use Rattle.chat_change.specs.Order.{texts_cmp, record_texts}
 use Rattle.chat_change.specs.declared.change.Change.{Change}
-use Rattle.chat_change.specs.declared.change.Change.TheVariants.{Post, Redact, Mark, Floor}
+use Rattle.chat_change.specs.declared.change.Change.TheVariants.{Post, Redact, Mark, Floor, AccountFloor}
 use Rattle.chat_change.specs.Key.{Key, same_key}
 use Rattle.chat_history.specs.History.{History}
 
@@ -20,6 +20,7 @@ change_texts (Post r) = (0 ∷ []) ∷ (r.at ∷ []) ∷ r.tags ∷ record_texts
 change_texts (Redact b m t) = (1 ∷ []) ∷ moment_text t ∷ m ∷ buffer_texts b
 change_texts (Mark b t) = (2 ∷ []) ∷ (t ∷ []) ∷ buffer_texts b
 change_texts (Floor b t) = (3 ∷ []) ∷ (t ∷ []) ∷ buffer_texts b
+change_texts (AccountFloor a t) = (4 ∷ []) ∷ (t ∷ []) ∷ a ∷ []
 
 abbrev pub same_change : Change → Change → Bool
 same_change = eq_by_cmp (on change_texts texts_cmp)
