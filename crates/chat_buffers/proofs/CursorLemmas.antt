@@ -23,40 +23,40 @@ use Rattle.chat_history.proofs.CallerLemmas.{change_held, held_change, record_of
 use Rattle.chat_buffers.specs.Kept.{IsKept, AreKept}
 use Rattle.chat_buffers.specs.Store.{IsKeyedStore, history_in}
 use Rattle.chat_buffers.specs.declared.held.Held.{Held}
-use Rattle.chat_buffers.proofs.SettleLemmas.{Tree, seen}
+use Rattle.chat_buffers.proofs.SettleLemmas.{Accounts, Tree, seen}
 use Rattle.chat_buffers.proofs.KeptLemmas.{keyed_history, none_posted, posted_kept, kept_posted}
 
 no_members : {A : Type 0} (xs : List A) → ((x : A) → Among x xs → ⊥) → xs ≡ []
 no_members [] h = refl
 no_members (x ∷ xs) h = absurd (h x (inl refl))
 
-module _ (bs : Tree) (keyed : IsKeyedStore (seen bs)) (b : Buffer) where
+module _ (ac : Accounts) (bs : Tree) (keyed : IsKeyedStore (seen ac bs)) (b : Buffer) where
   abbrev history : History
-  history = history_in (seen bs)
+  history = history_in (seen ac bs)
 
   abbrev records : List Record
   records = records_in history b
 
   posted : (r : Record) → Among r records → (r.buffer ≡ b) × Among (Post r) (changes_of history)
   posted r m =
-      let is = record_of history (keyed_history bs keyed) b r m in
-      (is.0, held_change history (keyed_history bs keyed) (Post r) (ap (λ d. finite.get history (MessageOf d r.id)) is.0 ∙ is.1))
+      let is = record_of history (keyed_history ac bs keyed) b r m in
+      (is.0, held_change history (keyed_history ac bs keyed) (Post r) (ap (λ d. finite.get history (MessageOf d r.id)) is.0 ∙ is.1))
 
   -- of a buffer of which nothing is held there are none
   pub records_absent : tree.get buffer_cmp bs b ≡ None → records ≡ []
   records_absent none = no_members records (λ r m.
       let is = posted r m in
-      none_posted bs keyed r (ap (tree.get buffer_cmp bs) is.0 ∙ none) is.1)
+      none_posted ac bs keyed r (ap (tree.get buffer_cmp bs) is.0 ∙ none) is.1)
 
   module _ (h : Held) (has : tree.get buffer_cmp bs b ≡ Some h) where
     record_kept : (r : Record) → Among r records → IsKept h.messages r
-    record_kept r m = let is = posted r m in posted_kept bs keyed b h has r is.0 is.1
+    record_kept r m = let is = posted r m in posted_kept ac bs keyed b h has r is.0 is.1
 
     kept_record : (r : Record) → IsKept h.messages r → Among r records
     kept_record r kept =
-        let is = kept_posted bs keyed b h has r kept in
-        of_record history (keyed_history bs keyed) b r
-        (is.0, ap (λ d. finite.get history (MessageOf d r.id)) (sym is.0) ∙ change_held history (keyed_history bs keyed) (Post r) is.1)
+        let is = kept_posted ac bs keyed b h has r kept in
+        of_record history (keyed_history ac bs keyed) b r
+        (is.0, ap (λ d. finite.get history (MessageOf d r.id)) (sym is.0) ∙ change_held history (keyed_history ac bs keyed) (Post r) is.1)
 
     module _ (p : Record → Bool) where
       record_passes : (r : Record) → Among r (filter p records) ↔ (IsKept h.messages r × (p r ≡ true))

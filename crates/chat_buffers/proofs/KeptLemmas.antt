@@ -1,5 +1,5 @@
 -- The kept records of a buffer are the posts of the store's history in it.
-use Rattle.std.proofs.Common.{◌≡◌, refl, sym, ◌∙◌, ap, ℕ, List, Option, Some, None}
+use Rattle.std.proofs.Common.{◌≡◌, refl, sym, ◌∙◌, ap, ℕ, max, List, Option, Some, None}
 use Rattle.std.proofs.lemmas.Option.{same_Some}
 use Rattle.std.specs.Option.{option_map, IfSome}
 use Rattle.std.specs.BTreeMap as tree
@@ -22,7 +22,7 @@ use Rattle.chat_buffers.specs.Store.{Numbered, IsKeyedStore, change_at, history_
 use Rattle.chat_buffers.specs.Held.{numbered, held_floor}
 use Rattle.chat_buffers.specs.declared.held.Held.{Held}
 use Rattle.chat_buffers.proofs.StoreLemmas.{get-history, history_keyed}
-use Rattle.chat_buffers.proofs.SettleLemmas.{Tree, seen}
+use Rattle.chat_buffers.proofs.SettleLemmas.{Accounts, Tree, seen, floor_around}
 use Rattle.chat_buffers.proofs.LookupLemmas.{change_here, message_here, record_bears}
 
 abbrev change : Numbered → Change
@@ -48,31 +48,31 @@ its_key : (o : Option Numbered) (k : Key) → ((p : Numbered) → o ≡ Some p �
 its_key None k h = tt
 its_key (Some p) k h = h p refl
 
-module _ (bs : Tree) (keyed : IsKeyedStore (seen bs)) where
-  pub keyed_history : IsKeyed (history_in (seen bs))
-  keyed_history = history_keyed (seen bs) (λ k. its_key (finite.get (seen bs) k) k (keyed k))
+module _ (ac : Accounts) (bs : Tree) (keyed : IsKeyedStore (seen ac bs)) where
+  pub keyed_history : IsKeyed (history_in (seen ac bs))
+  keyed_history = history_keyed (seen ac bs) (λ k. its_key (finite.get (seen ac bs) k) k (keyed k))
 
   -- the posts of the history in a buffer of which nothing is held
-  pub none_posted : (r : Record) → tree.get buffer_cmp bs r.buffer ≡ None → Among (Post r) (changes_of (history_in (seen bs))) → ⊥
+  pub none_posted : (r : Record) → tree.get buffer_cmp bs r.buffer ≡ None → Among (Post r) (changes_of (history_in (seen ac bs))) → ⊥
   none_posted r none m =
-      let at = change_held (history_in (seen bs)) keyed_history (Post r) m in
-      cc (sym (change_here bs (seen bs) refl (MessageOf r.buffer r.id) None none) ∙ sym (get-history (seen bs) (MessageOf r.buffer r.id)) ∙ at)
+      let at = change_held (history_in (seen ac bs)) keyed_history (Post r) m in
+      cc (sym (change_here ac bs (seen ac bs) refl r.buffer (MessageOf r.buffer r.id) None refl none) ∙ sym (get-history (seen ac bs) (MessageOf r.buffer r.id)) ∙ at)
 
   module _ (b : Buffer) (h : Held) (has : tree.get buffer_cmp bs b ≡ Some h) where
-    pub posted_kept : (r : Record) → r.buffer ≡ b → Among (Post r) (changes_of (history_in (seen bs))) → IsKept h.messages r
+    pub posted_kept : (r : Record) → r.buffer ≡ b → Among (Post r) (changes_of (history_in (seen ac bs))) → IsKept h.messages r
     posted_kept r here m =
-        let at = change_held (history_in (seen bs)) keyed_history (Post r) m in
+        let at = change_held (history_in (seen ac bs)) keyed_history (Post r) m in
         let o = finite.get h.messages r.id in
-        post_kept b r.id (held_floor h) o r
-        (sym (message_here bs (seen bs) refl b r.id h o has refl) ∙ ap (λ d. change_at (seen bs) (MessageOf d r.id)) (sym here)
-        ∙ sym (get-history (seen bs) (MessageOf r.buffer r.id)) ∙ at)
+        post_kept b r.id (max (floor_around ac b) (held_floor h)) o r
+        (sym (message_here ac bs (seen ac bs) refl b r.id h o has refl) ∙ ap (λ d. change_at (seen ac bs) (MessageOf d r.id)) (sym here)
+        ∙ sym (get-history (seen ac bs) (MessageOf r.buffer r.id)) ∙ at)
 
-    pub kept_posted : (r : Record) → IsKept h.messages r → (r.buffer ≡ b) × Among (Post r) (changes_of (history_in (seen bs)))
+    pub kept_posted : (r : Record) → IsKept h.messages r → (r.buffer ≡ b) × Among (Post r) (changes_of (history_in (seen ac bs)))
     kept_posted r kept =
         let under = kept_under (finite.get h.messages r.id) r kept in
-        let here = (record_bears bs keyed b r.id h r under.0 has under.1).0 in (
+        let here = (record_bears ac bs keyed b r.id h r under.0 has under.1).0 in (
           here,
-          held_change (history_in (seen bs)) keyed_history (Post r)
-              (get-history (seen bs) (MessageOf r.buffer r.id) ∙ ap (λ d. change_at (seen bs) (MessageOf d r.id)) here
-              ∙ message_here bs (seen bs) refl b r.id h (Some (Kept r under.0)) has under.1),
+          held_change (history_in (seen ac bs)) keyed_history (Post r)
+              (get-history (seen ac bs) (MessageOf r.buffer r.id) ∙ ap (λ d. change_at (seen ac bs) (MessageOf d r.id)) here
+              ∙ message_here ac bs (seen ac bs) refl b r.id h (Some (Kept r under.0)) has under.1),
         )

@@ -9,4 +9,5 @@ mod LookupLemmas
 mod KeptLemmas
 mod CursorLemmas
 mod SoughtLemmas
+mod AccountLemmas
 pub mod CallerLemmas

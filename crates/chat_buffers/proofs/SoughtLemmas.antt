@@ -17,7 +17,7 @@ use Rattle.chat_change.specs.Buffer.{Buffer}
 use Rattle.chat_change.specs.Record.{Record}
 use Rattle.chat_change.specs.Order.{text_cmp, buffer_cmp}
 use Rattle.chat_change.specs.declared.change.Change.{Change}
-use Rattle.chat_change.specs.declared.change.Change.TheVariants.{Post, Redact, Mark, Floor}
+use Rattle.chat_change.specs.declared.change.Change.TheVariants.{Post, Redact, Mark, Floor, AccountFloor}
 use Rattle.chat_change.proofs.CallerLemmas.{buffer_total, buffer_exact, text_total, text_exact}
 use Rattle.chat_history.specs.Buffers.{is_of_network, buffer_where}
 use Rattle.chat_history.specs.Choice.{keep, Among, IsFirst}
@@ -33,7 +33,7 @@ use Rattle.chat_buffers.specs.Ahead.{HasSought, HasNoneSought, IsOfOneBuffer, is
 use Rattle.chat_buffers.specs.declared.sought.Sought.{Sought}
 use Rattle.chat_buffers.specs.declared.sought.Sought.TheVariants.{Outdated, OfNetwork}
 use Rattle.chat_buffers.specs.declared.held.Held.{Held}
-use Rattle.chat_buffers.proofs.SettleLemmas.{Tree, seen}
+use Rattle.chat_buffers.proofs.SettleLemmas.{Accounts, Tree, seen}
 use Rattle.chat_buffers.proofs.KeptLemmas.{none_posted, posted_kept, kept_posted}
 
 -- ---- the first record tells whether one is sought
@@ -80,6 +80,7 @@ made_post p (Post r) b e =
 made_post p (Redact d m t) b e = cc e
 made_post p (Mark d t) b e = cc e
 made_post p (Floor d t) b e = cc e
+made_post p (AccountFloor a t) b e = cc e
 
 module _ (s : Sought) (last : Option Buffer) (h : History) where
   sought_post : (b : Buffer) → Among b (all_past s last h) → (r : Record) × Among (Post r) (changes_of h) × (is_sought s r ≡ true) × (r.buffer ≡ b) × (is_past last b ≡ true)
@@ -115,7 +116,7 @@ less_than_all : (k : Buffer) (es : Entries) → AllByRecursion (λ y. buffer_cmp
 less_than_all k [] h x m = absurd m
 less_than_all k (e ∷ es) h x m = ⊎_elim (λ s. subst (λ (y : Buffer × Held). buffer_cmp k y.0 ≡ Less) s h.0) (λ a. less_than_all k es h.1 x a) m
 
-rising_from : (es : Entries) → IsStrictlySortedBy buffer_cmp (keys_of es) → IsRising es
+pub rising_from : (es : Entries) → IsStrictlySortedBy buffer_cmp (keys_of es) → IsRising es
 rising_from [] s = tt
 rising_from (e ∷ es) s = (less_than_all e.0 es (sorted_head buffer_cmp e.0 (keys_of es) s), rising_from es (sorted_tail buffer_cmp e.0 (keys_of es) s))
 
@@ -127,15 +128,15 @@ rising_passing p (e ∷ es) h =
       | false ↦ rising_passing p es h.1
     ]
 
-same_held : (b d : Buffer) (h g : Held) → ◌≡◌ {A = Buffer × Held} (b, h) (d, g) → (b ≡ d) × (h ≡ g)
+pub same_held : (b d : Buffer) (h g : Held) → ◌≡◌ {A = Buffer × Held} (b, h) (d, g) → (b ≡ d) × (h ≡ g)
 same_held b d h g e = (ap (λ (x : Buffer × Held). x.0) e, ap (λ (x : Buffer × Held). x.1) e)
 
-something : (o : Option Held) → (o ≡ None → ⊥) → (h : Held) × (o ≡ Some h)
+pub something : (o : Option Held) → (o ≡ None → ⊥) → (h : Held) × (o ≡ Some h)
 something None n = absurd (n refl)
 something (Some h) n = (h, refl)
 
 -- the buffers after the last one
-module _ (bs : Tree) (keyed : IsKeyedStore (seen bs)) (ordered : tree.IsOrdered buffer_cmp bs) (s : Sought) (last : Option Buffer) (p : Buffer → Bool) (is : (b : Buffer) → p b ≡ is_past last b) where
+module _ (ac : Accounts) (bs : Tree) (keyed : IsKeyedStore (seen ac bs)) (ordered : tree.IsOrdered buffer_cmp bs) (s : Sought) (last : Option Buffer) (p : Buffer → Bool) (is : (b : Buffer) → p b ≡ is_past last b) where
   abbrev from : Entries
   from = filter (λ e. p e.0 && true) bs.entries
 
@@ -159,14 +160,14 @@ module _ (bs : Tree) (keyed : IsKeyedStore (seen bs)) (ordered : tree.IsOrdered 
       (subst (Among (b, h)) entries_are (got buffer_total buffer_exact (held_by bs) b h (get-held_by buffer_total bs b ∙ here)))
       (ap (λ t. t && true) (is b ∙ past))
 
-  pub all_left : IsLeft (history_in (seen bs)) s last from
+  pub all_left : IsLeft (history_in (seen ac bs)) s last from
   all_left = record {
     rising = rising_passing (λ (e : Buffer × Held). p e.0 && true) bs.entries (rising_from bs.entries ordered);
     past = λ b h m. (its_entry b h m).1;
-    posted = λ b h m r kept. kept_posted bs keyed b h (its_entry b h m).0 r kept;
+    posted = λ b h m r kept. kept_posted ac bs keyed b h (its_entry b h m).0 r kept;
     all = λ r m t past.
-        let here = something (tree.get buffer_cmp bs r.buffer) (λ none. none_posted bs keyed r none m) in
-        (here.0, entry_of r.buffer here.0 here.1 past, posted_kept bs keyed r.buffer here.0 here.1 r refl m);
+        let here = something (tree.get buffer_cmp bs r.buffer) (λ none. none_posted ac bs keyed r none m) in
+        (here.0, entry_of r.buffer here.0 here.1 past, posted_kept ac bs keyed r.buffer here.0 here.1 r refl m);
   }
 
 -- ---- a network's buffers stand together

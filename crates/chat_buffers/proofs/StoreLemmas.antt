@@ -5,7 +5,7 @@ use Rattle.std.specs.Cmp.{IsTotalOrder}
 use Rattle.std.proofs.lemmas.Cmp.{on_total, nat_cmp_total}
 use Rattle.std.specs.FinMap as finite
 use Rattle.chat_change.specs.declared.change.Change.{Change}
-use Rattle.chat_change.specs.declared.change.Change.TheVariants.{Post, Redact, Mark, Floor}
+use Rattle.chat_change.specs.declared.change.Change.TheVariants.{Post, Redact, Mark, Floor, AccountFloor}
 use Rattle.chat_change.specs.Key.{Key, key_cmp, key_of, same_key}
 use Rattle.chat_history.specs.History.{IsKeyedEntry, IsKeyed}
 use Rattle.std.specs.List.{AllByRecursion}
@@ -56,6 +56,7 @@ placed-plain s n (Post r) p k = refl
 placed-plain s n (Redact b m t) p k = refl
 placed-plain s n (Mark b t) p k = refl
 placed-plain s n (Floor b t) p k = absurd p
+placed-plain s n (AccountFloor a t) p k = absurd p
 
 pub by_number_total : IsTotalOrder by_number
 by_number_total = on_total (λ (p : Numbered). p.number) nat_cmp_total

@@ -13,7 +13,8 @@ pub mod Messages
 pub mod Kept
 -- ---- what only the proofs use of the code
 
--- what is held of one buffer, and of many
+-- what is held of one buffer, and of many and their accounts
+pub mod Stamps
 pub mod Held
 -- what a walk over the buffers has ahead of it
 pub mod Ahead

@@ -1,14 +1,14 @@
 -- What a store holds: under each key its piece, with its number.
-use Rattle.std.specs.Prelude.{ℕ, ◌≡◌, ◌<◌, refl, Option, Some, None, List, map, filter, nat_lt, unwrap_or, if◌then◌else◌}
+use Rattle.std.specs.Prelude.{ℕ, ◌≡◌, ◌<◌, max, refl, Option, Some, None, List, map, filter, nat_lt, unwrap_or, if◌then◌else◌}
 use Rattle.std.specs.declared.cmp.Ordering.{Ordering}
 use Rattle.std.specs.Ordering.{on, nat_cmp}
 use Rattle.std.specs.Coded.{Coded, code_by, coded×, coded_ℕ}
 use Rattle.std.specs.Option.{option_map, option_and_then}
 use Rattle.std.specs.FinMap as finite
-use Rattle.chat_change.specs.Buffer.{Buffer}
+use Rattle.chat_change.specs.Extent.{Extent, OfAccount, OfBuffer}
 use Rattle.chat_change.specs.declared.change.Change.{Change}
-use Rattle.chat_change.specs.declared.change.Change.TheVariants.{Floor}
-use Rattle.chat_change.specs.Key.{Key, FloorOf, key_cmp, key_of, same_key}
+use Rattle.chat_change.specs.declared.change.Change.TheVariants.{Floor, AccountFloor}
+use Rattle.chat_change.specs.Key.{Key, FloorOf, key_cmp, key_of, same_key, floor_change}
 use Rattle.chat_history.specs.History.{History, floor_moment}
 use Rattle.chat_history.specs.Retention.{outlasts, remainder}
 use Rattle.chat_history.specs.Codes.{coded_key, coded_change}
@@ -44,22 +44,31 @@ number_at s k = option_map (λ (p : Numbered). p.number) (finite.get s k)
 abbrev pub IsKeyedStore : Store → Type 0
 IsKeyedStore s = (k : Key) (p : Numbered) → finite.get s k ≡ Some p → key_of p.change ≡ k
 
--- the floor of a buffer, or 0
-abbrev pub floor_in : Store → Buffer → ℕ
-floor_in s b = unwrap_or (option_and_then floor_moment (change_at s (FloorOf b))) 0
+-- the own floor of an account or of a buffer, or 0
+abbrev pub own_floor_in : Store → Extent → ℕ
+own_floor_in s e = unwrap_or (option_and_then floor_moment (change_at s (FloorOf e))) 0
 
--- what a higher floor of a buffer leaves of a piece
-abbrev pub piece_left : Buffer → ℕ → Option Numbered → Option Numbered
-piece_left b t None = None
-piece_left b t (Some p) =
-    if outlasts b t p.change then Some (record p { change = remainder b t p.change }) else None
+-- the floor of an account, or of a buffer: that of its account or its own one, whichever is greater
+abbrev pub floor_in : Store → Extent → ℕ
+floor_in s (OfAccount a) = own_floor_in s (OfAccount a)
+floor_in s (OfBuffer b) = max (own_floor_in s (OfAccount b.account)) (own_floor_in s (OfBuffer b))
 
--- what stands under a key after a new piece was put under its own: a floor takes away what lies
--- below it
+-- what a higher floor of an account or of a buffer leaves of a piece
+abbrev pub piece_left : Extent → ℕ → Option Numbered → Option Numbered
+piece_left e t None = None
+piece_left e t (Some p) =
+    if outlasts e t p.change then Some (record p { change = remainder e t p.change }) else None
+
+-- what stands under a key after a floor was set: it takes away what lies below it
+abbrev pub piece_above : Store → ℕ → Extent → ℕ → Key → Option Numbered
+piece_above s n e t k =
+    if same_key k (FloorOf e) then Some (record { number = n; change = floor_change e t })
+    else piece_left e t (finite.get s k)
+
+-- what stands under a key after a new piece was put under its own
 abbrev pub piece_after : Store → ℕ → Change → Key → Option Numbered
-piece_after s n (Floor b t) k =
-    if same_key k (FloorOf b) then Some (record { number = n; change = Floor b t })
-    else piece_left b t (finite.get s k)
+piece_after s n (Floor b t) k = piece_above s n (OfBuffer b) t k
+piece_after s n (AccountFloor a t) k = piece_above s n (OfAccount a) t k
 piece_after s n c k =
     if same_key k (key_of c) then Some (record { number = n; change = c }) else finite.get s k
 

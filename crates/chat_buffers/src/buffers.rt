@@ -3,16 +3,18 @@
 ghost use Rattle.std.specs.Prelude.{◌≡◌, IfOk, OnOk, OnErr, Some, None, IfSome};
 ghost use Rattle.std.specs.FinMap as map;
 ghost use Rattle.chat_change.specs.Key as key;
-ghost use Rattle.chat_change.specs.Key.{key_of, key_buffer, value_of};
+ghost use Rattle.chat_change.specs.Key.{key_of, key_extent, value_of};
+ghost use Rattle.chat_change.specs.Extent as extents;
 ghost use Rattle.std.specs.Option.{option_map};
 ghost use Rattle.chat_change.specs.declared.change.Change.TheVariants as value;
 ghost use Rattle.chat_buffers.specs.MessageRef.{message_change, IsMessageOf};
 ghost use Rattle.chat_buffers.specs.Store as spec;
 ghost use Rattle.chat_buffers.specs.Entering.{FitsStore, IsEntered, TakesOne, IsSweptOf};
+ghost use Rattle.chat_buffers.specs.Held.{IsOfBuffer, floor_piece};
 
-use crate::held::{Held, at_or_above, moment_of, nothing_held, number_of, settle};
+use crate::held::{Held, Stamp, at_or_above, moment_of, nothing_held, number_of, settle};
 use crate::held_message::HeldMessage;
-use chat_change::{Buffer, Change, Key, Moment, MsgId, Record};
+use chat_change::{Account, Buffer, Change, Extent, Key, Moment, MsgId, Record};
 use ordered_maps::put;
 use std::alloc::{AllocError, Global};
 use std::collections::BTreeMap;
@@ -27,10 +29,12 @@ pub enum MessageRef<'a> {
     Gone(Option<Moment>),
 }
 
-/// The numbered pieces of many buffers, one for each key at most. They are seen as one store.
+/// The numbered pieces of many buffers and of their accounts, one for each key at most. They are seen as one store.
 #[derive(Drop)]
 pub struct Buffers {
     pub(crate) alloc: Global,
+    // the floor of each account that has one
+    pub(crate) accounts: BTreeMap<Account, Stamp>,
     pub(crate) held: BTreeMap<Buffer, Held>,
 }
 
@@ -43,9 +47,9 @@ impl Model for Buffers {
 
     ghost coded = { spec.coded_store };
 
-    ghost view = { λ b. store_in (held_by b.held) };
+    ghost view = { λ b. store_in (held_by b.accounts) (held_by b.held) };
 
-    ghost invariant = { λ b. spec.IsKeyedStore (store_in (held_by b.held)) };
+    ghost invariant = { λ b. spec.IsKeyedStore (store_in (held_by b.accounts) (held_by b.held)) };
 }
 
 impl Buffers {
@@ -55,39 +59,55 @@ impl Buffers {
     {
         Buffers {
             alloc,
+            accounts: BTreeMap::new(alloc),
             held: BTreeMap::new(alloc),
         }
     }
 
-    /// An equal value, with maps of its own. It shares the buffers' names, the ids and the records.
+    /// An equal value, with maps of its own. It shares the names of accounts and buffers, the ids and the records.
     pub fn try_clone(&self, alloc: Global) -> Result<Buffers, AllocError>
         ensures { IfOk result (λ copy. copy ≡ self.now) }
     {
+        let accounts = self.accounts.clone()?;
         let held = self.held.clone()?;
-        Ok(Buffers { alloc, held })
+        Ok(Buffers {
+            alloc,
+            accounts,
+            held,
+        })
     }
 
     /// The number of the piece of a key, if it has one.
     pub fn number(&self, key: &Key<'_>) -> Option<u64>
         ensures { result ≡ spec.number_at self.now (value_of key.now) }
     {
-        let held = self.held.get(key.buffer())?;
-        match key {
-            Key::Floor(_) => number_of(&held.floor),
-            Key::Marker(_) => number_of(&held.marker),
-            Key::Message(_, id) => {
-                let held_message = held.messages.held_message(id)?;
+        match *key {
+            Key::Floor(extent) => number_of(&self.own_floor(extent)),
+            Key::Marker(buffer) => number_of(&self.held.get(buffer)?.marker),
+            Key::Message(buffer, id) => {
+                let held_message = self.held.get(buffer)?.messages.held_message(id)?;
                 Some(held_message.number())
             }
         }
     }
 
-    /// The floor that was set for a buffer, if one was.
-    pub fn floor(&self, buffer: &Buffer) -> Option<Moment>
-        ensures { spec.change_at self.now (key.FloorOf buffer.now) ≡
-            option_map (value.Floor buffer.now) result }
+    /// The own floor that was set for an account or for a buffer, if one was.
+    pub fn floor(&self, extent: &Extent<'_>) -> Option<Moment>
+        ensures { spec.change_at self.now (key.FloorOf (extents.value_of extent.now)) ≡
+            option_map (key.floor_change (extents.value_of extent.now)) result }
     {
-        moment_of(&self.held.get(buffer)?.floor)
+        moment_of(&self.own_floor(*extent))
+    }
+
+    // The own floor of an account or of a buffer, under the number of its piece.
+    fn own_floor(&self, extent: Extent<'_>) -> Option<Stamp>
+        ensures { map.get self.now (key.FloorOf (extents.value_of extent.entry)) ≡
+            option_map (floor_piece (extents.value_of extent.entry)) result }
+    {
+        match extent {
+            Extent::Account(account) => Some(*self.accounts.get(account)?),
+            Extent::Buffer(buffer) => self.held.get(buffer)?.floor,
+        }
     }
 
     /// The read marker of a buffer, if one was set.
@@ -107,37 +127,63 @@ impl Buffers {
         let held = self.held.get(buffer)?;
         match held.messages.held_message(id)? {
             HeldMessage::Kept(post, _) => Some(MessageRef::Kept(post)),
-            HeldMessage::Gone(at, _) => Some(MessageRef::Gone(at_or_above(&held.floor, at.get()))),
+            HeldMessage::Gone(at, _) => {
+                let at = at_or_above(moment_of(&held.floor), at.get());
+                let around = self.floor(&Extent::Account(buffer.owner()));
+                Some(MessageRef::Gone(at_or_above(around, at)))
+            }
         }
     }
 
-    /// Puts a piece under its key, and answers the number that the key had. A floor forgets the moments of redactions that
-    /// lie below it, and leaves the records. Where there is no memory nothing has changed.
+    /// Puts a piece under its key, and answers the number that the key had. A floor forgets the moments of redactions
+    /// that lie below it, in its buffer or in all buffers of its account. It leaves the records, and one of an account
+    /// leaves the own floors of buffers: they leave by [`Buffers::remove_first_below`] and
+    /// [`Buffers::remove_floor_to`]. Where there is no memory nothing has changed.
     pub fn enter(&mut self, number: u64, change: Change) -> Result<Option<u64>, AllocError>
         requires fits { FitsStore self.old change }
         ensures before { IfOk result (λ before. before ≡ spec.number_at self.old (key_of change)) }
         ensures entered { OnOk result (IsEntered self.old number change self.new) }
         ensures refused { OnErr result (self.new ≡ self.old) }
     {
-        let Some(held) = self.held.get_mut(change.key().buffer()) else {
-            self.enter_first(number, change)?;
+        match change {
+            Change::AccountFloor { account, at } => {
+                self.enter_account_floor(account, Stamp { at, number })
+            }
+            change => self.enter_in_buffer(number, change),
+        }
+    }
+
+    // Puts a piece of a buffer under its key.
+    fn enter_in_buffer(&mut self, number: u64, change: Change) -> Result<Option<u64>, AllocError>
+        requires of_buffer { IsOfBuffer change }
+        requires fits { FitsStore self.old change }
+        ensures before { IfOk result (λ before. before ≡ spec.number_at self.old (key_of change)) }
+        ensures entered { OnOk result (IsEntered self.old number change self.new) }
+        ensures refused { OnErr result (self.new ≡ self.old) }
+    {
+        let Extent::Buffer(buffer) = change.key().extent() else {
+            unreachable!()
+        };
+        let Some(held) = self.held.get_mut(buffer) else {
+            let Ok(buffer) = buffer.try_clone() else {
+                drop(change);
+                return Err(AllocError);
+            };
+            self.enter_first(buffer, number, change)?;
             return Ok(None);
         };
         settle(held, number, change)
     }
 
     // Puts the first piece of a buffer.
-    fn enter_first(&mut self, number: u64, change: Change) -> Result<(), AllocError>
+    fn enter_first(&mut self, buffer: Buffer, number: u64, change: Change) -> Result<(), AllocError>
+        requires of_buffer { key_extent (key_of change) ≡ extents.OfBuffer buffer }
         requires fits { FitsStore self.old change }
-        requires absent { (k : key.Key) → key_buffer k ≡ key_buffer (key_of change) →
+        requires absent { (k : key.Key) → key_extent k ≡ extents.OfBuffer buffer →
             map.get self.old k ≡ None }
         ensures entered { OnOk result (IsEntered self.old number change self.new) }
         ensures refused { OnErr result (self.new ≡ self.old) }
     {
-        let Ok(buffer) = change.key().buffer().try_clone() else {
-            drop(change);
-            return Err(AllocError);
-        };
         let mut held = nothing_held(self.alloc);
         let Ok(_) = settle(&mut held, number, change) else {
             drop(buffer);

@@ -1,10 +1,10 @@
 //! What is held of one buffer.
 
-ghost use Rattle.std.specs.Prelude.{◌≡◌, IfOk, OnOk, OnErr, Some, None};
-ghost use Rattle.std.specs.Option.{option_map};
+ghost use Rattle.std.specs.Prelude.{◌≡◌, ℕ, IfOk, OnOk, OnErr, Some, None, IfSome, unwrap_or};
 ghost use Rattle.chat_change.specs.Key.{Key, key_of};
 ghost use Rattle.chat_history.specs.Retention as spec;
-ghost use Rattle.chat_buffers.specs.Held.{Fits, Settles, held_piece, floor_moment};
+ghost use Rattle.chat_buffers.specs.Held.{IsOfBuffer, Fits, Settles, held_piece, number_under};
+ghost use Rattle.chat_buffers.specs.Stamps.{stamp_moment, stamp_number, TakesStamp, IsAbove};
 
 use crate::messages::Messages;
 use chat_change::{Change, Moment};
@@ -41,7 +41,7 @@ impl Clone for Held {
 
 /// Nothing of a buffer.
 pub(crate) fn nothing_held(alloc: Global) -> Held
-    ensures { (k : Key) → held_piece (Some result) k ≡ None }
+    ensures { (f : ℕ) (k : Key) → held_piece f (Some result) k ≡ None }
 {
     Held {
         messages: Messages::new(alloc),
@@ -51,7 +51,7 @@ pub(crate) fn nothing_held(alloc: Global) -> Held
 }
 
 pub(crate) fn number_of(stamp: &Option<Stamp>) -> Option<u64>
-    ensures { result ≡ option_map (λ s. s.number) stamp.now }
+    ensures { result ≡ stamp_number stamp.now }
 {
     match stamp {
         Some(stamp) => Some(stamp.number),
@@ -60,7 +60,7 @@ pub(crate) fn number_of(stamp: &Option<Stamp>) -> Option<u64>
 }
 
 pub(crate) fn moment_of(stamp: &Option<Stamp>) -> Option<Moment>
-    ensures { result ≡ option_map (λ s. s.at) stamp.now }
+    ensures { result ≡ stamp_moment stamp.now }
 {
     match stamp {
         Some(stamp) => Some(stamp.at),
@@ -69,31 +69,46 @@ pub(crate) fn moment_of(stamp: &Option<Stamp>) -> Option<Moment>
 }
 
 /// The moment where it is at or above the floor.
-pub(crate) fn at_or_above(floor: &Option<Stamp>, at: Option<Moment>) -> Option<Moment>
-    ensures { result ≡ spec.at_or_above (floor_moment floor.now) at }
+pub(crate) fn at_or_above(floor: Option<Moment>, at: Option<Moment>) -> Option<Moment>
+    ensures { result ≡ spec.at_or_above (unwrap_or floor 0) at }
 {
     let at = at?;
     let Some(floor) = floor else {
         return Some(at);
     };
-    if floor.at.ms() <= at.ms() {
+    if floor.ms() <= at.ms() {
         Some(at)
     } else {
         None
     }
 }
 
-/// Puts a piece under its key, and answers the number that the key had. A floor forgets the moments of redactions that lie
-/// below it, and leaves the records. Where there is no memory nothing has changed.
+/// Takes a floor out where it isn't above another, and answers the number of its piece. None where there is no floor,
+/// or it is above the other.
+pub(crate) fn take_floor_to(own: &mut Option<Stamp>, floor: Moment) -> Option<u64>
+    ensures one { IfSome result (λ n. TakesStamp own.old floor n own.new) }
+    ensures done { result ≡ None → IsAbove floor own.new }
+    ensures kept { result ≡ None → own.new ≡ own.old }
+{
+    let stamp = (*own)?;
+    if stamp.at.ms() > floor.ms() {
+        return None;
+    }
+    *own = None;
+    Some(stamp.number)
+}
+
+/// Puts a piece of a buffer under its key, and answers the number that the key had. A floor forgets the moments of
+/// redactions that lie below it, and leaves the records. Where there is no memory nothing has changed.
 pub(crate) fn settle(
     held: &mut Held,
     number: u64,
     change: Change,
 ) -> Result<Option<u64>, AllocError>
-    requires fits { Fits held.old change }
-    ensures before { IfOk result (λ before. before ≡
-        option_map (λ p. p.number) (held_piece (Some held.old) (key_of change))) }
-    ensures settled { OnOk result (Settles (Some held.old) number change held.new) }
+    requires of_buffer { IsOfBuffer change }
+    ensures before { IfOk result (λ before. before ≡ number_under held.old (key_of change)) }
+    ensures settled { OnOk result ((f : ℕ) → Fits f held.old change →
+        Settles f (Some held.old) number change held.new) }
     ensures refused { OnErr result (held.new ≡ held.old) }
 {
     match change {
@@ -114,5 +129,6 @@ pub(crate) fn settle(
             held.floor = Some(Stamp { at, number });
             Ok(before)
         }
+        Change::AccountFloor { .. } => unreachable!(),
     }
 }

@@ -1,11 +1,15 @@
 //! The numbered pieces of many buffers, in ordered maps, seen as one store: a finite map from keys to numbered changes.
 //!
-//! [`Buffers`] has for each buffer its floor, its marker and its messages, which lie in two maps that agree: by id, and by
-//! where they stand. So a message is found by its id, and the visible records after or before a cut are walked in one range
-//! with no memory of their own ([`Up`], [`Down`]). It stands on `ordered_maps`, whose changes happen whole or not at all, and
-//! on the definitions of `chat_history`. Read [`Buffers::enter`] first.
+//! [`Buffers`] has for each buffer its own floor, its marker and its messages, which lie in two maps that agree: by id,
+//! and by where they stand. So a message is found by its id, and the visible records after or before a cut are walked in
+//! one range with no memory of their own ([`Up`], [`Down`]). Beside the buffers it has the floor of each account. The
+//! floor of a buffer is that of its account or its own one, whichever is greater, and redactions are read at it.
+//!
+//! It stands on `ordered_maps`, whose changes happen whole or not at all, and on the definitions of `chat_history`. Read
+//! [`Buffers::enter`] first.
 #![tactic(auto)]
 
+mod accounts;
 mod buffers;
 mod cursor;
 mod held;

@@ -2,50 +2,48 @@ use Rattle.std.proofs.Common.{◌≡◌, ◌∙◌, refl, sym, ap, subst, ℕ, S
 use Rattle.std.specs.FinMap as map
 use Rattle.std.specs.BTreeMap as tree
 use Rattle.chat_change.specs.declared.change.Change.{Change}
+use Rattle.chat_change.specs.Buffer.{Buffer}
+use Rattle.chat_change.specs.Extent.{OfBuffer}
 use Rattle.chat_change.specs.Order.{buffer_cmp}
-use Rattle.chat_change.specs.Key.{Key, key_of, key_buffer, same_key}
-use Rattle.ordered_maps.proofs.CallerLemmas.{changed_at}
+use Rattle.chat_change.specs.Key.{Key, key_of, key_extent, same_key}
+use Rattle.ordered_maps.specs.MapView.{held_by, IsWith}
 use Rattle.chat_buffers.specs.Store.{Store, IsKeyedStore}
-use Rattle.chat_buffers.specs.Entering.{IsEntered, beside}
-use Rattle.chat_buffers.specs.Held.{Settles, held_piece, store_in}
+use Rattle.chat_buffers.specs.Entering.{FitsStore, IsEntered, beside}
+use Rattle.chat_buffers.specs.Held.{Fits, Settles, held_piece, store_in}
 use Rattle.chat_buffers.specs.declared.held.Held.{Held}
-use Rattle.chat_buffers.proofs.SettleLemmas.{Tree, seen, fits_from, has_here, entered, entered_keyed}
+use Rattle.chat_buffers.proofs.SettleLemmas.{Accounts, Tree, seen, floor_around, fits_from, has_here, own_account, entered, entered_keyed}
 use Rattle.chat_buffers.proofs.buffers.Buffers.enter_first.Goals as goal
 
-pub settle-requires : goal.settle-requires
-settle-requires c = record { fits = fits_from c.args.self.now c.nothing_held-held.result c.args.change (λ k e. c.requires.absent k e ∙ sym (c.nothing_held-held.ensures k)) c.requires.fits }
+-- a piece of a buffer of which nothing was there before
+module _ (ac : Accounts) (bs : Tree) (s : Store) (is : seen ac bs ≡ s) (x : Change) (n : ℕ) (b : Buffer) (at : key_extent (key_of x) ≡ OfBuffer b) (absent : (k : Key) → key_extent k ≡ OfBuffer b → map.get s k ≡ None) (h w : Held) (nothing : (f : ℕ) (k : Key) → held_piece f (Some h) k ≡ None) where
+  settles_first : Settles (floor_around ac b) (Some h) n x w → Settles (floor_around ac b) (tree.get buffer_cmp bs b) n x w
+  settles_first settles k e =
+      settles k e
+      ∙ ap (λ p. cond (same_key k (key_of x)) (Some (record { number = n; change = x })) (beside x p))
+      (nothing (floor_around ac b) k ∙ sym (absent k (e ∙ at)) ∙ has_here ac bs s b (tree.get buffer_cmp bs b) is refl k (e ∙ at))
 
--- nothing of the buffer was there before
-settles_first : (bs : Tree) (s : Store) → seen bs ≡ s → (x : Change) (n : ℕ) (h w : Held) → ((k : Key) → key_buffer k ≡ key_buffer (key_of x) → map.get s k ≡ None) → ((k : Key) → held_piece (Some h) k ≡ None) → Settles (Some h) n x w → Settles (tree.get buffer_cmp bs (key_buffer (key_of x))) n x w
-settles_first bs s is x n h w absent nothing settles k e =
-    settles k e
-    ∙ ap (λ p. cond (same_key k (key_of x)) (Some (record { number = n; change = x })) (beside x p))
-    (nothing k ∙ sym (sym (has_here bs s (key_buffer (key_of x)) (tree.get buffer_cmp bs (key_buffer (key_of x))) is refl k e) ∙ absent k e))
+  first_entered : FitsStore s x → ((f : ℕ) → Fits f h x → Settles f (Some h) n x w) → (new : Tree) → IsWith buffer_cmp bs b w new → IsEntered (seen ac bs) n x (seen ac new)
+  first_entered fits settles new up =
+      let f = floor_around ac b in
+      let fit = fits_from s f h b (own_account ac bs s b.account is) (λ k e. absent k e ∙ sym (nothing f k)) x at fits in
+      entered ac bs new x n b at (tree.get buffer_cmp bs b) w refl up (settles_first (settles f fit))
 
 -- where the buffer found no room
 pub invariant_of-self : goal.invariant_of-self
-invariant_of-self c = subst (λ es. IsKeyedStore (store_in (map.from_entries es))) (sym (c.if-not-put.ensures.refused refl)) c.self.invariant
+invariant_of-self c = subst (λ es. IsKeyedStore (store_in (held_by c.self.inside.accounts) (map.from_entries es))) (sym (c.if-not-put.ensures.refused refl)) c.self.invariant
 
 pub invariant_of-self-2 : goal.invariant_of-self-2
 invariant_of-self-2 c =
+    let ac = c.self.inside.accounts in
     let bs = c.self.inside.held in
-    let x = c.args.change in
-    let b = key_buffer (key_of x) in
-    let w = c.settle.new.held in
-    let named = c.in-Ok.ensures ∙ c.buffer.ensures ∙ ap key_buffer c.key.ensures in
     let new = c.put.new.map in
-    let up = changed_at buffer_cmp bs new (Some w) c.in-Ok.buffer b named (c.if-not-put.ensures.put refl) in
-    let settles = settles_first bs c.args.self.now c.self.view_is x c.args.number c.nothing_held-held.result w c.requires.absent c.nothing_held-held.ensures c.in-Ok-settle.ensures.settled in
-    entered_keyed (seen bs) c.args.number x (seen new) (entered bs new x c.args.number (tree.get buffer_cmp bs b) w refl up settles) c.self.invariant
+    let is = first_entered ac bs c.args.self.now c.self.view_is c.args.change c.args.number c.args.buffer c.requires.of_buffer c.requires.absent c.nothing_held-held.result c.settle.new.held c.nothing_held-held.ensures c.requires.fits c.in-Ok.ensures.settled new (c.if-not-put.ensures.put refl) in
+    entered_keyed (seen ac bs) c.args.number c.args.change (seen ac new) is c.self.invariant
 
 pub returns-clause-entered : goal.returns-clause-entered
 returns-clause-entered c =
+    let ac = c.self.inside.accounts in
     let bs = c.self.inside.held in
-    let x = c.args.change in
-    let b = key_buffer (key_of x) in
-    let w = c.settle.new.held in
-    let named = c.in-Ok.ensures ∙ c.buffer.ensures ∙ ap key_buffer c.key.ensures in
     let new = c.put.new.map in
-    let up = changed_at buffer_cmp bs new (Some w) c.in-Ok.buffer b named (c.if-not-put.ensures.put refl) in
-    let settles = settles_first bs c.args.self.now c.self.view_is x c.args.number c.nothing_held-held.result w c.requires.absent c.nothing_held-held.ensures c.in-Ok-settle.ensures.settled in
-    subst (λ s. IsEntered s c.args.number x (seen new)) c.self.view_is (entered bs new x c.args.number (tree.get buffer_cmp bs b) w refl up settles)
+    let is = first_entered ac bs c.args.self.now c.self.view_is c.args.change c.args.number c.args.buffer c.requires.of_buffer c.requires.absent c.nothing_held-held.result c.settle.new.held c.nothing_held-held.ensures c.requires.fits c.in-Ok.ensures.settled new (c.if-not-put.ensures.put refl) in
+    subst (λ s. IsEntered s c.args.number c.args.change (seen ac new)) c.self.view_is is

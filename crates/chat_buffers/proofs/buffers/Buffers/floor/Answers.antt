@@ -1,18 +1,12 @@
-use Rattle.std.proofs.Common.{rules, ◌≡◌, ◌∙◌, sym, ap, Some, None}
-use Rattle.std.specs.BTreeMap as tree
+use Rattle.std.proofs.Common.{◌∙◌, sym, ap}
 use Rattle.std.specs.Option.{option_map}
-use Rattle.chat_change.specs.Order.{buffer_cmp}
-use Rattle.chat_change.specs.Key.{FloorOf}
-use Rattle.chat_change.specs.declared.change.Change.TheVariants as value
-use Rattle.chat_buffers.proofs.LookupLemmas.{change_here, floor_here}
+use Rattle.chat_change.specs.Extent.{value_of}
+use Rattle.chat_change.specs.Key.{floor_change}
+use Rattle.chat_buffers.specs.Store.{Numbered}
+use Rattle.chat_buffers.proofs.LookupLemmas.{piece_moment}
 use Rattle.chat_buffers.proofs.buffers.Buffers.floor.Goals as goal
-
-pub returns-in_err-get : goal.returns-in_err-get
-returns-in_err-get c =
-    let none : tree.get buffer_cmp c.self.inside.held c.args.buffer.now ≡ None = search rules in
-    change_here c.self.inside.held c.args.self.now c.self.view_is (FloorOf c.args.buffer.now) None none ∙ ap (option_map (value.Floor c.args.buffer.now)) (sym c.from_residual.ensures)
 
 pub returns : goal.returns
 returns c =
-    let here : tree.get buffer_cmp c.self.inside.held c.args.buffer.now ≡ Some c.in_ok-get.field-0.now = search rules in
-    floor_here c.self.inside.held c.args.self.now c.self.view_is c.args.buffer.now c.in_ok-get.field-0.now here ∙ ap (option_map (value.Floor c.args.buffer.now)) (sym c.moment_of.ensures)
+    let e = value_of c.args.extent.now in
+    ap (option_map (λ (p : Numbered). p.change)) c.own_floor.ensures ∙ piece_moment e c.own_floor.result ∙ ap (option_map (floor_change e)) (sym c.moment_of.ensures)

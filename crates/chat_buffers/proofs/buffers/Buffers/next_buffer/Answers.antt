@@ -17,8 +17,8 @@ loop-buffer-init c =
     let last : Option Buffer = option_map deref c.args.last.now in
     let p : Buffer → Bool = λ b. is_from_start buffer_cmp (bound_map (λ (x : Bor Buffer). x.now) c.start_after.result) b in
     subst (λ (x : Store). IsLeft (history_in x) s last c.range-later.result) c.self.view_is
-    (subst (λ (es : Entries). IsLeft (history_in (seen c.self.inside.held)) s last es) (sym (c.range-later.ensures.between tt))
-    (all_left c.self.inside.held c.self.invariant c.range-later.ensures.ordered s last p c.start_after.ensures))
+    (subst (λ (es : Entries). IsLeft (history_in (seen c.self.inside.accounts c.self.inside.held)) s last es) (sym (c.range-later.ensures.between tt))
+    (all_left c.self.inside.accounts c.self.inside.held c.self.invariant c.range-later.ensures.ordered s last p c.start_after.ensures))
 
 pub returns-then-is_behind : goal.returns-then-is_behind
 returns-then-is_behind c =

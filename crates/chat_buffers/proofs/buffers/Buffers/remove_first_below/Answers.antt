@@ -12,16 +12,18 @@ use Rattle.chat_buffers.proofs.SettleLemmas.{seen, unchanged_store, removed_keye
 use Rattle.chat_buffers.proofs.buffers.Buffers.remove_first_below.Goals as goal
 
 pub invariant_of-self : goal.invariant_of-self
-invariant_of-self c = subst (λ m. IsKeyedStore (seen m)) (sym c.get_mut.follows.holds-at-none) c.self.invariant
+invariant_of-self c = subst (λ m. IsKeyedStore (seen c.self.inside.accounts m)) (sym c.get_mut.follows.holds-at-none) c.self.invariant
 
 pub returns-in_err-held-clause-done : goal.returns-in_err-held-clause-done
 returns-in_err-held-clause-done c _ =
+    let ac = c.self.inside.accounts in
     let bs = c.self.inside.held in
     let gone : tree.get buffer_cmp bs c.args.buffer.now ≡ None = search rules in
-    subst (λ m. IsSweptOf c.args.buffer.now c.args.floor (seen m)) (sym c.get_mut.follows.holds-at-none) (swept_absent bs c.self.invariant c.args.buffer.now gone c.args.floor)
+    subst (λ m. IsSweptOf c.args.buffer.now c.args.floor (seen ac m)) (sym c.get_mut.follows.holds-at-none) (swept_absent ac bs c.self.invariant c.args.buffer.now gone c.args.floor)
 
 pub invariant_of-self-2 : goal.invariant_of-self-2
 invariant_of-self-2 c =
+    let ac = c.self.inside.accounts in
     let bs = c.self.inside.held in
     let b = c.args.buffer.now in
     let h = c.in_ok-held.held.now in
@@ -29,17 +31,18 @@ invariant_of-self-2 c =
     let new = c.get_mut.follows.lender w in
     let here : tree.get buffer_cmp bs b ≡ Some h = search rules in
     let up : IsWith buffer_cmp bs b w new = ((c.get_mut.follows.holds w).3 (search rules)).0 in
-    elim c.remove_first_below.result as (λ o. c.remove_first_below.result ≡ o → IsKeyedStore (seen new)) [
+    elim c.remove_first_below.result as (λ o. c.remove_first_below.result ≡ o → IsKeyedStore (seen ac new)) [
       | None ↦ λ e.
-          subst IsKeyedStore (sym (unchanged_store bs new b w (here ∙ (λ i. Some (record h { messages = sym (c.remove_first_below.ensures.kept e) i }))) up)) c.self.invariant
+          subst IsKeyedStore (sym (unchanged_store ac bs new b w (here ∙ (λ i. Some (record h { messages = sym (c.remove_first_below.ensures.kept e) i }))) up)) c.self.invariant
       | Some n ↦ λ e.
           let one = subst (λ o. IfSome o (λ n. spec.TakesOne h.messages c.args.floor n c.remove_first_below.new.self)) e c.remove_first_below.ensures.one in
-          let store = takes_one bs c.self.invariant b h here one.post n one.was c.args.floor new c.remove_first_below.new.self one.low one.left up in
-          subst IsKeyedStore (sym store.left) (removed_keyed (seen bs) _ c.self.invariant)
+          let store = takes_one ac bs c.self.invariant b h here one.post n one.was c.args.floor new c.remove_first_below.new.self one.low one.left up in
+          subst IsKeyedStore (sym store.left) (removed_keyed (seen ac bs) _ c.self.invariant)
     ] refl
 
 pub returns-clause-one : goal.returns-clause-one
 returns-clause-one c =
+    let ac = c.self.inside.accounts in
     let bs = c.self.inside.held in
     let b = c.args.buffer.now in
     let h = c.in_ok-held.held.now in
@@ -47,16 +50,17 @@ returns-clause-one c =
     let new = c.get_mut.follows.lender w in
     let here : tree.get buffer_cmp bs b ≡ Some h = search rules in
     let up : IsWith buffer_cmp bs b w new = ((c.get_mut.follows.holds w).3 (search rules)).0 in
-    elim c.remove_first_below.result as (λ o. c.remove_first_below.result ≡ o → IfSome o (λ n. TakesOne c.args.self.now b c.args.floor n (seen new))) [
+    elim c.remove_first_below.result as (λ o. c.remove_first_below.result ≡ o → IfSome o (λ n. TakesOne c.args.self.now b c.args.floor n (seen ac new))) [
       | None ↦ λ _. tt
       | Some n ↦ λ e.
           let one = subst (λ o. IfSome o (λ n. spec.TakesOne h.messages c.args.floor n c.remove_first_below.new.self)) e c.remove_first_below.ensures.one in
-          subst (λ s. TakesOne s b c.args.floor n (seen new)) c.self.view_is
-          (takes_one bs c.self.invariant b h here one.post n one.was c.args.floor new c.remove_first_below.new.self one.low one.left up)
+          subst (λ s. TakesOne s b c.args.floor n (seen ac new)) c.self.view_is
+          (takes_one ac bs c.self.invariant b h here one.post n one.was c.args.floor new c.remove_first_below.new.self one.low one.left up)
     ] refl
 
 pub returns-clause-done : goal.returns-clause-done
 returns-clause-done c none =
+    let ac = c.self.inside.accounts in
     let bs = c.self.inside.held in
     let b = c.args.buffer.now in
     let h = c.in_ok-held.held.now in
@@ -64,11 +68,12 @@ returns-clause-done c none =
     let new = c.get_mut.follows.lender w in
     let here : tree.get buffer_cmp bs b ≡ Some h = search rules in
     let up : IsWith buffer_cmp bs b w new = ((c.get_mut.follows.holds w).3 (search rules)).0 in
-    let same = unchanged_store bs new b w (here ∙ (λ i. Some (record h { messages = sym (c.remove_first_below.ensures.kept none) i }))) up in
-    swept_here new (subst IsKeyedStore (sym same) c.self.invariant) b w (written buffer_total bs new b w up) c.args.floor (c.remove_first_below.ensures.done none)
+    let same = unchanged_store ac bs new b w (here ∙ (λ i. Some (record h { messages = sym (c.remove_first_below.ensures.kept none) i }))) up in
+    swept_here ac new (subst IsKeyedStore (sym same) c.self.invariant) b w (written buffer_total bs new b w up) c.args.floor (c.remove_first_below.ensures.done none)
 
 pub returns-clause-kept : goal.returns-clause-kept
 returns-clause-kept c none =
+    let ac = c.self.inside.accounts in
     let bs = c.self.inside.held in
     let b = c.args.buffer.now in
     let h = c.in_ok-held.held.now in
@@ -76,4 +81,4 @@ returns-clause-kept c none =
     let new = c.get_mut.follows.lender w in
     let here : tree.get buffer_cmp bs b ≡ Some h = search rules in
     let up : IsWith buffer_cmp bs b w new = ((c.get_mut.follows.holds w).3 (search rules)).0 in
-    unchanged_store bs new b w (here ∙ (λ i. Some (record h { messages = sym (c.remove_first_below.ensures.kept none) i }))) up ∙ c.self.view_is
+    unchanged_store ac bs new b w (here ∙ (λ i. Some (record h { messages = sym (c.remove_first_below.ensures.kept none) i }))) up ∙ c.self.view_is
