@@ -8,9 +8,9 @@ use Rattle.std.specs.Ordering.{eq_by_cmp, is_eq}
 use Rattle.std.specs.Option.{option_map}
 use Rattle.std.specs.BTreeMap as tree
 use Rattle.std.specs.FinMap as finite
-use Rattle.chat_change.specs.Buffer.{Buffer}
+use Rattle.chat_change.specs.Extent.{Extent, OfAccount, OfBuffer}
 use Rattle.chat_change.specs.declared.change.Change.{Change}
-use Rattle.chat_change.specs.declared.change.Change.TheVariants.{Post, Redact, Mark, Floor}
+use Rattle.chat_change.specs.declared.change.Change.TheVariants.{Post, Redact, Mark, Floor, AccountFloor}
 use Rattle.chat_change.specs.Record.{Record}
 use Rattle.chat_change.specs.Key.{Key, MessageOf, key_of, same_key}
 use Rattle.chat_change.proofs.CallerLemmas.{key_total, same_key_is, same_key_itself}
@@ -50,16 +50,17 @@ none_cond : (a : Bool) (o : Option Numbered) → option_map (λ (p : Numbered). 
 none_cond true o = refl
 none_cond false o = refl
 
-left_number : (b : Buffer) (t : ℕ) (o : Option Numbered) → option_map (λ (p : Numbered). p.number) (option_map (with_remainder b t) o) ≡ option_map (λ (p : Numbered). p.number) o
-left_number b t None = refl
-left_number b t (Some p) = refl
+left_number : (e : Extent) (t : ℕ) (o : Option Numbered) → option_map (λ (p : Numbered). p.number) (option_map (with_remainder e t) o) ≡ option_map (λ (p : Numbered). p.number) o
+left_number e t None = refl
+left_number e t (Some p) = refl
 
 -- a change keeps the numbers of the other pieces
 beside_number : (c : Change) (o : Option Numbered) → option_map (λ (p : Numbered). p.number) (beside c o) ≡ option_map (λ (p : Numbered). p.number) o
 beside_number (Post r) o = refl
 beside_number (Redact b m t) o = refl
 beside_number (Mark b t) o = refl
-beside_number (Floor b t) o = left_number b t o
+beside_number (Floor b t) o = left_number (OfBuffer b) t o
+beside_number (AccountFloor a t) o = left_number (OfAccount a) t o
 
 numbered : (o : Option Numbered) (p : Numbered) → o ≡ Some p → option_map (λ (p : Numbered). p.number) o ≡ Some p.number
 numbered o p e = ap (option_map (λ (p : Numbered). p.number)) e
@@ -69,17 +70,22 @@ pub record IsAlike (p q : Numbered) : Type 0 where
   pub number : p.number ≡ q.number
   pub name : name_of p.change ≡ name_of q.change
 
-remainder_name : (b : Buffer) (t : ℕ) (c : Change) → name_of (remainder b t c) ≡ name_of c
-remainder_name b t (Post r) = refl
-remainder_name b t (Redact d m u) = refl
-remainder_name b t (Mark d u) = refl
-remainder_name b t (Floor d u) = refl
+remainder_name : (e : Extent) (t : ℕ) (c : Change) → name_of (remainder e t c) ≡ name_of c
+remainder_name e t (Post r) = refl
+remainder_name e t (Redact d m u) = refl
+remainder_name e t (Mark d u) = refl
+remainder_name e t (Floor d u) = refl
+remainder_name e t (AccountFloor a u) = refl
+
+left_some : (e : Extent) (t : ℕ) (q : Numbered) → (p : Numbered) × (option_map (with_remainder e t) (Some q) ≡ Some p) × IsAlike p q
+left_some e t q = (with_remainder e t q, refl, record { number = refl; name = remainder_name e t q.change })
 
 beside_some : (c : Change) (q : Numbered) → (p : Numbered) × (beside c (Some q) ≡ Some p) × IsAlike p q
 beside_some (Post r) q = (q, refl, record { number = refl; name = refl })
 beside_some (Redact b m t) q = (q, refl, record { number = refl; name = refl })
 beside_some (Mark b t) q = (q, refl, record { number = refl; name = refl })
-beside_some (Floor b t) q = (with_remainder b t q, refl, record { number = refl; name = remainder_name b t q.change })
+beside_some (Floor b t) q = left_some (OfBuffer b) t q
+beside_some (AccountFloor a t) q = left_some (OfAccount a) t q
 
 beside_was : (c : Change) (o : Option Numbered) (p : Numbered) → beside c o ≡ Some p → (q : Numbered) × (o ≡ Some q) × IsAlike p q
 beside_was c None p e = absurd (none c e)
@@ -89,6 +95,7 @@ beside_was c None p e = absurd (none c e)
     none (Redact b m t) e = cc e
     none (Mark b t) e = cc e
     none (Floor b t) e = cc e
+    none (AccountFloor a t) e = cc e
 beside_was c (Some q) p e =
     let x = beside_some c q in
     let same : x.0 ≡ p = same_Some x.0 p (sym x.1 ∙ e) in
@@ -254,6 +261,7 @@ post_of (Post q) r e = ap Post (same_Some q r e)
 post_of (Redact b m t) r e = cc e
 post_of (Mark b t) r e = cc e
 post_of (Floor b t) r e = cc e
+post_of (AccountFloor a t) r e = cc e
 
 pub no_redacted : (s : Store) (index : ByNumber) → IsKeyedStore s → IsIndexed s index → HoldsNoRedacted s index
 no_redacted s index keyed was b m t gone n q r e post same =

@@ -1,4 +1,5 @@
 mod IndexLemmas
 mod SweepLemmas
+mod AccountSweepLemmas
 mod WalkLemmas
 pub mod CallerLemmas

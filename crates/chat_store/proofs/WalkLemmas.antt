@@ -1,5 +1,5 @@
 -- The piece of a number, and the least number above another.
-use Rattle.std.proofs.Common.{◌≡◌, ◌≢◌, refl, sym, ◌∙◌, ap, ℕ, ◌≤◌, List, [], ◌∷◌, ◌++◌, true, false, nat_lt, is_some, Option, Some, None, ⊎_elim, inl, arith}
+use Rattle.std.proofs.Common.{◌≡◌, ◌≢◌, refl, sym, ◌∙◌, ap, ℕ, ◌≤◌, List, [], ◌∷◌, ◌++◌, true, false, nat_lt, is_some, Option, Some, None, inl, arith}
 use Rattle.std.proofs.lemmas.Option.{same_Some}
 use Rattle.std.specs.declared.cmp.Ordering.TheVariants.{Less}
 use Rattle.std.specs.Ordering.{nat_cmp, is_gt, is_lt}
@@ -8,30 +8,21 @@ use Rattle.std.specs.Option.{option_map}
 use Rattle.std.specs.BTreeMap as tree
 use Rattle.std.specs.BTreeMap.Range.{IsEntryInRange, IsRangeOf}
 use Rattle.std.specs.FinMap as finite
-use Rattle.chat_change.specs.Buffer.{Buffer}
-use Rattle.chat_change.specs.Key.{Key, FloorOf, MarkerOf, MessageOf, key_buffer, key_of}
+use Rattle.chat_change.specs.Key.{Key}
 use Rattle.chat_change.specs.declared.change.Change.{Change}
-use Rattle.chat_change.specs.declared.change.Change.TheVariants.{Post, Redact, Mark, Floor}
 use Rattle.chat_change.proofs.CallerLemmas.{key_total, key_exact}
 use Rattle.chat_history.specs.Choice.{Among, IsFirst}
 use Rattle.chat_history.proofs.CallerLemmas.{got, get_entry, valued, value_among, among-filter, among_passing}
 use Rattle.chat_buffers.specs.Store.{Store, Numbered, number_at, change_at, by_number, pieces_above, IsKeyedStore}
 use Rattle.chat_store.specs.Number.{number_cmp}
-use Rattle.chat_store.specs.PieceName.{PieceName, name_of, key_id}
+use Rattle.chat_store.specs.PieceName.{PieceName, name_of}
 use Rattle.chat_store.specs.Index.{ByNumber, IsIndexed}
-use Rattle.chat_store.specs.Walk.{StandsAt, IsHeld, IsPieceOf, HasStamp}
+use Rattle.chat_store.specs.Walk.{IsPieceOf}
 
 -- a piece with its number and its change
 whole : (o : Option Numbered) (n : ℕ) (c : Change) → option_map (λ (p : Numbered). p.number) o ≡ Some n → option_map (λ (p : Numbered). p.change) o ≡ Some c → o ≡ Some (record { number = n; change = c })
 whole None n c e f = cc e
 whole (Some p) n c e f = let number : p.number ≡ n = same_Some p.number n e in let change : p.change ≡ c = same_Some p.change c f in λ i. Some (record { number = number i; change = change i })
-
--- what a piece is known by has the buffer and the id of its key
-pub named : (c : Change) → (key_buffer (key_of c) ≡ (name_of c).buffer) × (key_id (key_of c) ≡ (name_of c).id)
-named (Post r) = (refl, refl)
-named (Redact b m t) = (refl, refl)
-named (Mark b t) = (refl, refl)
-named (Floor b t) = (refl, refl)
 
 -- what has a number is held
 pub held_some : (s : Store) (k : Key) (n : ℕ) → number_at s k ≡ Some n → change_at s k ≢ None
@@ -41,32 +32,9 @@ held_some s k n e = has (finite.get s k) e
     has None e none = cc e
     has (Some p) e none = cc none
 
-pub message_held : (s : Store) (n : ℕ) (b : Buffer) (m : List ℕ) → StandsAt s n b (Some m) → IsHeld s (MessageOf b m)
-message_held s n b m stands = (n, number_in stands.0 stands.1 stands.2 stands.3)
-  where
-    number_in : (k : Key) → key_buffer k ≡ b → key_id k ≡ Some m → number_at s k ≡ Some n → number_at s (MessageOf b m) ≡ Some n
-    number_in (FloorOf d) p i e = cc i
-    number_in (MarkerOf d) p i e = cc i
-    number_in (MessageOf d x) p i e = let id : x ≡ m = same_Some x m i in (λ j. number_at s (MessageOf (sym p j) (sym id j))) ∙ e
-
-pub marker_number : (s : Store) (n : ℕ) (b : Buffer) → StandsAt s n b None → number_at s (FloorOf b) ≢ Some n → number_at s (MarkerOf b) ≡ Some n
-marker_number s n b stands not = number_in stands.0 stands.1 stands.2 stands.3
-  where
-    number_in : (k : Key) → key_buffer k ≡ b → key_id k ≡ None → number_at s k ≡ Some n → number_at s (MarkerOf b) ≡ Some n
-    number_in (FloorOf d) p i e = absurd (not (ap (λ x. number_at s (FloorOf x)) (sym p) ∙ e))
-    number_in (MarkerOf d) p i e = ap (λ x. number_at s (MarkerOf x)) (sym p) ∙ e
-    number_in (MessageOf d x) p i e = cc i
-
-pub message_piece : (s : Store) (n : ℕ) (b : Buffer) (m : List ℕ) (c : Change) → StandsAt s n b (Some m) → change_at s (MessageOf b m) ≡ Some c → IsPieceOf s n (record { number = n; change = c })
-unfolding message_held
-message_piece s n b m c stands e =
-    let held = message_held s n b m stands in
-    (refl, MessageOf b m, whole (finite.get s (MessageOf b m)) n c held.1 e)
-
-pub stamp_piece : (s : Store) (n : ℕ) (b : Buffer) (c : Change) → StandsAt s n b None → HasStamp s n b c → IsPieceOf s n (record { number = n; change = c })
-stamp_piece s n b c stands has = ⊎_elim
-    (λ h. (refl, FloorOf b, whole (finite.get s (FloorOf b)) n c h.0 h.1))
-    (λ h. (refl, MarkerOf b, whole (finite.get s (MarkerOf b)) n c (marker_number s n b stands h.0) h.1)) has
+-- a piece of that number and that change
+pub held_piece : (s : Store) (n : ℕ) (k : Key) (c : Change) → number_at s k ≡ Some n → change_at s k ≡ Some c → IsPieceOf s n (record { number = n; change = c })
+held_piece s n k c e f = (refl, k, whole (finite.get s k) n c e f)
 
 -- ---- the least number above another
 
@@ -103,16 +71,11 @@ module _ (s : Store) (index : ByNumber) (keyed : IsKeyedStore s) (was : IsIndexe
     last : IsEntryInRange number_cmp Unbounded (Excluded n) index (m, q)
     last = are.3 (m, q) rest e
 
-    pub stands_next : StandsAt s m q.buffer q.id
+    pub stands_next : number_at s q.key ≡ Some m
     stands_next =
         let w = was.right m q last.1 in
-        let under : key_of w.1.change ≡ w.0 = keyed w.0 w.1 w.2 in
-        let known = named w.1.change in (
-          w.0,
-          ap key_buffer (sym under) ∙ known.0 ∙ ap (λ (x : PieceName). x.buffer) w.4,
-          ap key_id (sym under) ∙ known.1 ∙ ap (λ (x : PieceName). x.id) w.4,
-          piece_number (finite.get s w.0) w.1 w.2 ∙ ap Some w.3,
-        )
+        let under : q.key ≡ w.0 = ap (λ (x : PieceName). x.key) (sym w.4) ∙ keyed w.0 w.1 w.2 in
+        ap (number_at s) under ∙ piece_number (finite.get s w.0) w.1 w.2 ∙ ap Some w.3
 
     at_least : (p : Numbered) → Among p (pieces_above n s) → m ≤ p.number
     at_least p a =

@@ -15,5 +15,5 @@ pub mod Number
 -- what each piece is known by, under its number
 pub mod PieceName
 pub mod Index
--- how the records below a floor go, one by one
+-- how what lies below a floor goes, piece by piece
 pub mod Sweeping

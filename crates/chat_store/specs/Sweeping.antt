@@ -1,28 +1,29 @@
--- How the records of a buffer below a floor go, one by one.
-use Rattle.std.specs.Prelude.{ℕ, ◌≡◌, ◌&&◌, Bool, false, nat_lt, if◌then◌else◌, Option, Some, None}
+-- How what lies below a floor goes, piece by piece.
+use Rattle.std.specs.Prelude.{ℕ, ◌≡◌, if◌then◌else◌, Option, Some, None}
 use Rattle.std.specs.FinMap as finite
 use Rattle.chat_change.specs.Buffer.{Buffer}
-use Rattle.chat_change.specs.Key.{Key}
-use Rattle.chat_change.specs.declared.change.Change.{Change}
-use Rattle.chat_change.specs.declared.change.Change.TheVariants.{Post}
-use Rattle.chat_history.specs.Retention.{is_covered}
+use Rattle.chat_change.specs.Extent.{Extent, OfAccount, OfBuffer}
+use Rattle.chat_change.specs.Key.{Key, FloorOf, same_key}
 use Rattle.chat_buffers.specs.Store.{Store, Numbered}
-use Rattle.chat_buffers.specs.Entering.{TakesOne}
+use Rattle.chat_buffers.specs.Entering.{TakesOne, is_below}
 
 -- one record below the floor was taken out
 abbrev pub TakesSome : Store → Buffer → ℕ → Store → Type 0
 TakesSome old b f new = (n : ℕ) × TakesOne old b f n new
 
--- a record of the buffer below the floor
-abbrev pub is_below : Buffer → ℕ → Change → Bool
-is_below b f (Post r) = is_covered b r.buffer && nat_lt r.at f
-is_below b f c = false
+-- a piece, where a floor of that extent doesn't take it away
+abbrev pub unless_below : Extent → ℕ → Option Numbered → Option Numbered
+unless_below e f None = None
+unless_below e f (Some p) = if is_below e f p.change then None else Some p
 
--- a piece, where it is no such record
-abbrev pub unless_below : Buffer → ℕ → Option Numbered → Option Numbered
-unless_below b f None = None
-unless_below b f (Some p) = if is_below b f p.change then None else Some p
+-- all that lies below a floor of that extent was taken out, and nothing else
+abbrev pub IsSwept : Extent → ℕ → Store → Store → Type 0
+IsSwept e f old new = (k : Key) → finite.get new k ≡ unless_below e f (finite.get old k)
 
--- all such records were taken out, and nothing else
-abbrev pub IsSwept : Buffer → ℕ → Store → Store → Type 0
-IsSwept b f old new = (k : Key) → finite.get new k ≡ unless_below b f (finite.get old k)
+-- of all pieces only the own floor of a buffer was taken out, where a floor of its account takes it
+-- away
+abbrev pub IsFloorSwept : Buffer → ℕ → Store → Store → Type 0
+IsFloorSwept b f old new =
+    (k : Key) → finite.get new k ≡
+    (if same_key k (FloorOf (OfBuffer b))
+    then unless_below (OfAccount b.account) f (finite.get old k) else finite.get old k)

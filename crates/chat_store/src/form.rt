@@ -2,18 +2,18 @@
 
 ghost use Rattle.std.specs.Prelude.{◌≡◌, IfOk};
 ghost use Rattle.std.specs.Option.{option_map};
+ghost use Rattle.chat_change.specs.Extent.{value_of};
+ghost use Rattle.chat_change.specs.Key.{floor_change};
 ghost use Rattle.chat_change.specs.declared.change.Change.TheVariants as value;
 ghost use Rattle.chat_history.specs.Choice as choice;
 ghost use Rattle.chat_history.specs.Form.{raises};
 ghost use Rattle.chat_history.specs.Retention as retention;
 ghost use Rattle.chat_store.specs.Form as spec;
 ghost use Rattle.chat_store.specs.Piece.{change_of};
-ghost use Rattle.chat_store.specs.Store.{floor_in};
 
-use crate::piece::ChangeRef;
 use crate::store::Store;
 use chat_buffers::MessageRef;
-use chat_change::{Buffer, Change, Moment, MsgId, Record, goes_before};
+use chat_change::{Buffer, Change, ChangeRef, Extent, Moment, MsgId, Record, goes_before};
 use std::alloc::AllocError;
 
 /// The form of the piece that a change makes.
@@ -60,20 +60,11 @@ fn raises(floor: u64, named: Option<Moment>, at: Option<Moment>) -> bool
     }
 }
 
-fn floor_ms(store: &Store, buffer: &Buffer) -> u64
-    ensures { result ≡ floor_in store.now buffer.now }
-{
-    match store.floor(buffer) {
-        Some(at) => at.ms(),
-        None => 0,
-    }
-}
-
 fn form_of_post(store: &Store, post: &Record) -> Option<Form>
     ensures { option_map (spec.piece_in (value.Post post.now)) result ≡
         spec.form store.now (value.Post post.now) }
 {
-    let floor = floor_ms(store, post.buffer());
+    let floor = store.floor_ms(&Extent::Buffer(post.buffer()));
     let counts = match store.message(post.buffer(), post.id()) {
         None => floor <= post.at().ms(),
         Some(MessageRef::Kept(old)) => goes_before(post, old),
@@ -97,7 +88,7 @@ fn form_of_redaction(
     ensures { option_map (spec.piece_in (value.Redact buffer.now id.now at.now)) result ≡
         spec.form store.now (value.Redact buffer.now id.now at.now) }
 {
-    let floor = floor_ms(store, buffer);
+    let floor = store.floor_ms(&Extent::Buffer(buffer));
     match store.message(buffer, id) {
         None => Some(Form::Gone(at_or_above(floor, *at))),
         Some(MessageRef::Kept(old)) => {
@@ -130,11 +121,11 @@ fn form_of_marker(store: &Store, buffer: &Buffer, at: Moment) -> Option<Form>
     }
 }
 
-fn form_of_floor(store: &Store, buffer: &Buffer, at: Moment) -> Option<Form>
-    ensures { option_map (spec.piece_in (value.Floor buffer.now at)) result ≡
-        spec.form store.now (value.Floor buffer.now at) }
+fn form_of_floor(store: &Store, extent: &Extent<'_>, at: Moment) -> Option<Form>
+    ensures { option_map (spec.piece_in (floor_change (value_of extent.now) at)) result ≡
+        spec.floor_form store.now (value_of extent.now) at }
 {
-    if floor_ms(store, buffer) < at.ms() {
+    if store.floor_ms(extent) < at.ms() {
         Some(Form::AsItIs)
     } else {
         None
@@ -150,7 +141,7 @@ pub fn form_of(store: &Store, change: &ChangeRef<'_>) -> Option<Form>
         ChangeRef::Post(post) => form_of_post(store, post),
         ChangeRef::Redact { buffer, id, at } => form_of_redaction(store, buffer, id, at),
         ChangeRef::Mark { buffer, at } => form_of_marker(store, buffer, *at),
-        ChangeRef::Floor { buffer, at } => form_of_floor(store, buffer, *at),
+        ChangeRef::Floor { extent, at } => form_of_floor(store, extent, *at),
     }
 }
 

@@ -2,7 +2,8 @@
 //! form in which a change counts.
 //!
 //! A [`Store`] is seen as one finite map from keys to numbered changes. It is `chat_buffers` with an index beside it, in
-//! which each piece is found by its number; [`laws`] says that nothing of a redacted text is left there. What a change comes
+//! which each piece is found by its number; [`laws`] says that nothing of a redacted text is left there. A floor is set for
+//! an account or for a buffer, and the greater of the two is in force in a buffer ([`Store::floor_ms`]). What a change comes
 //! to is [`form_of`], in the words of `chat_history`. Read [`Store::place`] first.
 #![tactic(auto)]
 
@@ -16,6 +17,7 @@ mod store;
 mod walk;
 
 pub use chat_buffers::{Down, MessageRef, Sought, Up};
+pub use chat_change::ChangeRef;
 pub use form::{Form, form_of, piece_in};
-pub use piece::{ChangeRef, Piece};
+pub use piece::Piece;
 pub use store::Store;

@@ -3,6 +3,7 @@
 ghost use Rattle.std.specs.Prelude.{◌≡◌, IfSome, reverse};
 ghost use Rattle.std.specs.Map.Iter.{deref};
 ghost use Rattle.std.specs.Option.{option_map};
+ghost use Rattle.chat_change.specs.Extent.{value_of};
 ghost use Rattle.chat_change.specs.Key as key;
 ghost use Rattle.chat_change.specs.Order.{buffer_cmp};
 ghost use Rattle.chat_change.specs.declared.change.Change.TheVariants as value;
@@ -15,16 +16,40 @@ ghost use Rattle.chat_buffers.specs.Store as spec;
 
 use crate::store::Store;
 use chat_buffers::{Down, MessageRef, Sought, Up};
-use chat_change::{Buffer, Moment, MsgId};
+use chat_change::{Buffer, Extent, Moment, MsgId};
 use chat_history::Cut;
 
 impl Store {
-    /// The floor that was set for a buffer, if one was.
-    pub fn floor(&self, buffer: &Buffer) -> Option<Moment>
-        ensures { spec.change_at self.now (key.FloorOf buffer.now) ≡
-            option_map (value.Floor buffer.now) result }
+    /// The own floor of an account or of a buffer, if it has one.
+    pub fn floor(&self, extent: &Extent<'_>) -> Option<Moment>
+        ensures { spec.change_at self.now (key.FloorOf (value_of extent.now)) ≡
+            option_map (key.floor_change (value_of extent.now)) result }
     {
-        self.buffers.floor(buffer)
+        self.buffers.floor(extent)
+    }
+
+    /// The floor in force, in milliseconds: of an account its own one, of a buffer that of its account or its own one,
+    /// whichever is greater. 0 where there is none.
+    pub fn floor_ms(&self, extent: &Extent<'_>) -> u64
+        ensures { result ≡ spec.floor_in self.now (value_of extent.now) }
+    {
+        match extent {
+            Extent::Account(_) => self.own_floor_ms(extent),
+            Extent::Buffer(buffer) => {
+                let around = self.own_floor_ms(&Extent::Account(buffer.owner()));
+                around.max(self.own_floor_ms(extent))
+            }
+        }
+    }
+
+    // The own floor in milliseconds, or 0.
+    fn own_floor_ms(&self, extent: &Extent<'_>) -> u64
+        ensures { result ≡ spec.own_floor_in self.now (value_of extent.now) }
+    {
+        match self.floor(extent) {
+            Some(at) => at.ms(),
+            None => 0,
+        }
     }
 
     /// The read marker of a buffer, if one was set.

@@ -1,32 +1,34 @@
 //! What the piece of a number is known by.
 
 ghost use Rattle.std.specs.Prelude.{◌≡◌, IfOk};
-ghost use Rattle.std.specs.Map.Iter.{deref};
-ghost use Rattle.std.specs.Option.{option_map};
+ghost use Rattle.chat_change.specs.Key.{value_of};
 ghost use Rattle.chat_store.specs.PieceName as spec;
 
-use chat_change::{Buffer, Change, MsgId, Record};
+use chat_change::{Account, Buffer, Change, Extent, Key, MsgId, Record};
 use std::alloc::{AllocError, Global};
 use std::marker::Model;
 use std::sync::Arc;
 
-/// The buffer of a piece, and the id of its message. A floor or a marker has no id: their numbers tell them apart. Of a
-/// message that was posted it holds the record.
+/// The key of a piece. Of a message that was posted it holds the record.
 #[derive(Drop)]
 pub(crate) struct PieceName {
     subject: Subject,
 }
 
-// What tells the buffer and the id. A name is held for each piece, so it takes one pointer: most are of records, which
-// have both.
+// What tells the key. A name is held for each piece, so it takes one pointer: most are of records, which have both buffer
+// and id.
 #[derive(Drop)]
 enum Subject {
     // the record of a message that was posted
     Posted(Record),
     // a message that was redacted
     Redacted(Arc<MessageName>),
-    // the buffer of a floor or of a marker
-    Stamped(Buffer),
+    // the buffer of a marker
+    Marked(Buffer),
+    // the buffer of a floor
+    Floored(Buffer),
+    // the account of a floor
+    AccountFloored(Account),
 }
 
 #[derive(Drop)]
@@ -44,25 +46,16 @@ impl Model for PieceName {
 }
 
 impl PieceName {
-    /// The buffer of the piece.
-    pub(crate) fn buffer(&self) -> &Buffer
-        ensures { result.now ≡ self.now.buffer }
+    /// The key of the piece.
+    pub(crate) fn key(&self) -> Key<'_>
+        ensures { value_of result ≡ self.now.key }
     {
         match &self.subject {
-            Subject::Posted(post) => post.buffer(),
-            Subject::Redacted(name) => &name.buffer,
-            Subject::Stamped(buffer) => buffer,
-        }
-    }
-
-    /// The id of its message, if it has one.
-    pub(crate) fn id(&self) -> Option<&MsgId>
-        ensures { option_map deref result ≡ self.now.id }
-    {
-        match &self.subject {
-            Subject::Posted(post) => Some(post.id()),
-            Subject::Redacted(name) => Some(&name.id),
-            Subject::Stamped(_) => None,
+            Subject::Posted(post) => post.key(),
+            Subject::Redacted(name) => Key::Message(&name.buffer, &name.id),
+            Subject::Marked(buffer) => Key::Marker(buffer),
+            Subject::Floored(buffer) => Key::Floor(Extent::Buffer(buffer)),
+            Subject::AccountFloored(account) => Key::Floor(Extent::Account(account)),
         }
     }
 }
@@ -75,7 +68,9 @@ impl Clone for PieceName {
         let subject = match &self.subject {
             Subject::Posted(post) => Subject::Posted(post.try_clone()?),
             Subject::Redacted(name) => Subject::Redacted(Arc::try_clone(name)?),
-            Subject::Stamped(buffer) => Subject::Stamped(buffer.try_clone()?),
+            Subject::Marked(buffer) => Subject::Marked(buffer.try_clone()?),
+            Subject::Floored(buffer) => Subject::Floored(buffer.try_clone()?),
+            Subject::AccountFloored(account) => Subject::AccountFloored(account.try_clone()?),
         };
         Ok(PieceName { subject })
     }
@@ -97,8 +92,9 @@ pub(crate) fn name_of(alloc: Global, change: &Change) -> Result<PieceName, Alloc
     let subject = match change {
         Change::Post(post) => Subject::Posted(post.try_clone()?),
         Change::Redact { buffer, id, .. } => Subject::Redacted(message_name(alloc, buffer, id)?),
-        Change::Mark { buffer, .. } => Subject::Stamped(buffer.try_clone()?),
-        Change::Floor { buffer, .. } => Subject::Stamped(buffer.try_clone()?),
+        Change::Mark { buffer, .. } => Subject::Marked(buffer.try_clone()?),
+        Change::Floor { buffer, .. } => Subject::Floored(buffer.try_clone()?),
+        Change::AccountFloor { account, .. } => Subject::AccountFloored(account.try_clone()?),
     };
     Ok(PieceName { subject })
 }

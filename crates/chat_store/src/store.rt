@@ -1,16 +1,17 @@
 //! The numbered pieces of many buffers, with an index by number.
 
-ghost use Rattle.std.specs.Prelude.{◌≡◌, IsTrue, IfOk, false};
+ghost use Rattle.std.specs.Prelude.{◌≡◌, ◌≤◌, IsTrue, IfOk, false};
 ghost use Rattle.std.specs.FinMap as map;
+ghost use Rattle.chat_change.specs.Extent.{OfAccount, OfBuffer};
 ghost use Rattle.chat_change.specs.declared.change.Change.TheVariants as value;
 ghost use Rattle.chat_buffers.specs.Store as spec;
-ghost use Rattle.chat_buffers.specs.Entering.{FitsStore, IsEntered, IsSweptOf};
-ghost use Rattle.chat_store.specs.Sweeping.{TakesSome, IsSwept};
+ghost use Rattle.chat_buffers.specs.Entering.{FitsStore, IsEntered, IsSweptOf, AreBuffersOf};
+ghost use Rattle.chat_store.specs.Sweeping.{TakesSome, IsSwept, IsFloorSwept};
 
 use crate::number::Number;
 use crate::piece_name::{PieceName, name_of};
 use chat_buffers::Buffers;
-use chat_change::{Buffer, Change, Moment};
+use chat_change::{Account, Buffer, Change, Moment};
 use ordered_maps::{put, take_out};
 use std::alloc::{AllocError, Global};
 use std::collections::BTreeMap;
@@ -51,7 +52,8 @@ impl Store {
     }
 
     /// Puts a piece under its key. A floor takes away the records that lie below it, and makes redactions forget the moments
-    /// there. Where there is no memory nothing has changed.
+    /// there. The floor of an account also takes away the own floors of its buffers that are no higher. Where there is no
+    /// memory nothing has changed.
     pub fn place(&mut self, number: u64, change: Change) -> bool
         requires fits { FitsStore self.old change }
         requires fresh { spec.IsFresh self.old number }
@@ -60,6 +62,7 @@ impl Store {
     {
         match change {
             Change::Floor { buffer, at } => self.place_floor(number, buffer, at),
+            Change::AccountFloor { account, at } => self.place_account_floor(number, account, at),
             Change::Post(post) => self.enter(number, Change::Post(post)),
             Change::Redact { buffer, id, at } => self.enter(
                 number,
@@ -91,7 +94,36 @@ impl Store {
         true
     }
 
-    // Puts a piece under its key. A floor leaves the records that lie below it.
+    fn place_account_floor(&mut self, number: u64, account: Account, at: Moment) -> bool
+        requires fits { FitsStore self.old (value.AccountFloor account at) }
+        requires fresh { spec.IsFresh self.old number }
+        ensures placed { IsTrue result →
+            spec.Places self.old number (value.AccountFloor account at) self.new }
+        ensures refused { result ≡ false → self.new ≡ self.old }
+    {
+        // it shows that each piece stands under its own key
+        let _ = &self.buffers;
+        let Ok(buffers) = self.buffers.buffers_of(self.alloc, &account) else {
+            drop(account);
+            return false;
+        };
+        let Ok(floored) = account.try_clone() else {
+            drop(account);
+            drop(buffers);
+            return false;
+        };
+        if !self.enter(number, Change::AccountFloor { account, at }) {
+            drop(buffers);
+            drop(floored);
+            return false;
+        }
+        self.sweep_account(&floored, &buffers, at);
+        drop(buffers);
+        drop(floored);
+        true
+    }
+
+    // Puts a piece under its key. A floor leaves what lies below it.
     fn enter(&mut self, number: u64, change: Change) -> bool
         requires fits { FitsStore self.old change }
         requires fresh { spec.IsFresh self.old number }
@@ -129,9 +161,37 @@ impl Store {
         })
     }
 
+    // Takes away what lies below the floor of an account: records of its buffers, and their own floors that are no higher.
+    // It takes no memory.
+    fn sweep_account(&mut self, account: &Account, buffers: &[Buffer], floor: Moment)
+        requires listed { AreBuffersOf self.old account.now buffers.now }
+        requires stands { floor ≤ spec.own_floor_in self.old (OfAccount account.now) }
+        ensures { IsSwept (OfAccount account.now) floor self.old self.new }
+    {
+        // it shows that each piece stands under its own key
+        let _ = &self.buffers;
+        for buffer in buffers {
+            // the list may have buffers of other accounts
+            if buffer.owner().is_same(account) {
+                self.sweep(buffer, floor);
+                self.sweep_floor(buffer, floor);
+            }
+        }
+    }
+
+    // Takes the own floor of a buffer away, where it is no higher than the account's. It takes no memory.
+    fn sweep_floor(&mut self, buffer: &Buffer, floor: Moment)
+        requires stands { floor ≤ spec.own_floor_in self.old (OfAccount buffer.now.account) }
+        ensures { IsFloorSwept buffer.now floor self.old self.new }
+    {
+        if let Some(gone) = self.buffers.remove_floor_to(buffer, floor) {
+            take_out(&mut self.index, &Number::of(gone));
+        }
+    }
+
     // Takes the records of a buffer away that lie below a floor. It takes no memory.
     fn sweep(&mut self, buffer: &Buffer, floor: Moment)
-        ensures { IsSwept buffer.now floor self.old self.new }
+        ensures { IsSwept (OfBuffer buffer.now) floor self.old self.new }
     {
         while self.take_first_below(buffer, floor) {}
     }

@@ -1,19 +1,20 @@
 //! The pieces by rising number.
 
-ghost use Rattle.std.specs.Prelude.{◌≡◌, Some, None};
+ghost use Rattle.std.specs.Prelude.{◌≡◌, Some};
 ghost use Rattle.std.specs.Option.{option_map};
+ghost use Rattle.chat_change.specs.Extent.{value_of};
 ghost use Rattle.chat_change.specs.Key as key;
 ghost use Rattle.chat_history.specs.Choice.{IsFirst};
 ghost use Rattle.chat_buffers.specs.Store as spec;
 ghost use Rattle.chat_store.specs.Piece.{change_of, numbered_of};
-ghost use Rattle.chat_store.specs.Walk.{StandsAt, IsHeld, IsPieceOf, HasStamp};
+ghost use Rattle.chat_store.specs.Walk.{IsHeld, IsPieceOf};
 
 use crate::number::Number;
-use crate::piece::{ChangeRef, Piece};
+use crate::piece::Piece;
 use crate::piece_name::PieceName;
 use crate::store::Store;
 use chat_buffers::MessageRef;
-use chat_change::{Buffer, Key, MsgId};
+use chat_change::{Buffer, ChangeRef, Extent, Key, MsgId};
 use std::ops::Bound;
 
 impl Store {
@@ -33,19 +34,34 @@ impl Store {
 
     // The piece of a number, by what it is known by.
     fn piece_at<'s>(&'s self, number: u64, name: &'s PieceName) -> Piece<'s>
-        requires { StandsAt self.now number name.now.buffer name.now.id }
+        requires { spec.number_at self.now name.now.key ≡ Some number }
         ensures { IsPieceOf self.now number (numbered_of result) }
     {
-        match name.id() {
-            Some(id) => {
-                let change = self.message_at(name.buffer(), id);
-                Piece { number, change }
-            }
-            None => {
-                let change = self.stamp_at(number, name.buffer());
-                Piece { number, change }
-            }
-        }
+        let change = match name.key() {
+            Key::Floor(extent) => self.floor_at(extent),
+            Key::Marker(buffer) => self.marker_at(buffer),
+            Key::Message(buffer, id) => self.message_at(buffer, id),
+        };
+        Piece { number, change }
+    }
+
+    // The own floor of an account or of a buffer, as a change.
+    fn floor_at<'s>(&'s self, extent: Extent<'s>) -> ChangeRef<'s>
+        requires { IsHeld self.now (key.FloorOf (value_of extent)) }
+        ensures { spec.change_at self.now (key.FloorOf (value_of extent.entry)) ≡
+            Some (change_of result) }
+    {
+        let at = self.buffers.floor(&extent).unwrap();
+        ChangeRef::Floor { extent, at }
+    }
+
+    // The read marker of a buffer, as a change.
+    fn marker_at<'s>(&'s self, buffer: &'s Buffer) -> ChangeRef<'s>
+        requires { IsHeld self.now (key.MarkerOf buffer.now) }
+        ensures { spec.change_at self.now (key.MarkerOf buffer.now) ≡ Some (change_of result) }
+    {
+        let at = self.buffers.marker(buffer).unwrap();
+        ChangeRef::Mark { buffer, at }
     }
 
     // What is held of a message, as a change.
@@ -59,18 +75,5 @@ impl Store {
             Some(MessageRef::Gone(at)) => ChangeRef::Redact { buffer, id, at },
             None => unreachable!(),
         }
-    }
-
-    // The floor or the marker of a buffer that has that number.
-    fn stamp_at<'s>(&'s self, number: u64, buffer: &'s Buffer) -> ChangeRef<'s>
-        requires { StandsAt self.now number buffer.now None }
-        ensures { HasStamp self.now number buffer.now (change_of result) }
-    {
-        if self.buffers.number(&Key::Floor(buffer)) == Some(number) {
-            let at = self.buffers.floor(buffer).unwrap();
-            return ChangeRef::Floor { buffer, at };
-        }
-        let at = self.buffers.marker(buffer).unwrap();
-        ChangeRef::Mark { buffer, at }
     }
 }

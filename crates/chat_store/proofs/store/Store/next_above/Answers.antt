@@ -1,8 +1,8 @@
-use Rattle.std.proofs.Common.{sym, subst, Some, None}
+use Rattle.std.proofs.Common.{◌≡◌, sym, subst, Some, None}
 use Rattle.chat_history.specs.Choice.{IsFirst}
-use Rattle.chat_buffers.specs.Store.{Store, by_number, pieces_above}
+use Rattle.chat_buffers.specs.Store.{Store, number_at, by_number, pieces_above}
 use Rattle.chat_store.specs.Piece.{numbered_of}
-use Rattle.chat_store.specs.Walk.{StandsAt, IsPieceOf}
+use Rattle.chat_store.specs.Walk.{IsPieceOf}
 use Rattle.chat_store.proofs.WalkLemmas.{AreAbove, none_above, stands_next, first_above}
 use Rattle.chat_store.proofs.store.Store.next_above.Goals as goal
 
@@ -14,7 +14,7 @@ piece_at-requires c =
     let above = c.range-above.result in
     let are = subst (λ n. AreAbove index n above) c.of-key.ensures (c.range-above.ensures.in_range tt) in
     let stands = stands_next s index c.self.invariant.0 c.self.invariant.1 c.args.number above are c.in-Some.next.now name c.next_back.new.self c.in-Some.ensures.steps in
-    subst (λ n. StandsAt c.args.self.now n name.buffer name.id) (sym c.value.ensures) (subst (λ (x : Store). StandsAt x c.in-Some.next.now name.buffer name.id) c.self.view_is stands)
+    subst (λ n. number_at c.args.self.now name.key ≡ Some n) (sym c.value.ensures) (subst (λ (x : Store). number_at x name.key ≡ Some c.in-Some.next.now) c.self.view_is stands)
 
 pub returns-in-Some : goal.returns-in-Some
 returns-in-Some c =

@@ -1,5 +1,6 @@
 use Rattle.std.proofs.Common.{◌∙◌, refl, ap}
 use Rattle.std.specs.FinMap as map
+use Rattle.chat_change.specs.Extent.{OfBuffer}
 use Rattle.chat_buffers.specs.Store.{Store}
 use Rattle.chat_store.specs.Sweeping.{unless_below}
 use Rattle.chat_store.proofs.SweepLemmas.{one_less, fewer, all_swept}
@@ -15,5 +16,5 @@ pub returns : goal.returns
 returns c =
     let same = c.loop-floor-test.ensures.kept refl in
     all_swept c.args.buffer.now c.args.floor c.args.self.now c.take_first_below.new.self
-    (λ k. ap (λ (s : Store). unless_below c.args.buffer.now c.args.floor (map.get s k)) same ∙ c.loop-floor.invariant k)
+    (λ k. ap (λ (s : Store). unless_below (OfBuffer c.args.buffer.now) c.args.floor (map.get s k)) same ∙ c.loop-floor.invariant k)
     (c.loop-floor-test.ensures.done refl)
