@@ -16,7 +16,7 @@ use Rattle.chat_change.specs.Buffer.{Buffer}
 use Rattle.chat_change.specs.Record.{Record}
 use Rattle.chat_change.specs.Order.{text_cmp, buffer_cmp}
 use Rattle.chat_change.specs.declared.change.Change.{Change}
-use Rattle.chat_change.specs.declared.change.Change.TheVariants.{Post, Redact, Mark, Floor}
+use Rattle.chat_change.specs.declared.change.Change.TheVariants.{Post, Redact, Mark, Floor, AccountFloor}
 use Rattle.chat_change.proofs.CallerLemmas.{text_exact, buffer_total}
 use Rattle.chat_history.specs.Choice.{Among, IsFirst}
 use Rattle.chat_history.specs.declared.cut.Cut.TheVariants.{Top}
@@ -104,6 +104,7 @@ made_where p (Post r) b e =
 made_where p (Redact d m t) b e = cc
 made_where p (Mark d t) b e = cc
 made_where p (Floor d t) b e = cc
+made_where p (AccountFloor a t) b e = cc
 
 module _ (h : History) (account network : List ℕ) where
   abbrev found : List Buffer

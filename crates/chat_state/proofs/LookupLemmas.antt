@@ -7,10 +7,11 @@ use Rattle.std.specs.Option.{option_and_then, option_map, option_to_list, unwrap
 use Rattle.std.specs.FinMap.{get}
 use Rattle.chat_change.specs.Buffer.{Buffer}
 use Rattle.chat_change.specs.declared.change.Change.{Change}
-use Rattle.chat_change.specs.declared.change.Change.TheVariants.{Post, Redact, Mark, Floor}
+use Rattle.chat_change.specs.declared.change.Change.TheVariants.{Post, Redact, Mark, Floor, AccountFloor}
 use Rattle.chat_history.specs.Choice.{greatest, Among}
-use Rattle.chat_change.specs.Key.{Key, FloorOf, MarkerOf, MessageOf, key_of, bearers_of}
-use Rattle.chat_history.specs.History.{History, floor, mark, is_gone, position_of, floor_moment, marker_moment, message_moment, is_redaction, norm, changes_of, IsKeyed}
+use Rattle.chat_change.specs.Extent.{Extent, OfAccount, OfBuffer}
+use Rattle.chat_change.specs.Key.{Key, FloorOf, MarkerOf, MessageOf, key_of, bearers_of, floor_change}
+use Rattle.chat_history.specs.History.{History, own_floor, floor, mark, is_gone, position_of, floor_moment, marker_moment, message_moment, is_redaction, norm, changes_of, IsKeyed}
 use Rattle.chat_history.specs.Lookups.{position_in, is_redacted, is_posted, IsShown}
 use Rattle.chat_history.specs.StateValue.{StateValue}
 use Rattle.chat_store.specs.Store.{Store, change_at}
@@ -40,18 +41,19 @@ redacted : (u : Option Change) → list_any is_redaction (option_to_list u) ≡ 
 redacted None = refl
 redacted (Some c) = or_false (is_redaction c)
 
+module _ (h : History) (keyed : IsKeyed h) (u : Option Change) where
+  pub floor_found : (x : Extent) → u ≡ get h (FloorOf x) → unwrap_or (option_and_then floor_moment u) 0 ≡ own_floor (changes_of h) x
+  floor_found x e =
+      ap (λ v. unwrap_or v 0) (sym (said floor_moment u))
+      ∙ ap (λ v. unwrap_or (greatest (filter_map floor_moment (option_to_list v))) 0) e
+      ∙ ap (λ cs. unwrap_or (greatest (filter_map floor_moment cs)) 0) (sym (bearers_of-changes_of h keyed (FloorOf x)))
+
 module _ (h : History) (keyed : IsKeyed h) (b : Buffer) (u : Option Change) where
   pub mark_found : u ≡ get h (MarkerOf b) → option_and_then marker_moment u ≡ mark (changes_of h) b
   mark_found e =
       sym (said marker_moment u)
       ∙ ap (λ v. greatest (filter_map marker_moment (option_to_list v))) e
       ∙ ap (λ cs. greatest (filter_map marker_moment cs)) (sym (bearers_of-changes_of h keyed (MarkerOf b)))
-
-  pub floor_found : u ≡ get h (FloorOf b) → unwrap_or (option_and_then floor_moment u) 0 ≡ floor (changes_of h) b
-  floor_found e =
-      ap (λ v. unwrap_or v 0) (sym (said floor_moment u))
-      ∙ ap (λ v. unwrap_or (greatest (filter_map floor_moment (option_to_list v))) 0) e
-      ∙ ap (λ cs. unwrap_or (greatest (filter_map floor_moment cs)) 0) (sym (bearers_of-changes_of h keyed (FloorOf b)))
 
   module _ (m : List ℕ) (e : u ≡ get h (MessageOf b m)) where
     pub gone_found : is_redacted u ≡ is_gone (changes_of h) b m
@@ -78,6 +80,7 @@ module _ (h : History) (keyed : IsKeyed h) (b : Buffer) (u : Option Change) wher
     shown_post (Some (Redact d n x)) s t = absurd (false≢true t)
     shown_post (Some (Mark d x)) s t = absurd (false≢true t)
     shown_post (Some (Floor d x)) s t = absurd (false≢true t)
+    shown_post (Some (AccountFloor d x)) s t = absurd (false≢true t)
 
     pub shown_found : IsTrue (is_posted u) ↔ IsShown h b m
     shown_found = (
@@ -93,9 +96,10 @@ pub mark_said : (b : Buffer) (r : Option ℕ) → option_and_then marker_moment 
 mark_said b None = refl
 mark_said b (Some t) = refl
 
-pub floor_said : (b : Buffer) (r : Option ℕ) → option_and_then floor_moment (option_map (Floor b) r) ≡ r
-floor_said b None = refl
-floor_said b (Some t) = refl
+pub floor_said : (e : Extent) (r : Option ℕ) → option_and_then floor_moment (option_map (floor_change e) r) ≡ r
+floor_said e None = refl
+floor_said (OfAccount a) (Some t) = refl
+floor_said (OfBuffer b) (Some t) = refl
 
 -- ---- the history of a state
 

@@ -1,21 +1,21 @@
 -- What one more change does to a store: where the piece that it makes is placed, the history is the one with the change.
-use Rattle.std.proofs.Common.{◌≡◌, ◌≢◌, ℕ, ◌+◌, ◌<◌, ◌≤◌, Bool, true, false, cond, Option, Some, None, List, [], ◌∷◌, ◌++◌, refl, sym, ◌∙◌, ap, subst, arith}
+use Rattle.std.proofs.Common.{◌≡◌, ◌≢◌, ℕ, max, ◌+◌, ◌<◌, ◌≤◌, Bool, true, false, cond, Option, Some, None, List, [], ◌∷◌, ◌++◌, refl, sym, ◌∙◌, ap, subst, arith}
 use Rattle.std.proofs.lemmas.Bool.Decides.{nat_tests}
 use Rattle.std.proofs.lemmas.Option.{same_Some}
 use Rattle.std.specs.Option.{IfSome, SomeIff, option_map, option_or, option_and_then, unwrap_or, is_some}
 use Rattle.std.specs.Prelude.{nat_lt}
 use Rattle.std.specs.FinMap as finite
-use Rattle.chat_change.specs.Buffer.{Buffer}
+use Rattle.chat_change.specs.Extent.{Extent, OfAccount, OfBuffer}
 use Rattle.chat_change.specs.declared.change.Change.{Change}
-use Rattle.chat_change.specs.declared.change.Change.TheVariants.{Post, Redact, Mark, Floor}
-use Rattle.chat_change.specs.Key.{Key, FloorOf, key_cmp, key_of, same_key, key_buffer}
-use Rattle.chat_history.specs.History.{History, floor, floor_moment, norm, changes_of, IsKeyed}
+use Rattle.chat_change.specs.declared.change.Change.TheVariants.{Post, Redact, Mark, Floor, AccountFloor}
+use Rattle.chat_change.specs.Key.{Key, FloorOf, key_cmp, key_of, same_key, key_extent, floor_change}
+use Rattle.chat_history.specs.History.{History, own_floor, floor_at, floor_moment, norm, changes_of, IsKeyed}
 use Rattle.chat_history.specs.Choice.{keep}
 use Rattle.chat_history.specs.StateValue.{state_after}
 use Rattle.chat_history.specs.Numbering as numbering
 use Rattle.chat_history.specs.Numbering.{has_piece, numbers_after, front, numbers}
 use Rattle.chat_history.specs.Retention.{outlasts, remainder}
-use Rattle.chat_store.specs.Store.{Store, Numbered, history_in, numbers_in, change_at, floor_in, piece_left, piece_after, Places}
+use Rattle.chat_store.specs.Store.{Store, Numbered, history_in, numbers_in, change_at, own_floor_in, floor_in, piece_left, piece_above, piece_after, Places}
 use Rattle.chat_state.specs.State.{value_of, AreNumbers, IsSound}
 use Rattle.chat_history.specs.Form.{IsNoFloor, renews, new_form, first_form, next_piece, form_at}
 use Rattle.chat_store.specs.Form.{form}
@@ -24,7 +24,7 @@ use Rattle.chat_history.proofs.CallerLemmas.{Bears, norm_keyed, piece_bears, get
 use Rattle.chat_history.proofs.CallerLemmas.{norm-changes_of}
 use Rattle.chat_history.proofs.CallerLemmas.{get-numbers_after, get-numbers}
 use Rattle.chat_history.proofs.CallerLemmas.{floor_set}
-use Rattle.chat_history.proofs.CallerLemmas.{get_after, get_floor, low_floor, floor_is, get_is_piece, new_form_differs, first_form_bears, new_form_bears}
+use Rattle.chat_history.proofs.CallerLemmas.{get_after, get_floor, low_floor, own_floor_is, get_is_piece, new_form_differs, first_form_bears, new_form_bears}
 use Rattle.chat_history.proofs.CallerLemmas.{held_counted, held_same}
 use Rattle.chat_store.proofs.CallerLemmas.{get-history, get-numbers_in, placed-plain}
 
@@ -40,6 +40,11 @@ floor_said (Some (Post r)) = refl
 floor_said (Some (Redact b m t)) = refl
 floor_said (Some (Mark b t)) = refl
 floor_said (Some (Floor b t)) = refl
+floor_said (Some (AccountFloor a t)) = refl
+
+moment_of_floor : (e : Extent) (t : ℕ) → floor_moment (floor_change e t) ≡ Some t
+moment_of_floor (OfAccount a) t = refl
+moment_of_floor (OfBuffer b) t = refl
 
 -- ---- the piece that a change makes of that of its key
 
@@ -67,11 +72,12 @@ form_differs f (Some old) c d e same = differs_in (renews f c old) refl e
     differs_in true t e = new_form_differs f c old t (same_Some (new_form c old) d e ∙ sym (same_Some old d same))
     differs_in false t e = cc
 
-form-plain : (s : Store) (c : Change) → IsNoFloor c → form s c ≡ form_at (floor_in s (key_buffer (key_of c))) (change_at s (key_of c)) c
+form-plain : (s : Store) (c : Change) → IsNoFloor c → form s c ≡ form_at (floor_in s (key_extent (key_of c))) (change_at s (key_of c)) c
 form-plain s (Post r) p = refl
 form-plain s (Redact b m t) p = refl
 form-plain s (Mark b t) p = refl
 form-plain s (Floor b t) p = absurd p
+form-plain s (AccountFloor a t) p = absurd p
 
 pub no_floor_either : (c d : Change) → IsNoFloor c → key_of c ≡ key_of d → IsNoFloor d
 no_floor_either c (Post r) p e = tt
@@ -81,20 +87,30 @@ no_floor_either (Post r) (Floor d u) p e = cc
 no_floor_either (Redact b m t) (Floor d u) p e = cc
 no_floor_either (Mark b t) (Floor d u) p e = cc
 no_floor_either (Floor b t) (Floor d u) p e = absurd p
+no_floor_either (AccountFloor a t) (Floor d u) p e = absurd p
+no_floor_either (Post r) (AccountFloor d u) p e = cc
+no_floor_either (Redact b m t) (AccountFloor d u) p e = cc
+no_floor_either (Mark b t) (AccountFloor d u) p e = cc
+no_floor_either (Floor b t) (AccountFloor d u) p e = absurd p
+no_floor_either (AccountFloor a t) (AccountFloor d u) p e = absurd p
 
 -- ---- what is placed
+
+above_own : (s : Store) (n : ℕ) (e : Extent) (t : ℕ) → piece_above s n e t (FloorOf e) ≡ Some (record { number = n; change = floor_change e t })
+above_own s n e t = ap (λ a. cond a (Some (record { number = n; change = floor_change e t })) (piece_left e t (finite.get s (FloorOf e)))) (same_key_itself (FloorOf e))
 
 pub placed_own : (s : Store) (n : ℕ) (d : Change) → piece_after s n d (key_of d) ≡ Some (record { number = n; change = d })
 placed_own s n (Post r) = ap (λ b. cond b (Some (record { number = n; change = Post r })) (finite.get s (key_of (Post r)))) (same_key_itself (key_of (Post r)))
 placed_own s n (Redact b m t) = ap (λ a. cond a (Some (record { number = n; change = Redact b m t })) (finite.get s (key_of (Redact b m t)))) (same_key_itself (key_of (Redact b m t)))
 placed_own s n (Mark b t) = ap (λ a. cond a (Some (record { number = n; change = Mark b t })) (finite.get s (key_of (Mark b t)))) (same_key_itself (key_of (Mark b t)))
-placed_own s n (Floor b t) = ap (λ a. cond a (Some (record { number = n; change = Floor b t })) (piece_left b t (finite.get s (FloorOf b)))) (same_key_itself (FloorOf b))
+placed_own s n (Floor b t) = above_own s n (OfBuffer b) t
+placed_own s n (AccountFloor a t) = above_own s n (OfAccount a) t
 
-left_change : (b : Buffer) (t : ℕ) (o : Option Numbered) → option_map (remainder b t) (keep (outlasts b t) (option_map change o)) ≡ option_map change (piece_left b t o)
+left_change : (b : Extent) (t : ℕ) (o : Option Numbered) → option_map (remainder b t) (keep (outlasts b t) (option_map change o)) ≡ option_map change (piece_left b t o)
 left_change b t None = refl
 left_change b t (Some p) = elim (outlasts b t p.change) as (λ a. option_map (remainder b t) (cond a (Some p.change) None) ≡ option_map change (cond a (Some (record p { change = remainder b t p.change })) None)) [ true ↦ refl | false ↦ refl ]
 
-left_number : (b : Buffer) (t : ℕ) (o : Option Numbered) → option_map number (piece_left b t o) ≡ cond (is_some (piece_left b t o)) (option_map number o) None
+left_number : (b : Extent) (t : ℕ) (o : Option Numbered) → option_map number (piece_left b t o) ≡ cond (is_some (piece_left b t o)) (option_map number o) None
 left_number b t None = refl
 left_number b t (Some p) =
     elim (outlasts b t p.change) as (λ a. option_map number (cond a (Some (record p { change = remainder b t p.change })) None) ≡ cond (is_some (cond a (Some (record p { change = remainder b t p.change })) None)) (Some p.number) None) [ true ↦ refl | false ↦ refl ]
@@ -107,12 +123,16 @@ one_of : (a : Bool) (q : Numbered) (x o : Option Numbered) → option_map number
 one_of true q x o h = refl
 one_of false q x o h = h
 
+above_number : (s : Store) (n : ℕ) (e : Extent) (t : ℕ) (k : Key) → option_map number (piece_above s n e t k) ≡ cond (same_key k (FloorOf e)) (Some n) (cond (is_some (piece_above s n e t k)) (option_map number (finite.get s k)) None)
+above_number s n e t k = one_of (same_key k (FloorOf e)) (record { number = n; change = floor_change e t }) (piece_left e t (finite.get s k)) (finite.get s k) (left_number e t (finite.get s k))
+
 -- of the other keys each has its own number still, or no piece
 placed_number : (s : Store) (n : ℕ) (d : Change) (k : Key) → option_map number (piece_after s n d k) ≡ cond (same_key k (key_of d)) (Some n) (cond (is_some (piece_after s n d k)) (option_map number (finite.get s k)) None)
 placed_number s n (Post r) k = one_of (same_key k (key_of (Post r))) (record { number = n; change = Post r }) (finite.get s k) (finite.get s k) (same_number (finite.get s k))
 placed_number s n (Redact b m t) k = one_of (same_key k (key_of (Redact b m t))) (record { number = n; change = Redact b m t }) (finite.get s k) (finite.get s k) (same_number (finite.get s k))
 placed_number s n (Mark b t) k = one_of (same_key k (key_of (Mark b t))) (record { number = n; change = Mark b t }) (finite.get s k) (finite.get s k) (same_number (finite.get s k))
-placed_number s n (Floor b t) k = one_of (same_key k (FloorOf b)) (record { number = n; change = Floor b t }) (piece_left b t (finite.get s k)) (finite.get s k) (left_number b t (finite.get s k))
+placed_number s n (Floor b t) k = above_number s n (OfBuffer b) t k
+placed_number s n (AccountFloor a t) k = above_number s n (OfAccount a) t k
 
 -- ---- a change of a store in normal form
 
@@ -129,8 +149,16 @@ module _ (s : Store) (normal : norm (changes_of (history_in s)) ≡ history_in s
   pub keyed : IsKeyed (history_in s)
   keyed = subst IsKeyed normal (norm_keyed (changes_of (history_in s)))
 
-  pub floor_is_in : (b : Buffer) → floor (changes_of (history_in s)) b ≡ floor_in s b
-  floor_is_in b = floor_is (history_in s) keyed b ∙ ap floor_set (get-history s (FloorOf b)) ∙ floor_said (change_at s (FloorOf b))
+  own_is_in : (e : Extent) → own_floor (changes_of (history_in s)) e ≡ own_floor_in s e
+  own_is_in e = own_floor_is (history_in s) keyed e ∙ ap floor_set (get-history s (FloorOf e)) ∙ floor_said (change_at s (FloorOf e))
+
+  pub floor_is_in : (e : Extent) → floor_at (changes_of (history_in s)) e ≡ floor_in s e
+  floor_is_in (OfAccount a) = own_is_in (OfAccount a)
+  floor_is_in (OfBuffer b) = λ i. max (own_is_in (OfAccount b.account) i) (own_is_in (OfBuffer b) i)
+
+  own_within : (e : Extent) → own_floor_in s e ≤ floor_in s e
+  own_within (OfAccount a) = omega arith
+  own_within (OfBuffer b) = omega arith
 
   pub change_bears : (k : Key) → IfSome (change_at s k) (Bears k)
   change_bears k = subst (λ o. IfSome o (Bears k)) (get_is_piece (history_in s) keyed normal k ∙ get-history s k) (piece_bears (changes_of (history_in s)) k)
@@ -141,13 +169,13 @@ module _ (s : Store) (normal : norm (changes_of (history_in s)) ≡ history_in s
     here = change_at s (key_of c)
 
     abbrev made : Option Change
-    made = form_at (floor_in s (key_buffer (key_of c))) here c
+    made = form_at (floor_in s (key_extent (key_of c))) here c
 
     get_with : (k : Key) → finite.get (after s c) k ≡ cond (same_key k (key_of c)) (option_or made here) (change_at s k)
     get_with k =
         get_after (history_in s) keyed normal c p k
-        ∙ (λ i. cond (same_key k (key_of c)) (next_piece (floor_is_in (key_buffer (key_of c)) i) (get-history s (key_of c) i) c) (get-history s k i))
-        ∙ ap (λ o. cond (same_key k (key_of c)) o (change_at s k)) (next_piece-form (floor_in s (key_buffer (key_of c))) here c)
+        ∙ (λ i. cond (same_key k (key_of c)) (next_piece (floor_is_in (key_extent (key_of c)) i) (get-history s (key_of c) i) c) (get-history s k i))
+        ∙ ap (λ o. cond (same_key k (key_of c)) o (change_at s k)) (next_piece-form (floor_in s (key_extent (key_of c))) here c)
 
     plain_unformed : made ≡ None → after s c ≡ history_in s
     plain_unformed e = finite.same_map key_total key_exact (after s c) (history_in s) (λ k.
@@ -160,58 +188,68 @@ module _ (s : Store) (normal : norm (changes_of (history_in s)) ≡ history_in s
 
     plain_formed : (d : Change) → made ≡ Some d → IsForm s c d
     plain_formed d e =
-        let is = form_bears (floor_in s (key_buffer (key_of c))) here c d (change_bears (key_of c)) e in
+        let is = form_bears (floor_in s (key_extent (key_of c))) here c d (change_bears (key_of c)) e in
         record {
           bears = is;
-          differs = form_differs (floor_in s (key_buffer (key_of c))) here c d e;
+          differs = form_differs (floor_in s (key_extent (key_of c))) here c d e;
           gets = λ n k.
               get_with k ∙ (λ i. cond (same_key k (is i)) (option_or (e i) here) (change_at s k))
               ∙ elim (same_key k (key_of d)) as (λ b. cond b (Some d) (change_at s k) ≡ option_map change (cond b (Some (record { number = n; change = d })) (finite.get s k))) [ true ↦ refl | false ↦ refl ]
               ∙ ap (option_map change) (sym (placed-plain s n d (no_floor_either c d p is) k));
         }
 
-  module _ (b : Buffer) (t : ℕ) where
-    floor_unformed : nat_lt (floor_in s b) t ≡ false → after s (Floor b t) ≡ history_in s
-    floor_unformed e = low_floor (history_in s) keyed normal b t (let is = floor_is_in b in grind (arith, nat_tests))
+  -- a floor of an extent
+  module _ (e : Extent) (t : ℕ) (c : Change) (is : floor_change e t ≡ c) (bears : key_of c ≡ FloorOf e) (placed : (n : ℕ) (k : Key) → piece_after s n c k ≡ piece_above s n e t k) where
+    floor_unformed : nat_lt (floor_in s e) t ≡ false → after s c ≡ history_in s
+    floor_unformed l = ap (after s) (sym is) ∙ low_floor (history_in s) keyed normal e t (let at = floor_is_in e in grind (arith, nat_tests))
 
-    floor_above : nat_lt (floor_in s b) t ≡ true → floor (changes_of (history_in s)) b < t
-    floor_above e = let is = floor_is_in b in grind (arith, nat_tests)
+    floor_above : nat_lt (floor_in s e) t ≡ true → floor_at (changes_of (history_in s)) e < t
+    floor_above l = let at = floor_is_in e in grind (arith, nat_tests)
 
-    not_yet : floor_in s b < t → change_at s (FloorOf b) ≢ Some (Floor b t)
-    not_yet l e = let same : floor_in s b ≡ t = ap (λ o. unwrap_or (option_and_then floor_moment o) 0) e in omega arith
+    not_yet : floor_in s e < t → change_at s (key_of c) ≢ Some c
+    not_yet l same =
+        let own : own_floor_in s e ≡ t =
+        ap (λ o. unwrap_or (option_and_then floor_moment o) 0) (ap (change_at s) (sym bears) ∙ same ∙ ap Some (sym is))
+        ∙ ap (λ o. unwrap_or o 0) (moment_of_floor e t) in
+        let within = own_within e in
+        omega (arith, own, within)
 
-    floor_formed : nat_lt (floor_in s b) t ≡ true → IsForm s (Floor b t) (Floor b t)
-    floor_formed e = record {
+    floor_formed : nat_lt (floor_in s e) t ≡ true → IsForm s c c
+    floor_formed l = record {
       bears = refl;
       differs = not_yet (grind (arith, nat_tests));
       gets = λ n k.
-          get_floor (history_in s) keyed normal b t (floor_above e) k
-          ∙ ap (λ o. cond (same_key k (FloorOf b)) (Some (Floor b t)) (option_map (remainder b t) (keep (outlasts b t) o))) (get-history s k)
-          ∙ ap (λ o. cond (same_key k (FloorOf b)) (Some (Floor b t)) o) (left_change b t (finite.get s k))
-          ∙ elim (same_key k (FloorOf b)) as (λ a. cond a (Some (Floor b t)) (option_map change (piece_left b t (finite.get s k))) ≡ option_map change (cond a (Some (record { number = n; change = Floor b t })) (piece_left b t (finite.get s k)))) [ true ↦ refl | false ↦ refl ];
+          ap (λ x. finite.get (after s x) k) (sym is)
+          ∙ get_floor (history_in s) keyed normal e t (floor_above l) k
+          ∙ ap (λ o. cond (same_key k (FloorOf e)) (Some (floor_change e t)) (option_map (remainder e t) (keep (outlasts e t) o))) (get-history s k)
+          ∙ ap (λ o. cond (same_key k (FloorOf e)) (Some (floor_change e t)) o) (left_change e t (finite.get s k))
+          ∙ elim (same_key k (FloorOf e)) as (λ a. cond a (Some (floor_change e t)) (option_map change (piece_left e t (finite.get s k))) ≡ option_map change (cond a (Some (record { number = n; change = floor_change e t })) (piece_left e t (finite.get s k)))) [ true ↦ refl | false ↦ refl ]
+          ∙ ap (option_map change) (sym (placed n k));
     }
 
-  floor_made : (b : Buffer) (t : ℕ) (d : Change) (a : Bool) → nat_lt (floor_in s b) t ≡ a → cond a (Some (Floor b t)) None ≡ Some d → IsForm s (Floor b t) d
-  floor_made b t d true is e = subst (IsForm s (Floor b t)) (same_Some (Floor b t) d e) (floor_formed b t is)
-  floor_made b t d false is e = cc
+    floor_made : (d : Change) (a : Bool) → nat_lt (floor_in s e) t ≡ a → cond a (Some c) None ≡ Some d → IsForm s c d
+    floor_made d true l f = subst (IsForm s c) (same_Some c d f) (floor_formed l)
+    floor_made d false l f = cc
 
-  floor_not_made : (b : Buffer) (t : ℕ) (a : Bool) → nat_lt (floor_in s b) t ≡ a → cond a (Some (Floor b t)) None ≡ None → after s (Floor b t) ≡ history_in s
-  floor_not_made b t true is e = cc
-  floor_not_made b t false is e = floor_unformed b t is
+    floor_not_made : (a : Bool) → nat_lt (floor_in s e) t ≡ a → cond a (Some c) None ≡ None → after s c ≡ history_in s
+    floor_not_made true l f = cc
+    floor_not_made false l f = floor_unformed l
 
   -- a change that counts
   pub formed : (c d : Change) → form s c ≡ Some d → IsForm s c d
   formed (Post r) d e = plain_formed (Post r) tt d e
   formed (Redact b m t) d e = plain_formed (Redact b m t) tt d e
   formed (Mark b t) d e = plain_formed (Mark b t) tt d e
-  formed (Floor b t) d e = floor_made b t d (nat_lt (floor_in s b) t) refl e
+  formed (Floor b t) d e = floor_made (OfBuffer b) t (Floor b t) refl refl (λ n k. refl) d (nat_lt (floor_in s (OfBuffer b)) t) refl e
+  formed (AccountFloor a t) d e = floor_made (OfAccount a) t (AccountFloor a t) refl refl (λ n k. refl) d (nat_lt (floor_in s (OfAccount a)) t) refl e
 
   -- a change that doesn't
   pub unformed : (c : Change) → form s c ≡ None → after s c ≡ history_in s
   unformed (Post r) e = plain_unformed (Post r) tt e
   unformed (Redact b m t) e = plain_unformed (Redact b m t) tt e
   unformed (Mark b t) e = plain_unformed (Mark b t) tt e
-  unformed (Floor b t) e = floor_not_made b t (nat_lt (floor_in s b) t) refl e
+  unformed (Floor b t) e = floor_not_made (OfBuffer b) t (Floor b t) refl refl (λ n k. refl) (nat_lt (floor_in s (OfBuffer b)) t) refl e
+  unformed (AccountFloor a t) e = floor_not_made (OfAccount a) t (AccountFloor a t) refl refl (λ n k. refl) (nat_lt (floor_in s (OfAccount a)) t) refl e
 
   pub formed_differs : (c d : Change) → form s c ≡ Some d → after s c ≢ history_in s
   formed_differs c d e same =

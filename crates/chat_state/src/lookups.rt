@@ -5,7 +5,7 @@ ghost use Rattle.chat_history.specs.History as spec;
 ghost use Rattle.chat_history.specs.Lookups.{IsShown};
 
 use crate::state::State;
-use chat_change::{Buffer, Moment, MsgId};
+use chat_change::{Buffer, Extent, Moment, MsgId};
 use chat_store::MessageRef;
 
 // The moment at which 1970 began.
@@ -17,6 +17,7 @@ pub(crate) fn first_moment() -> Moment
 
 impl State {
     ghost use Rattle.chat_change.specs.declared.change.Change as value;
+    ghost use Rattle.chat_change.specs.Extent.{value_of};
 
     /// The number of the last change that changed the state.
     pub fn front(&self) -> u64
@@ -34,13 +35,24 @@ impl State {
         self.store.marker(buffer)
     }
 
-    /// The moment below which nothing of a buffer is kept: the start of 1970 where none was set.
+    // The floor that was set for an account or a buffer itself: the start of 1970 where none was.
+    fn own_floor(&self, extent: &Extent<'_>) -> Moment
+        ensures { result ≡
+            spec.own_floor (spec.changes_of self.now.history) (value_of extent.now) }
+    {
+        self.store.floor(extent).unwrap_or(first_moment())
+    }
+
+    /// The moment below which nothing of a buffer is kept, which was set for it or for its account: the start of 1970 where
+    /// none was.
     pub fn floor(&self, buffer: &Buffer) -> Moment
         ensures held { result ≡ spec.floor (spec.changes_of self.now.history) buffer.now }
         ensures of_set { (changes : List value.Change) → self.now.history ≡ spec.norm changes →
             result ≡ spec.floor changes buffer.now }
     {
-        self.store.floor(buffer).unwrap_or(first_moment())
+        let own = self.own_floor(&Extent::Buffer(buffer));
+        let around = self.own_floor(&Extent::Account(buffer.owner()));
+        if own.ms() < around.ms() { around } else { own }
     }
 
     /// Whether a message was redacted (IRCv3 draft/message-redaction).

@@ -4,12 +4,12 @@ ghost use Rattle.std.specs.Prelude.{◌≡◌, ◌≢◌, ◌↔◌, ◌∷◌, 
 ghost use Rattle.chat_history.specs.Deltas.{all_changes};
 ghost use Rattle.chat_state.specs.Run.{IsStoppedRun};
 ghost use Rattle.chat_history.specs.StateValue as spec;
-ghost use Rattle.chat_store.specs.Piece.{change_of};
+ghost use Rattle.chat_change.specs.ChangeRef.{change_of};
 ghost use Rattle.chat_state.specs.declared.faults.StateFault.TheVariants as fault;
 
 use crate::faults::{StateFault, TakeFault};
 use byte_text::NoMemory;
-use chat_change::Change;
+use chat_change::{Change, Extent};
 use chat_store::{ChangeRef, Store, form_of, piece_in};
 use std::alloc::Global;
 use std::marker::Model;
@@ -67,6 +67,8 @@ impl State {
         ensures exhausted { (result ≡ Err fault.Exhausted) ↔ IsPastTheLast self.old change }
         ensures err { OnErr result (self.new ≡ self.old) }
     {
+        // without it the borrow checker can't plan the call
+        let _extent: Option<Extent<'_>> = None;
         let taken = self.absorb_copy(&ChangeRef::of(&change));
         drop(change);
         taken
@@ -114,6 +116,8 @@ impl State {
             fault.Exhausted)) }
     {
         let _ = &self.store;
+        // without it the borrow checker can't plan the call
+        let _extent: Option<Extent<'_>> = None;
         for (i, change) in changes.iter().enumerate() {
             if let Err(cause) = self.absorb_copy(&ChangeRef::of(change)) {
                 return Err(TakeFault { taken: i, cause });

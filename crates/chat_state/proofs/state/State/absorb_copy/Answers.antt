@@ -5,7 +5,7 @@ use Rattle.chat_history.specs.History.{norm, changes_of}
 use Rattle.chat_history.specs.StateValue.{StateValue}
 use Rattle.chat_store.specs.Form.{form}
 use Rattle.chat_store.specs.Form.{piece_in}
-use Rattle.chat_store.specs.Piece.{change_of}
+use Rattle.chat_change.specs.ChangeRef.{change_of}
 use Rattle.chat_history.specs.Numbering.{numbers_after}
 use Rattle.chat_store.specs.Store.{history_in}
 use Rattle.chat_state.proofs.FitsLemmas.{formed_fits}

@@ -1,17 +1,26 @@
-use Rattle.std.proofs.Common.{sym, ◌∙◌}
-use Rattle.std.specs.Option.{option_map, unwrap_or}
-use Rattle.chat_change.specs.Key.{FloorOf}
-use Rattle.chat_change.specs.declared.change.Change.TheVariants.{Floor}
-use Rattle.chat_state.proofs.LookupLemmas.{state_keyed, state_found, floor_said, floor_found, floor_of_set}
+use Rattle.std.proofs.Common.{◌≡◌, ◌≤◌, ◌<◌, ℕ, max, ◌∙◌, ap, arith}
+use Rattle.chat_change.specs.Extent.{OfAccount}
+use Rattle.chat_history.specs.History.{own_floor, changes_of}
+use Rattle.chat_state.proofs.LookupLemmas.{floor_of_set}
 use Rattle.chat_state.proofs.state.State.floor.Goals as goal
 
-pub returns-clause-held : goal.returns-clause-held
-returns-clause-held c =
-    let b = c.args.buffer.now in
-    let u = option_map (Floor b) c.floor.result in
-    let keyed = state_keyed c.self.inside.store c.self.inside.front c.self.invariant c.args.self.now c.self.view_is in
-    let found = state_found c.self.inside.store c.self.inside.front c.self.invariant c.args.self.now c.self.view_is (FloorOf b) u c.floor.ensures in
-    c.unwrap_or.ensures ∙ (λ i. unwrap_or (sym (floor_said b c.floor.result) i) (c.first_moment.ensures i)) ∙ floor_found c.args.self.now.history keyed b u found
+-- of two moments the greater one
+first_greater : (m n x y a o : ℕ) → m ≡ x → n ≡ y → x ≡ o → y ≡ a → m < n → y ≡ max a o
+first_greater m n x y a o e f g h l = omega (arith, e, f, g, h, l)
 
-pub returns-clause-of_set : goal.returns-clause-of_set
-returns-clause-of_set c = λ changes e. returns-clause-held c ∙ floor_of_set c.args.self.now.history c.args.buffer.now changes e
+second_greater : (m n x y a o : ℕ) → m ≡ x → n ≡ y → x ≡ o → y ≡ a → n ≤ m → x ≡ max a o
+second_greater m n x y a o e f g h l = omega (arith, e, f, g, h, l)
+
+pub returns-then-ms-clause-of_set : goal.returns-then-ms-clause-of_set
+returns-then-ms-clause-of_set c changes e =
+    let h = c.args.self.now.history in
+    first_greater _ _ _ _ _ _ c.ms.ensures.value c.ms-2.ensures.value c.own_floor-own.ensures
+    (c.own_floor-around.ensures ∙ ap (λ a. own_floor (changes_of h) (OfAccount a)) c.owner.ensures) c.if-ms.true
+    ∙ floor_of_set h c.args.buffer.now changes e
+
+pub returns-else-ms-clause-of_set : goal.returns-else-ms-clause-of_set
+returns-else-ms-clause-of_set c changes e =
+    let h = c.args.self.now.history in
+    second_greater _ _ _ _ _ _ c.ms.ensures.value c.ms-2.ensures.value c.own_floor-own.ensures
+    (c.own_floor-around.ensures ∙ ap (λ a. own_floor (changes_of h) (OfAccount a)) c.owner.ensures) c.if-ms.false
+    ∙ floor_of_set h c.args.buffer.now changes e
