@@ -3,18 +3,18 @@ use Rattle.std.proofs.Common.{◌≡◌, ℕ, ◌≤◌, Bool, true, false, ◌&
 use Rattle.std.specs.Prelude.{decimal, ◌≢◌, IfErr}
 use Rattle.std.specs.Char.{to_ascii_lowercase}
 use Rattle.std.specs.Option.{IfSome, option_map}
-use Rattle.std.proofs.lemmas.Bool.{eqb-true}
+use Rattle.std.proofs.lemmas.Bool.{false≢true, eqb-true}
 use Rattle.irc_time.specs.Time.{greatest}
 use Rattle.chat_change.specs.Words.{is_name, is_target, is_id, lower_case_of}
 use Rattle.chat_change.specs.Buffer.{Buffer, IsLawfulBuffer}
 use Rattle.chat_change.specs.declared.change.Change.{Change}
-use Rattle.chat_change.specs.declared.change.Change.TheVariants.{Post, Redact, Mark, Floor}
+use Rattle.chat_change.specs.declared.change.Change.TheVariants.{Post, Redact, Mark, Floor, AccountFloor}
 use Rattle.gossip_delta.specs.Words.{is_text, is_filled, is_last_word, word, behind, words_text}
 use Rattle.gossip_delta.specs.Number.{moment_of}
 use Rattle.gossip_delta.specs.PostLine.{post_fields, has_post_form, post_in, post_word, post_words}
-use Rattle.gossip_delta.specs.ChangeLine.{BufferFields, buffer_fields, has_names, has_form, named_moment, is_folded_byte, is_folded, is_buffer, buffer_named, redaction_with, change_in, change_kind, or_bad_field, fields_change, kind_change, read_change}
+use Rattle.gossip_delta.specs.ChangeLine.{BufferFields, buffer_fields, has_names, has_form, named_moment, is_folded_byte, is_folded, is_buffer, buffer_named, redaction_with, change_in, change_kind, or_bad_field, fields_change, kind_change, account_floor_in, account_floor_change, words_change, read_change}
 use Rattle.chat_change.specs.Lawful.{IsLawfulChange}
-use Rattle.gossip_delta.specs.ChangeText.{buffer_words, moment_text, line_of}
+use Rattle.gossip_delta.specs.ChangeText.{buffer_words, account_words, moment_text, line_of}
 use Rattle.gossip_delta.specs.declared.fault.ChangeLineFault.{ChangeLineFault}
 use Rattle.gossip_delta.specs.declared.fault.ChangeLineFault.TheVariants.{BadForm, NoMemory}
 use Rattle.gossip_delta.specs.declared.fields.ChangeKind.{ChangeKind}
@@ -60,7 +60,7 @@ kind_says : (o : Option ChangeKind) (rest : List ℕ) (c : Change) → kind_chan
 kind_says None rest c h = absurd (no_form c h)
 kind_says (Some kind) rest c h = (kind, refl, fields_say kind (buffer_fields rest) c h)
 
-line_says : (line : List ℕ) (c : Change) → read_change line ≡ Ok c → (word line ≡ codes "C") × (kind_change (change_kind (word (behind line))) (behind (behind line)) ≡ Ok c)
+line_says : (line : List ℕ) (c : Change) → read_change line ≡ Ok c → (word line ≡ codes "C") × (words_change (word (behind line)) (behind (behind line)) ≡ Ok c)
 unfolding read_change
 line_says line c h =
     let p = chosen (is_text (word line) (codes "C")) _ (Err BadForm) c h no_form in
@@ -218,11 +218,41 @@ module _ (line : List ℕ) (first : word line ≡ codes "C") where
   spelled of_kind.Mark second c h = mark_spelled second c h
   spelled of_kind.Floor second c h = floor_spelled second c h
 
+  -- a floor of an account
+  account_floor_spelled : word (behind line) ≡ codes "AFLOOR" → (c : Change) → account_floor_change (behind (behind line)) ≡ Ok c → IsSpelled c
+  account_floor_spelled second c h =
+      let rest = behind (behind line) in
+      let a = word rest in
+      let end = behind rest in
+      let form = chosen (is_filled a && is_last_word end) _ (Err BadForm) c h no_form in
+      let last = right (is_filled a) (is_last_word end) form.0 in
+      let value = some_of (is_name a) (option_map (AccountFloor a) (moment_of end)) c (good_field (account_floor_in a end) c form.1) in
+      let v = mapped (AccountFloor a) (moment_of end) c value.1 in
+      let m = moment_is end v.0 v.1 in
+      subst IsSpelled v.2 (
+        sym (words_rejoined 3 line (left (is_filled end) _ last)) ∙ (λ i. words_text (first i ∷ second i ∷ a ∷ []) ++ m.1 i),
+        (value.0, m.0),
+      )
+
+chosen_else : (t : Bool) (x y : Line) (c : Change) → cond t x y ≡ Ok c → t ≡ false → y ≡ Ok c
+chosen_else true x y c h e = absurd (false≢true (sym e))
+chosen_else false x y c h e = h
+
+chosen_then : (t : Bool) (x y : Line) (c : Change) → cond t x y ≡ Ok c → t ≡ true → x ≡ Ok c
+chosen_then true x y c h e = h
+chosen_then false x y c h e = absurd (false≢true e)
+
 pub one_spelling : (line : List ℕ) (c : Change) → read_change line ≡ Ok c → (line ≡ line_of c) × IsLawfulChange c
 one_spelling line c h =
     let p = line_says line c h in
-    let q = kind_says (change_kind (word (behind line))) (behind (behind line)) c p.1 in
-    spelled line p.0 q.0 (kind_is (word (behind line)) q.0 q.1) c q.2
+    let second = word (behind line) in
+    let rest = behind (behind line) in
+    elim (is_text second (codes "AFLOOR")) as (λ t. is_text second (codes "AFLOOR") ≡ t → (line ≡ line_of c) × IsLawfulChange c) [
+      | true ↦ λ t. account_floor_spelled line p.0 (text_is second (codes "AFLOOR") t) c (chosen_then _ (account_floor_change rest) (kind_change (change_kind second) rest) c p.1 t)
+      | false ↦ λ t.
+          let q = kind_says (change_kind second) rest c (chosen_else _ (account_floor_change rest) (kind_change (change_kind second) rest) c p.1 t) in
+          spelled line p.0 q.0 (kind_is second q.0 q.1) c q.2
+    ] refl
 
 -- ---- what a line has that spells none
 
@@ -246,7 +276,13 @@ own_kind (Some kind) rest =
     let b = buffer_fields rest in
     own_chosen (has_names b && has_form kind b.rest) _ (Err BadForm) (own_field (cond (is_buffer b) (change_in kind (buffer_named b) b.rest) None)) own_form
 
+own_account_floor : (rest : List ℕ) → IsOwnFault (account_floor_change rest)
+own_account_floor rest = own_chosen (is_filled (word rest) && is_last_word (behind rest)) _ (Err BadForm) (own_field (account_floor_in (word rest) (behind rest))) own_form
+
+own_words : (second rest : List ℕ) → IsOwnFault (words_change second rest)
+own_words second rest = own_chosen (is_text second (codes "AFLOOR")) _ _ (own_account_floor rest) (own_kind (change_kind second) rest)
+
 -- the fault of a line isn't that there was no memory
 pub own_fault : (line : List ℕ) → IfErr (read_change line) (λ fault. fault ≢ NoMemory)
 unfolding read_change
-own_fault line = own_chosen (is_text (word line) (codes "C")) _ (Err BadForm) (own_kind (change_kind (word (behind line))) (behind (behind line))) own_form
+own_fault line = own_chosen (is_text (word line) (codes "C")) _ (Err BadForm) (own_words (word (behind line)) (behind (behind line))) own_form

@@ -4,11 +4,12 @@
 --   C REDACT <account> <network> <target> <id> <ms>|*
 --   C MARK <account> <network> <target> <ms>
 --   C FLOOR <account> <network> <target> <ms>
+--   C AFLOOR <account> <ms>
 -- A post without tags has its line by `POST` alone, and one with tags by `TPOST`. The form of a line is wrong where its
 -- first word isn't `C`, its second is no kind of change, the number of fields is another, a field other than the body is
 -- empty, or what stands behind a post's words doesn't begin with `:`. A line of the right form has a wrong field where the
--- maker of a buffer, an id or a record refuses it, the target isn't folded, the kind is neither `P` nor `N`, or the moment
--- isn't a number without leading zeros up to the greatest moment.
+-- maker of an account, a buffer, an id or a record refuses it, the target isn't folded, the kind is neither `P` nor `N`,
+-- or the moment isn't a number without leading zeros up to the greatest moment.
 use Rattle.std.specs.Prelude.{ℕ, Bool, true, false, ◌&&◌, ◌==◌, List, codes, Option, None, Some, Result, Ok, Err, if◌then◌else◌}
 use Rattle.std.specs.List.{list_all}
 use Rattle.std.specs.Char.{to_ascii_lowercase}
@@ -16,7 +17,7 @@ use Rattle.std.specs.Option.{option_map}
 use Rattle.chat_change.specs.Words.{is_name, is_target, is_id}
 use Rattle.chat_change.specs.Buffer.{Buffer, buffer_of}
 use Rattle.chat_change.specs.declared.change.Change.{Change}
-use Rattle.chat_change.specs.declared.change.Change.TheVariants.{Post, Redact, Mark, Floor}
+use Rattle.chat_change.specs.declared.change.Change.TheVariants.{Post, Redact, Mark, Floor, AccountFloor}
 use Rattle.gossip_delta.specs.Words.{is_text, is_filled, is_last_word, word, behind}
 use Rattle.gossip_delta.specs.Number.{moment_of}
 use Rattle.gossip_delta.specs.PostLine.{post_fields, has_post_form, post_in}
@@ -113,11 +114,28 @@ abbrev pub kind_change : Option ChangeKind → List ℕ → Result Change Change
 kind_change None rest = Err BadForm
 kind_change (Some kind) rest = fields_change kind (buffer_fields rest)
 
+-- the floor of an account that a name and a moment say, if they are lawful
+abbrev pub account_floor_in : List ℕ → List ℕ → Option Change
+account_floor_in account at =
+    if is_name account then option_map (AccountFloor account) (moment_of at) else None
+
+-- what the words of a floor of an account say, whose form is checked before their values
+abbrev pub account_floor_change : List ℕ → Result Change ChangeLineFault
+account_floor_change rest =
+    if is_filled (word rest) && is_last_word (behind rest)
+    then or_bad_field (account_floor_in (word rest) (behind rest)) else Err BadForm
+
+-- what the second word of a line and the words behind it say
+abbrev pub words_change : List ℕ → List ℕ → Result Change ChangeLineFault
+words_change second rest =
+    if is_text second (codes "AFLOOR") then account_floor_change rest
+    else kind_change (change_kind second) rest
+
 -- the change that a line spells, or why it spells none
 unfoldable pub read_change : List ℕ → Result Change ChangeLineFault
 read_change line =
     if is_text (word line) (codes "C")
-    then kind_change (change_kind (word (behind line))) (behind (behind line))
+    then words_change (word (behind line)) (behind (behind line))
     else Err BadForm
 
 -- why no change was made of a line: its own fault, or that there was no memory where it spells a change

@@ -11,7 +11,7 @@ use crate::fields::BufferFields;
 use crate::post_line::{PostParts, new_id, new_record};
 use crate::reading::{Reading, read_line};
 use byte_text::NoMemory;
-use chat_change::{Buffer, Change, Moment};
+use chat_change::{Account, Buffer, Change, Moment};
 use std::alloc::Global;
 
 // Whether these are the names of a buffer that is known.
@@ -144,6 +144,16 @@ fn floor_for(
     }
 }
 
+// The maker refuses nothing here, since the name is an account's: it can only want memory.
+fn account_floor_for(alloc: Global, account: &[u8], at: Moment) -> Result<Change, NoMemory>
+    ensures { IfOk result (λ made. made ≡ change.AccountFloor account.now at) }
+{
+    match Account::new(alloc, account) {
+        Ok(account) => Ok(Change::AccountFloor { account, at }),
+        Err(_) => Err(NoMemory),
+    }
+}
+
 // The change that a line says, made in memory of its own.
 fn change_for(
     alloc: Global,
@@ -157,6 +167,7 @@ fn change_for(
         Reading::Redact { names, id, at } => redaction_for(alloc, known, *names, id, *at),
         Reading::Mark { names, at } => mark_for(alloc, known, *names, *at),
         Reading::Floor { names, at } => floor_for(alloc, known, *names, *at),
+        Reading::AccountFloor { account, at } => account_floor_for(alloc, account, *at),
     }
 }
 

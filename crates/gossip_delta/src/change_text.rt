@@ -1,17 +1,18 @@
 //! Writing the line of a change.
-ghost use Rattle.std.specs.Prelude.{◌≡◌, ◌≤◌, ◌++◌, [], ◌∷◌, map, decimal, Ok};
+ghost use Rattle.std.specs.Prelude.{◌≡◌, ◌≤◌, ◌++◌, [], ◌∷◌, map, true, decimal, Ok};
+ghost use Rattle.chat_change.specs.Words.{is_name};
 ghost use Rattle.irc_time.specs.Time.{greatest};
 ghost use Rattle.chat_change.specs.Buffer.{IsLawfulBuffer};
 ghost use Rattle.byte_text.specs.Writes.{Writes};
 ghost use Rattle.chat_change.specs.declared.change.Change.TheVariants as change;
 ghost use Rattle.gossip_delta.specs.Words.{words_text};
 ghost use Rattle.gossip_delta.specs.ChangeLine.{read_change};
-ghost use Rattle.gossip_delta.specs.ChangeText.{line_of, line_end, buffer_words};
+ghost use Rattle.gossip_delta.specs.ChangeText.{line_of, line_end, buffer_words, account_words};
 ghost use Rattle.chat_change.specs.Lawful.{IsLawfulRecord, IsLawfulChange};
 
 use crate::post_line::put_post;
 use crate::words::put_line;
-use chat_change::{Buffer, Change, Moment, MsgId};
+use chat_change::{Account, Buffer, Change, Moment, MsgId};
 use std::io;
 use std::io::Write;
 
@@ -60,6 +61,18 @@ fn put_moment<W: Write>(writer: &mut W, kind: &[u8], buffer: &Buffer, at: Moment
     put_line(writer, &words, b"", digits.format(at.ms()).as_bytes())
 }
 
+// Writes the line of a floor of an account.
+fn put_account_floor<W: Write>(writer: &mut W, account: &Account, at: Moment) -> io::Result<()>
+    ensures text { Writes W.contents writer.old writer.new result
+        ((words_text (account_words account.now) ++ decimal at) ++ line_end) }
+    ensures account { is_name account.now ≡ true }
+    ensures at { at ≤ greatest }
+{
+    let mut digits = itoa::Buffer::new();
+    let words: [&[u8]; 3] = [b"C", b"AFLOOR", account.name()];
+    put_line(writer, &words, b"", digits.format(at.ms()).as_bytes())
+}
+
 /// Writes the one line that spells the change, and CR LF behind it: all of it at `Ok`, and a prefix of it where the
 /// writer failed. It takes no memory. The line is read back as that change.
 pub fn write_change<W: Write>(change: &Change, writer: &mut W) -> io::Result<()>
@@ -72,5 +85,6 @@ pub fn write_change<W: Write>(change: &Change, writer: &mut W) -> io::Result<()>
         Change::Redact { buffer, id, at } => put_redaction(writer, buffer, id, *at),
         Change::Mark { buffer, at } => put_moment(writer, b"MARK", buffer, *at),
         Change::Floor { buffer, at } => put_moment(writer, b"FLOOR", buffer, *at),
+        Change::AccountFloor { account, at } => put_account_floor(writer, account, *at),
     }
 }

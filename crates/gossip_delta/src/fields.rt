@@ -6,7 +6,7 @@ ghost use Rattle.gossip_delta.specs.BufferFields as fields;
 use crate::post_line::{has_post_form, post_fields};
 use crate::words::{is_filled, is_last_word, is_text, split_word};
 
-/// What a change does, which the second word of its line says.
+/// What a change in a buffer does, which the second word of its line says.
 #[derive(Clone, Copy)]
 pub(crate) enum ChangeKind {
     /// A post without tags.

@@ -11,10 +11,10 @@ use crate::fault::ChangeLineFault;
 use crate::fields::{BufferFields, ChangeKind, buffer_fields, change_kind, has_form, has_names};
 use crate::number::moment_of;
 use crate::post_line::{PostFields, PostParts, post_fields, post_parts};
-use crate::words::{is_text, split_word};
+use crate::words::{is_filled, is_last_word, is_text, split_word};
 use chat_change::{Moment, is_id, is_name, is_target};
 
-/// What a line says of a buffer, whose target stands folded. Each part is lawful.
+/// What a line says of a buffer, whose target stands folded, or of an account. Each part is lawful.
 #[derive(Clone, Copy)]
 pub(crate) enum Reading<'a> {
     Post {
@@ -32,6 +32,10 @@ pub(crate) enum Reading<'a> {
     },
     Floor {
         names: BufferFields<'a>,
+        at: Moment,
+    },
+    AccountFloor {
+        account: &'a [u8],
         at: Moment,
     },
 }
@@ -148,10 +152,30 @@ fn read_fields<'a>(
     }
 }
 
+// What the words of a floor of an account say. Their form is checked before their values.
+fn read_account_floor<'a>(rest: &'a [u8]) -> Result<Reading<'a>, ChangeLineFault>
+    ensures { change_or_fault result ≡ spec.account_floor_change rest.now }
+{
+    let (account, at) = split_word(rest);
+    if !is_filled(account) || !is_last_word(at) {
+        return Err(ChangeLineFault::BadForm);
+    }
+    if !is_name(account) {
+        return Err(ChangeLineFault::BadField);
+    }
+    match moment_of(at) {
+        None => Err(ChangeLineFault::BadField),
+        Some(at) => Ok(Reading::AccountFloor { account, at }),
+    }
+}
+
 // What the words behind the first one say.
 fn read_kind<'a>(kind: &'a [u8], rest: &'a [u8]) -> Result<Reading<'a>, ChangeLineFault>
-    ensures { change_or_fault result ≡ spec.kind_change (spec.change_kind kind.now) rest.now }
+    ensures { change_or_fault result ≡ spec.words_change kind.now rest.now }
 {
+    if is_text(kind, b"AFLOOR") {
+        return read_account_floor(rest);
+    }
     match change_kind(kind) {
         None => Err(ChangeLineFault::BadForm),
         Some(kind) => read_fields(kind, buffer_fields(rest)),

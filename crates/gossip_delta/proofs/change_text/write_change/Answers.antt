@@ -1,5 +1,5 @@
 use Rattle.std.proofs.Common.{◌≡◌, subst}
-use Rattle.chat_change.specs.declared.change.Change.TheVariants.{Post, Redact, Mark, Floor}
+use Rattle.chat_change.specs.declared.change.Change.TheVariants.{Post, Redact, Mark, Floor, AccountFloor}
 use Rattle.chat_change.specs.Lawful.{IsLawfulChange}
 use Rattle.gossip_delta.proofs.ReadBackLemmas.{read_back}
 use Rattle.gossip_delta.proofs.change_text.write_change.Goals as goal
@@ -23,3 +23,8 @@ pub returns-in-Floor-clause-read_back : goal.returns-in-Floor-clause-read_back
 returns-in-Floor-clause-read_back g c =
     let e : Floor c.in-Floor.buffer c.in-Floor.at ≡ c.args.change.now = cc in
     read_back c.args.change.now (subst IsLawfulChange e (c.put_moment-in-Floor.ensures.buffer, c.put_moment-in-Floor.ensures.at))
+
+pub returns-in-AccountFloor-clause-read_back : goal.returns-in-AccountFloor-clause-read_back
+returns-in-AccountFloor-clause-read_back g c =
+    let e : AccountFloor c.in-AccountFloor.account c.in-AccountFloor.at ≡ c.args.change.now = cc in
+    read_back c.args.change.now (subst IsLawfulChange e (c.put_account_floor.ensures.account, c.put_account_floor.ensures.at))
