@@ -2,7 +2,7 @@
 use Rattle.std.proofs.Common.{◌≡◌, ℕ, Bool, true, false, cond, Option, Some, None, List, codes, refl, sym, ap, ◌∙◌}
 use Rattle.std.specs.Prelude.{IsTrue, is_some, Result, Ok, Err}
 use Rattle.chat_change.specs.declared.change.Change.{Change}
-use Rattle.gossip_delta.specs.ChangeLine.{read_change, or_bad_field, kind_change, change_kind, fault_or_no_memory}
+use Rattle.gossip_delta.specs.ChangeLine.{read_change, or_bad_field, kind_change, change_kind, account_floor_change, words_change, fault_or_no_memory}
 use Rattle.gossip_delta.specs.Words.{is_text, word, behind}
 use Rattle.gossip_delta.specs.declared.fault.ChangeLineFault.{ChangeLineFault}
 use Rattle.gossip_delta.specs.declared.fault.ChangeLineFault.TheVariants.{BadForm, NoMemory}
@@ -20,11 +20,18 @@ kind_differs : (kind rest : List ℕ) → kind_change (change_kind kind) rest �
 kind_differs kind rest =
     elim (change_kind kind) as (λ k. kind_change k rest ≡ Err NoMemory → ⊥) [ None ↦ λ e. (cc) | Some k ↦ λ e. form_differs _ _ e ]
 
+words_differ : (second rest : List ℕ) → words_change second rest ≡ Err NoMemory → ⊥
+words_differ second rest =
+    elim (is_text second (codes "AFLOOR")) as (λ b. cond b (account_floor_change rest) (kind_change (change_kind second) rest) ≡ Err NoMemory → ⊥) [
+      | true ↦ λ e. form_differs _ _ e
+      | false ↦ λ e. kind_differs second rest e
+    ]
+
 no_want_of_memory : (line : List ℕ) → read_change line ≡ Err NoMemory → ⊥
 unfolding read_change
 no_want_of_memory line =
-    elim (is_text (word line) (codes "C")) as (λ b. cond b (kind_change (change_kind (word (behind line))) (behind (behind line))) (Err BadForm) ≡ Err NoMemory → ⊥) [
-      | true ↦ λ e. kind_differs (word (behind line)) (behind (behind line)) e
+    elim (is_text (word line) (codes "C")) as (λ b. cond b (words_change (word (behind line)) (behind (behind line))) (Err BadForm) ≡ Err NoMemory → ⊥) [
+      | true ↦ λ e. words_differ (word (behind line)) (behind (behind line)) e
       | false ↦ λ e. (cc)
     ]
 

@@ -23,9 +23,9 @@ use Rattle.chat_change.specs.declared.message.TheConstants.{LINE_LIMIT}
 use Rattle.chat_change.specs.declared.message.Kind.{Kind}
 use Rattle.chat_change.specs.declared.message.Kind.TheVariants.{Privmsg, Notice}
 use Rattle.chat_change.specs.declared.change.Change as change
-use Rattle.chat_change.specs.declared.change.Change.TheVariants.{Post, Redact, Mark, Floor}
+use Rattle.chat_change.specs.declared.change.Change.TheVariants.{Post, Redact, Mark, Floor, AccountFloor}
 use Rattle.gossip_delta.specs.Words.{is_filled, words_text}
-use Rattle.gossip_delta.specs.ChangeText.{line_of as change_text, buffer_words, moment_text, line_end}
+use Rattle.gossip_delta.specs.ChangeText.{line_of as change_text, buffer_words, account_words, moment_text, line_end}
 use Rattle.gossip_delta.specs.PostLine.{post_word, tags_words, back_words}
 use Rattle.peer_lines.specs.Names.{is_node_byte, is_node_name, is_shared_word}
 use Rattle.peer_lines.specs.Version.{number}
@@ -238,6 +238,10 @@ change_stands (Mark b at) is =
 change_stands (Floor b at) is =
     line_stands (buffer_words (codes "FLOOR") b []) (decimal at) (lit≤ tt)
     (buffer_words_stand b (codes "FLOOR") [] is.0 (record { good = refl; short = lit≤ tt }) tt)
+    (stands_to 255 511 (decimal at) (lit≤ tt) (decimal_stands at (moment_fits at is.1)))
+change_stands (AccountFloor a at) is =
+    line_stands (account_words a) (decimal at) (lit≤ tt)
+    (record { good = refl; short = lit≤ tt }, (record { good = refl; short = lit≤ tt }, (name_stands a is.0, tt)))
     (stands_to 255 511 (decimal at) (lit≤ tt) (decimal_stands at (moment_fits at is.1)))
 
 -- ---- the lines of a peer

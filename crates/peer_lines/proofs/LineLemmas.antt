@@ -162,6 +162,8 @@ change_line (change_kind.Mark b at) =
     (words_text (codes "MARK" ∷ b.account ∷ b.network ∷ b.target ∷ []) ++ decimal at, refl)
 change_line (change_kind.Floor b at) =
     (words_text (codes "FLOOR" ∷ b.account ∷ b.network ∷ b.target ∷ []) ++ decimal at, refl)
+change_line (change_kind.AccountFloor a at) =
+    (words_text (codes "AFLOOR" ∷ a ∷ []) ++ decimal at, refl)
 
 pub line_is_read : (l : PeerLine) → IsPeerLine l → line_of (text_of l) ≡ Some l
 line_is_read (Word w) is = of_first (codes "W") w refl ∙ ap (λ b. option_map Word (cond b (Some w) None)) is

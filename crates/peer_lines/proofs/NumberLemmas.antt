@@ -8,7 +8,7 @@ use Rattle.gossip_delta.proofs.CallerLemmas.{number_read, number_spelled}
 use Rattle.peer_lines.specs.Version.{number, of_number}
 use Rattle.peer_lines.specs.Reading.{number_of, version_of}
 use Rattle.peer_lines.specs.declared.version.Version.{Version}
-use Rattle.peer_lines.specs.declared.version.Version.TheVariants.{One, Two}
+use Rattle.peer_lines.specs.declared.version.Version.TheVariants.{One, Two, Three}
 
 pub number_of-decimal : (n : ℕ) → n < 2 ^ 64 → number_of (decimal n) ≡ Some n
 number_of-decimal n h = number_read n h (2 ^ 64 - 1) (omega (arith, h))
@@ -24,10 +24,12 @@ read_number text n e =
 pub number_fits : (v : Version) → number v < 2 ^ 64
 number_fits One = lit< tt
 number_fits Two = lit< tt
+number_fits Three = lit< tt
 
 of_own_number : (v : Version) → of_number (number v) ≡ Some v
 of_own_number One = refl
 of_own_number Two = refl
+of_own_number Three = refl
 
 pub version_of-decimal : (v : Version) → version_of (decimal (number v)) ≡ Some v
 version_of-decimal v = ap (option_and_then of_number) (number_of-decimal (number v) (number_fits v)) ∙ of_own_number v
@@ -37,11 +39,14 @@ equal_is a b e = grind (arith, nat_tests)
 
 numbered : (n : ℕ) (v : Version) → of_number n ≡ Some v → number v ≡ n
 numbered n v =
-    elim (n == 1) as (λ b. (n == 1) ≡ b → cond b (Some One) (cond (n == 2) (Some Two) None) ≡ Some v → number v ≡ n) [
+    elim (n == 1) as (λ b. (n == 1) ≡ b → cond b (Some One) (cond (n == 2) (Some Two) (cond (n == 3) (Some Three) None)) ≡ Some v → number v ≡ n) [
       | true ↦ λ b e. let own : One ≡ v = cc e in ap number (sym own) ∙ equal_is n 1 b
-      | false ↦ λ _. elim (n == 2) as (λ b. (n == 2) ≡ b → cond b (Some Two) None ≡ Some v → number v ≡ n) [
+      | false ↦ λ _. elim (n == 2) as (λ b. (n == 2) ≡ b → cond b (Some Two) (cond (n == 3) (Some Three) None) ≡ Some v → number v ≡ n) [
         | true ↦ λ b e. let own : Two ≡ v = cc e in ap number (sym own) ∙ equal_is n 2 b
-        | false ↦ λ _ e. cc e
+        | false ↦ λ _. elim (n == 3) as (λ b. (n == 3) ≡ b → cond b (Some Three) None ≡ Some v → number v ≡ n) [
+          | true ↦ λ b e. let own : Three ≡ v = cc e in ap number (sym own) ∙ equal_is n 3 b
+          | false ↦ λ _ e. cc e
+        ] refl
       ] refl
     ] refl
 

@@ -1,7 +1,7 @@
 -- The one spelling of each line that nodes send each other: words with one space between them, and CR LF behind a line
 -- that is written. Numbers are decimal digits without leading zeros.
 --   W <word>                                                  the word that the nodes share
---   H <version> <node> <inc>                                  a hello: a version, 1 or 2, and a life
+--   H <version> <node> <inc>                                  a hello: a version, 1 to 3, and a life
 --   D <node> <inc> <node> <inc> <from> <to> <count>           the head of a packet, from one life to another
 --   A <node> <inc> <node> <inc> <upto>                        an acknowledgement, from one life to another
 --   C ..                                                      a change, as its own crate spells it

@@ -12,11 +12,13 @@ pub enum Version {
     One,
     /// Version 2: posts may have tags.
     Two,
+    /// Version 3: an account may have a floor.
+    Three,
 }
 
 impl Version {
     /// The version that this program speaks.
-    pub const OWN: Version = Version::Two;
+    pub const OWN: Version = Version::Three;
 
     /// Its number.
     pub fn number(self) -> u8
@@ -25,6 +27,7 @@ impl Version {
         match self {
             Version::One => 1,
             Version::Two => 2,
+            Version::Three => 3,
         }
     }
 
@@ -35,6 +38,7 @@ impl Version {
         match number {
             1 => Some(Version::One),
             2 => Some(Version::Two),
+            3 => Some(Version::Three),
             _ => None,
         }
     }
