@@ -1,5 +1,5 @@
 -- Where the pieces of changes come from: if each change comes from what was made, so does each piece of them.
-use Rattle.std.proofs.Common.{◌≡◌, ℕ, Bool, true, false, cond, Option, Some, None, List, [], ◌∷◌, refl, sym, ◌∙◌, subst, inl, inr, ⊎_elim}
+use Rattle.std.proofs.Common.{◌≡◌, ℕ, Bool, true, false, cond, Option, Some, None, List, [], ◌∷◌, refl, sym, ◌∙◌, ap, subst, inl, inr, ⊎_elim, arith}
 use Rattle.std.specs.declared.cmp.Ordering.{Ordering}
 use Rattle.std.proofs.lemmas.Bool.{false≢true}
 use Rattle.std.proofs.lemmas.List.Elements.{recursion_from_All, Contains-append_right}
@@ -12,10 +12,11 @@ use Rattle.chat_change.specs.Buffer.{Buffer}
 use Rattle.chat_change.specs.Record.{Record}
 use Rattle.chat_change.specs.Order.{record_cmp}
 use Rattle.chat_change.specs.declared.change.Change.{Change}
-use Rattle.chat_change.specs.declared.change.Change.TheVariants.{Post, Redact, Mark, Floor}
+use Rattle.chat_change.specs.declared.change.Change.TheVariants.{Post, Redact, Mark, Floor, AccountFloor}
 use Rattle.chat_history.specs.Choice.{earlier, first_by, greatest}
-use Rattle.chat_change.specs.Key.{Key, FloorOf, MarkerOf, MessageOf, key_of, same_key, bearers_of}
-use Rattle.chat_history.specs.History.{floor, mark, is_gone, kept_record, position_of, floor_moment, marker_moment, posted_record, message_moment, is_redaction, piece, norm}
+use Rattle.chat_change.specs.Extent.{Extent, OfAccount, OfBuffer}
+use Rattle.chat_change.specs.Key.{Key, FloorOf, MarkerOf, MessageOf, key_of, same_key, bearers_of, floor_change}
+use Rattle.chat_history.specs.History.{floor, floor_around, mark, is_gone, kept_record, position_of, floor_moment, marker_moment, posted_record, message_moment, is_redaction, piece, norm}
 use Rattle.chat_change.proofs.CallerLemmas.{same_key_is}
 use Rattle.chat_history.proofs.CallerLemmas.{get-norm}
 use Rattle.gossip_link.specs.Cluster.{Made}
@@ -39,6 +40,7 @@ module _ (made : List Made) (m : Made) where
   ComesFrom-more (Redact b id (Some at)) h = ((h.0.0, IsMade-more (Redact b id h.0.0) h.0.1), IsMoment-more b id at h.1)
   ComesFrom-more (Mark b t) h = IsMade-more (Mark b t) h
   ComesFrom-more (Floor b t) h = IsMade-more (Floor b t) h
+  ComesFrom-more (AccountFloor a t) h = IsMade-more (AccountFloor a t) h
 
 -- what was made comes from what was made
 pub ComesFrom-made : (made : List Made) (c : Change) → IsMade made c → ComesFrom made c
@@ -47,6 +49,7 @@ ComesFrom-made made (Redact b id None) h = ((None, h), tt)
 ComesFrom-made made (Redact b id (Some at)) h = ((Some at, h), inr h)
 ComesFrom-made made (Mark b t) h = h
 ComesFrom-made made (Floor b t) h = h
+ComesFrom-made made (AccountFloor a t) h = h
 
 -- ---- what is chosen of a list is one of it
 
@@ -78,14 +81,17 @@ module _ (made : List Made) where
         | false ↦ λ _. bearers_come k cs h.1
       ] refl
 
-  floors_come : (b : Buffer) (cs : List Change) → AllByRecursion (Comes (FloorOf b)) cs → AllByRecursion (λ t. IsMade made (Floor b t)) (filter_map floor_moment cs)
-  floors_come b [] h = tt
-  floors_come b (Post r ∷ cs) h = floors_come b cs h.1
-  floors_come b (Redact d id t ∷ cs) h = floors_come b cs h.1
-  floors_come b (Mark d t ∷ cs) h = floors_come b cs h.1
-  floors_come b (Floor d t ∷ cs) h =
-      let e : d ≡ b = cc (h.0.0) in
-      (subst (λ x. IsMade made (Floor x t)) e h.0.1, floors_come b cs h.1)
+  floors_come : (x : Extent) (cs : List Change) → AllByRecursion (Comes (FloorOf x)) cs → AllByRecursion (λ t. IsMade made (floor_change x t)) (filter_map floor_moment cs)
+  floors_come x [] h = tt
+  floors_come x (Post r ∷ cs) h = floors_come x cs h.1
+  floors_come x (Redact d id t ∷ cs) h = floors_come x cs h.1
+  floors_come x (Mark d t ∷ cs) h = floors_come x cs h.1
+  floors_come x (Floor d t ∷ cs) h =
+      let e : OfBuffer d ≡ x = cc (h.0.0) in
+      (subst (λ y. IsMade made (floor_change y t)) e h.0.1, floors_come x cs h.1)
+  floors_come x (AccountFloor a t ∷ cs) h =
+      let e : OfAccount a ≡ x = cc (h.0.0) in
+      (subst (λ y. IsMade made (floor_change y t)) e h.0.1, floors_come x cs h.1)
 
   marks_come : (b : Buffer) (cs : List Change) → AllByRecursion (Comes (MarkerOf b)) cs → AllByRecursion (λ t. IsMade made (Mark b t)) (filter_map marker_moment cs)
   marks_come b [] h = tt
@@ -95,6 +101,7 @@ module _ (made : List Made) where
       let e : d ≡ b = cc (h.0.0) in
       (subst (λ x. IsMade made (Mark x t)) e h.0.1, marks_come b cs h.1)
   marks_come b (Floor d t ∷ cs) h = marks_come b cs h.1
+  marks_come b (AccountFloor a t ∷ cs) h = marks_come b cs h.1
 
   module _ (b : Buffer) (id : List ℕ) where
     abbrev here : Change → Type 0
@@ -106,6 +113,7 @@ module _ (made : List Made) where
     posts_come (Redact d n t ∷ cs) h = posts_come cs h.1
     posts_come (Mark d t ∷ cs) h = posts_come cs h.1
     posts_come (Floor d t ∷ cs) h = posts_come cs h.1
+    posts_come (AccountFloor a t ∷ cs) h = posts_come cs h.1
 
     moments_come : (cs : List Change) → AllByRecursion here cs → AllByRecursion (IsMadeMoment made b id) (filter_map message_moment cs)
     moments_come [] h = tt
@@ -121,6 +129,7 @@ module _ (made : List Made) where
         (subst (λ x. IsMadeMoment made b x t) q (subst (λ x. IsMadeMoment made x n t) p there), moments_come cs h.1)
     moments_come (Mark d t ∷ cs) h = moments_come cs h.1
     moments_come (Floor d t ∷ cs) h = moments_come cs h.1
+    moments_come (AccountFloor a t ∷ cs) h = moments_come cs h.1
 
     redaction_comes : (cs : List Change) → AllByRecursion here cs → list_any is_redaction cs ≡ true → WasRedacted made b id
     redaction_comes [] h e = absurd (false≢true e)
@@ -132,14 +141,22 @@ module _ (made : List Made) where
         subst (λ x. WasRedacted made b x) q (subst (λ x. WasRedacted made x n) p there)
     redaction_comes (Mark d t ∷ cs) h e = redaction_comes cs h.1 e
     redaction_comes (Floor d t ∷ cs) h e = redaction_comes cs h.1 e
+    redaction_comes (AccountFloor a t ∷ cs) h e = redaction_comes cs h.1 e
 
   -- ---- pieces
 
-  floor_comes : (b : Buffer) (o : Option ℕ) (new : Change) → IfSome o (λ t. IsMade made (Floor b t)) → cond (nat_lt 0 (unwrap_or o 0)) (Some (Floor b (unwrap_or o 0))) None ≡ Some new → ComesFrom made new
-  floor_comes b None new h e = cc
-  floor_comes b (Some t) new h e =
-      elim (nat_lt 0 t) as (λ s. cond s (Some (Floor b t)) None ≡ Some new → ComesFrom made new) [
-        | true ↦ λ e. let same : Floor b t ≡ new = cc e in subst (ComesFrom made) same h
+  none_above : (around : ℕ) → nat_lt around 0 ≡ false
+  none_above around = grind arith
+
+  floor_is_made : (x : Extent) (t : ℕ) → IsMade made (floor_change x t) → ComesFrom made (floor_change x t)
+  floor_is_made (OfAccount a) t h = h
+  floor_is_made (OfBuffer b) t h = h
+
+  floor_comes : (x : Extent) (around : ℕ) (o : Option ℕ) (new : Change) → IfSome o (λ t. IsMade made (floor_change x t)) → cond (nat_lt around (unwrap_or o 0)) (Some (floor_change x (unwrap_or o 0))) None ≡ Some new → ComesFrom made new
+  floor_comes x around None new h e = cc (sym (ap (λ s. cond s (Some (floor_change x 0)) None) (none_above around)) ∙ e)
+  floor_comes x around (Some t) new h e =
+      elim (nat_lt around t) as (λ s. cond s (Some (floor_change x t)) None ≡ Some new → ComesFrom made new) [
+        | true ↦ λ e. let same : floor_change x t ≡ new = cc e in subst (ComesFrom made) same (floor_is_made x t h)
         | false ↦ λ e. cc
       ] e
 
@@ -152,9 +169,9 @@ module _ (made : List Made) where
   post_comes (Some r) new h e = let same : Post r ≡ new = cc e in subst (ComesFrom made) same h
 
   piece_comes : (cs : List Change) → AllByRecursion (ComesFrom made) cs → (k : Key) (new : Change) → piece cs k ≡ Some new → ComesFrom made new
-  piece_comes cs h (FloorOf b) new =
-      floor_comes b (greatest (filter_map floor_moment (bearers_of (FloorOf b) cs))) new
-      (first_one (flip_args nat_cmp) (λ t. IsMade made (Floor b t)) (filter_map floor_moment (bearers_of (FloorOf b) cs)) (floors_come b (bearers_of (FloorOf b) cs) (bearers_come (FloorOf b) cs h)))
+  piece_comes cs h (FloorOf x) new =
+      floor_comes x (floor_around cs x) (greatest (filter_map floor_moment (bearers_of (FloorOf x) cs))) new
+      (first_one (flip_args nat_cmp) (λ t. IsMade made (floor_change x t)) (filter_map floor_moment (bearers_of (FloorOf x) cs)) (floors_come x (bearers_of (FloorOf x) cs) (bearers_come (FloorOf x) cs h)))
   piece_comes cs h (MarkerOf b) new =
       mark_comes b (mark cs b) new
       (first_one (flip_args nat_cmp) (λ t. IsMade made (Mark b t)) (filter_map marker_moment (bearers_of (MarkerOf b) cs)) (marks_come b (bearers_of (MarkerOf b) cs) (bearers_come (MarkerOf b) cs h)))

@@ -9,7 +9,7 @@ use Rattle.irc_time.specs.Time.{greatest}
 use Rattle.chat_change.specs.Buffer.{Buffer}
 use Rattle.chat_change.specs.Lawful.{IsLawfulChange}
 use Rattle.chat_change.specs.declared.change.Change.{Change}
-use Rattle.chat_change.specs.declared.change.Change.TheVariants.{Post, Redact, Mark, Floor}
+use Rattle.chat_change.specs.declared.change.Change.TheVariants.{Post, Redact, Mark, Floor, AccountFloor}
 use Rattle.chat_history.specs.History.{norm}
 use Rattle.chat_history.specs.Numbering.{Delta, delta, delta_limit, newer, numbers}
 use Rattle.gossip_delta.proofs.CallerLemmas.{delta_all, delta_further}
@@ -47,6 +47,7 @@ module _ (list : List Change) (all : AllByRecursion IsLawfulChange list) where
   piece_lawful (Redact b id (Some at)) h = let l = made_lawful (Redact b id h.0.0) h.0.1 in (l.0, l.1, moment_within b id at h.1)
   piece_lawful (Mark b t) h = made_lawful (Mark b t) h
   piece_lawful (Floor b t) h = made_lawful (Floor b t) h
+  piece_lawful (AccountFloor a t) h = made_lawful (AccountFloor a t) h
 
   each_made : All (ComesFrom made) list
   each_made = λ i d l. ComesFrom-made made (get_or list i d) (own, (0, omega arith, refl), Contains-get_or list i d l)

@@ -5,7 +5,7 @@ use Rattle.std.specs.FinMap.{get}
 use Rattle.chat_change.specs.Buffer.{Buffer}
 use Rattle.chat_change.specs.Record.{Record}
 use Rattle.chat_change.specs.declared.change.Change.{Change}
-use Rattle.chat_change.specs.declared.change.Change.TheVariants.{Post, Redact, Mark, Floor}
+use Rattle.chat_change.specs.declared.change.Change.TheVariants.{Post, Redact, Mark, Floor, AccountFloor}
 use Rattle.chat_change.specs.Key.{Key}
 use Rattle.chat_history.specs.History.{Includes}
 use Rattle.chat_history.specs.Numbering.{Delta, delta, front, number}
@@ -30,10 +30,8 @@ IsMadeMoment made b m at =
 -- a record, a marker or a floor was made by some node. Of a redaction, some node made one of that id, and its
 -- place, where it has one, is the moment of a post or a redaction of that id that some node made
 abbrev pub ComesFrom : List Made → Change → Type 0
-ComesFrom made (Post r) = IsMade made (Post r)
 ComesFrom made (Redact b m t) = WasRedacted made b m × IfSome t (IsMadeMoment made b m)
-ComesFrom made (Mark b t) = IsMade made (Mark b t)
-ComesFrom made (Floor b t) = IsMade made (Floor b t)
+ComesFrom made c = IsMade made c
 
 abbrev pub incarnation_of : Option Heard → Option ℕ
 incarnation_of heard = option_map (λ (h : Heard). h.incarnation) heard

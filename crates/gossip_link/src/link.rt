@@ -160,8 +160,8 @@ impl Link {
     }
 
     /// The delta since the acknowledged number, as a packet from this life to the peer's. There is none where no hello was
-    /// heard, where the peer's life speaks a lower version than this program, or where nothing is newer. What was acknowledged stays so until an acknowledgement comes: a packet that is lost is
-    /// made again.
+    /// heard, where the peer's life speaks a lower version than [`Version::OWN`], or where nothing is newer. What was
+    /// acknowledged stays so until an acknowledgement comes: a packet that is lost is made again.
     ///
     /// A packet has 1 to 256 changes, and its `from` is below its `to`, so that its lines read back.
     ///
