@@ -14,7 +14,7 @@ use Rattle.chat_change.specs.Record.{Record}
 use Rattle.chat_change.specs.Order.{text_cmp}
 use Rattle.chat_change.specs.Key.{MessageOf}
 use Rattle.chat_change.specs.declared.change.Change.{Change}
-use Rattle.chat_change.specs.declared.change.Change.TheVariants.{Post, Redact, Mark, Floor}
+use Rattle.chat_change.specs.declared.change.Change.TheVariants.{Post, Redact, Mark, Floor, AccountFloor}
 use Rattle.chat_change.proofs.CallerLemmas.{text_total, text_exact}
 use Rattle.chat_history.specs.Choice.{Among}
 use Rattle.chat_history.specs.History.{History, norm, changes_of, IsKeyed}
@@ -90,6 +90,7 @@ post_where p (Post r) b e =
 post_where p (Redact d m t) b e = cc
 post_where p (Mark d t) b e = cc
 post_where p (Floor d t) b e = cc
+post_where p (AccountFloor a t) b e = cc
 
 module _ (h : History) (keyed : IsKeyed h) (scope : Scope) where
   abbrev is_ours : Record → Bool

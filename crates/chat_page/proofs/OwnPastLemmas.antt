@@ -1,16 +1,19 @@
 -- Pages depend on the changes of the asker's account and network alone.
 use Rattle.std.proofs.Common.{◌≡◌, ℕ, true, false, cond, Option, Some, None, List, [], ◌∷◌, filter, take, min, refl, sym, ◌∙◌, ap, subst}
-use Rattle.std.specs.Prelude.{Contains, nat_le}
+use Rattle.std.specs.Prelude.{Contains, max, nat_le}
 use Rattle.std.specs.Option.{option_map, option_and_then, unwrap_or}
 use Rattle.std.specs.List.{filter_map, list_any}
 use Rattle.std.specs.FinMap.{get}
 use Rattle.std.proofs.lemmas.Bool.{false≢true, false_from_ne_true, cond-false}
 use Rattle.chat_change.specs.Buffer.{Buffer}
 use Rattle.chat_change.specs.Order.{record_cmp}
-use Rattle.chat_change.specs.Key.{Key, FloorOf, MarkerOf, MessageOf, same_key, key_of, key_buffer, bearers_of}
+use Rattle.std.specs.Ordering.{is_eq}
+use Rattle.std.proofs.lemmas.Cmp.{tied_itself}
+use Rattle.chat_change.specs.Extent.{Extent, OfAccount, OfBuffer}
+use Rattle.chat_change.specs.Key.{Key, FloorOf, MarkerOf, MessageOf, same_key, key_of, key_extent, bearers_of}
 use Rattle.chat_change.specs.declared.change.Change.{Change}
 use Rattle.chat_change.specs.declared.change.Change.TheVariants.{Post, Redact}
-use Rattle.chat_change.proofs.CallerLemmas.{same_key_is}
+use Rattle.chat_change.proofs.CallerLemmas.{same_key_is, text_total}
 use Rattle.chat_history.specs.Choice.{first_by, greatest}
 use Rattle.chat_history.specs.History.{History, norm, mark, piece, floor_moment, marker_moment, posted_record, message_moment, is_redaction, IsKeyed}
 use Rattle.chat_history.specs.Visible.{records_in}
@@ -23,7 +26,7 @@ use Rattle.chat_page.specs.declared.query.Selector.TheVariants.{Timestamp, Messa
 use Rattle.chat_page.specs.declared.query.Query.{Query}
 use Rattle.chat_page.specs.declared.query.Query.TheVariants.{Latest, Before, After, Around, Between, Targets}
 use Rattle.chat_page.specs.Listing.{IsLatestOf}
-use Rattle.chat_page.specs.OwnPast.{is_own, own_past, SameOwnPast}
+use Rattle.chat_page.specs.OwnPast.{is_own_extent, is_own, own_past, SameOwnPast}
 use Rattle.chat_page.proofs.ListingLemmas.{own_network, listing_is, listing_rises}
 
 -- ---- two histories that hold the same of the messages of a scope
@@ -63,15 +66,18 @@ module _ (scope : Scope) (g h : History) (of_g : IsKeyed g) (of_h : IsKeyed h) (
 -- ---- the own past holds what all changes hold of the scope's buffers
 
 module _ (scope : Scope) where
-  abbrev IsOurs : Buffer → Type 0
-  IsOurs b = is_of_network scope.account scope.network b ≡ true
+  abbrev IsOurs : Extent → Type 0
+  IsOurs e = is_own_extent scope e ≡ true
 
-  other_key : (k : Key) → IsOurs (key_buffer k) → (c : Change) → is_own scope c ≡ false → same_key k (key_of c) ≡ false
+  our_account : IsOurs (OfAccount scope.account)
+  our_account = ap is_eq (tied_itself text_total scope.account)
+
+  other_key : (k : Key) → IsOurs (key_extent k) → (c : Change) → is_own scope c ≡ false → same_key k (key_of c) ≡ false
   other_key k ours c e =
       false_from_ne_true (same_key k (key_of c))
-      (λ t. false≢true (sym e ∙ ap (λ l. is_of_network scope.account scope.network (key_buffer l)) (sym (same_key_is k (key_of c) t)) ∙ ours))
+      (λ t. false≢true (sym e ∙ ap (λ l. is_own_extent scope (key_extent l)) (sym (same_key_is k (key_of c) t)) ∙ ours))
 
-  own_bearers : (k : Key) → IsOurs (key_buffer k) → (changes : List Change) → bearers_of k (own_past scope changes) ≡ bearers_of k changes
+  own_bearers : (k : Key) → IsOurs (key_extent k) → (changes : List Change) → bearers_of k (own_past scope changes) ≡ bearers_of k changes
   own_bearers k ours [] = refl
   own_bearers k ours (c ∷ cs) =
       elim (is_own scope c) as (λ b. is_own scope c ≡ b → bearers_of k (cond b (c ∷ own_past scope cs) (own_past scope cs)) ≡ bearers_of k (c ∷ cs)) [
@@ -79,10 +85,10 @@ module _ (scope : Scope) where
         | false ↦ λ e. own_bearers k ours cs ∙ sym (cond-false (same_key k (key_of c)) (c ∷ bearers_of k cs) (bearers_of k cs) (other_key k ours c e))
       ] refl
 
-  -- what a message's piece is made of: the floors of its buffer and its own changes
-  abbrev message_piece : Buffer → List ℕ → List Change → List Change → Option Change
-  message_piece b m floors cs =
-      let floor = unwrap_or (greatest (filter_map floor_moment floors)) 0 in
+  -- what a message's piece is made of: the floors of its account and of its buffer, and its own changes
+  abbrev message_piece : Buffer → List ℕ → List Change → List Change → List Change → Option Change
+  message_piece b m around floors cs =
+      let floor = max (unwrap_or (greatest (filter_map floor_moment around)) 0) (unwrap_or (greatest (filter_map floor_moment floors)) 0) in
       cond (list_any is_redaction cs)
       (Some (Redact b m (greatest (filter (λ t. nat_le floor t) (filter_map message_moment cs)))))
       (option_map Post (first_by record_cmp (filter (λ r. nat_le floor r.at) (filter_map posted_record cs))))
@@ -92,9 +98,10 @@ module _ (scope : Scope) where
     own_message target m =
         let b = buffer_of scope target in
         let ours = own_network scope.account scope.network target in
-        let floors = own_bearers (FloorOf b) ours changes in
+        let around = own_bearers (FloorOf (OfAccount scope.account)) our_account changes in
+        let floors = own_bearers (FloorOf (OfBuffer b)) ours changes in
         let of_message = own_bearers (MessageOf b m) ours changes in
-        λ i. message_piece b m (floors i) (of_message i)
+        λ i. message_piece b m (around i) (floors i) (of_message i)
 
     own_get : (target m : List ℕ) → get (norm (own_past scope changes)) (MessageOf (buffer_of scope target) m) ≡ get (norm changes) (MessageOf (buffer_of scope target) m)
     own_get target m =

@@ -30,8 +30,8 @@ pub fn pages_are_of_posts()
         IfSome (page changes scope query) (IsOfPosts changes scope query) }
 {}
 
-/// A page depends on the changes of the asker's own account and network alone, and is the same whatever happens in other
-/// buffers: two sets of changes have equal pages where those changes have one normal form, so also where they are the same.
+/// A page depends on the changes of the asker's own account and network and the floors of the account alone, and is the
+/// same whatever happens in other buffers: two sets of changes have equal pages where those changes have one normal form, so also where they are the same.
 pub fn pages_are_of_the_own_past()
     ensures alone { (changes : List Change) (scope : Scope) (query : Query) →
         page (own_past scope changes) scope query ≡ page changes scope query }
