@@ -5,14 +5,14 @@ use Rattle.std.proofs.lemmas.Bool.Decides.{nat_tests}
 use Rattle.std.specs.Prelude.{◌↔◌, IsTrue, nat_lt}
 use Rattle.std.specs.FinMap as finite
 use Rattle.std.specs.Option.{option_map}
-use Rattle.chat_change.specs.Buffer.{Buffer}
+use Rattle.chat_change.specs.Extent.{Extent, OfAccount, OfBuffer}
 use Rattle.chat_change.specs.declared.change.Change.{Change}
-use Rattle.chat_change.specs.declared.change.Change.TheVariants.{Post, Redact, Mark, Floor}
-use Rattle.chat_change.specs.Key.{FloorOf, key_of, key_buffer, same_key}
+use Rattle.chat_change.specs.declared.change.Change.TheVariants.{Post, Redact, Mark, Floor, AccountFloor}
+use Rattle.chat_change.specs.Key.{FloorOf, key_of, key_extent, floor_change, same_key}
 use Rattle.chat_change.proofs.CallerLemmas.{key_total, key_exact, same_key_itself, same_key_is}
 use Rattle.chat_history.specs.Choice.{keep}
 use Rattle.chat_history.specs.Form.{IsNoFloor, next_piece}
-use Rattle.chat_history.specs.History.{History, floor, norm, changes_of, IsKeyed}
+use Rattle.chat_history.specs.History.{History, floor_at, norm, changes_of, IsKeyed}
 use Rattle.chat_history.specs.Retention.{outlasts, remainder}
 use Rattle.chat_history.specs.Numbering.{numbers_after}
 use Rattle.chat_history.specs.Same.{same_history}
@@ -33,7 +33,7 @@ module _ (h : History) (keyed : IsKeyed h) (normal : norm (changes_of h) ≡ h) 
 
   plain_none : (c : Change) → IsNoFloor c → finite.get (with c) (key_of c) ≡ None → with c ≡ h
   plain_none c p none =
-      let f = floor (changes_of h) (key_buffer (key_of c)) in
+      let f = floor_at (changes_of h) (key_extent (key_of c)) in
       let next : next_piece f (finite.get h (key_of c)) c ≡ None =
       ap (λ b. cond b (next_piece f (finite.get h (key_of c)) c) (finite.get h (key_of c))) (sym (same_key_itself (key_of c)))
       ∙ sym (get_after h keyed normal c p (key_of c)) ∙ none in
@@ -45,19 +45,20 @@ module _ (h : History) (keyed : IsKeyed h) (normal : norm (changes_of h) ≡ h) 
         | false ↦ λ e. refl
       ] refl)
 
-  floor_none : (b : Buffer) (t : ℕ) (higher : Bool) → nat_lt (floor (changes_of h) b) t ≡ higher → finite.get (with (Floor b t)) (FloorOf b) ≡ None → with (Floor b t) ≡ h
-  floor_none b t true e none =
-      let some : Some (Floor b t) ≡ None =
-      ap (λ a. cond a (Some (Floor b t)) (option_map (remainder b t) (keep (outlasts b t) (finite.get h (FloorOf b))))) (sym (same_key_itself (FloorOf b)))
-      ∙ sym (get_floor h keyed normal b t (grind (arith, nat_tests)) (FloorOf b)) ∙ none in
+  floor_none : (x : Extent) (t : ℕ) (higher : Bool) → nat_lt (floor_at (changes_of h) x) t ≡ higher → finite.get (with (floor_change x t)) (FloorOf x) ≡ None → with (floor_change x t) ≡ h
+  floor_none x t true e none =
+      let some : Some (floor_change x t) ≡ None =
+      ap (λ a. cond a (Some (floor_change x t)) (option_map (remainder x t) (keep (outlasts x t) (finite.get h (FloorOf x))))) (sym (same_key_itself (FloorOf x)))
+      ∙ sym (get_floor h keyed normal x t (grind (arith, nat_tests)) (FloorOf x)) ∙ none in
       cc
-  floor_none b t false e none = low_floor h keyed normal b t (grind (arith, nat_tests))
+  floor_none x t false e none = low_floor h keyed normal x t (grind (arith, nat_tests))
 
   none_same : (c : Change) → finite.get (with c) (key_of c) ≡ None → with c ≡ h
   none_same (Post r) none = plain_none (Post r) tt none
   none_same (Redact b m t) none = plain_none (Redact b m t) tt none
   none_same (Mark b t) none = plain_none (Mark b t) tt none
-  none_same (Floor b t) none = floor_none b t (nat_lt (floor (changes_of h) b) t) refl none
+  none_same (Floor b t) none = floor_none (OfBuffer b) t (nat_lt (floor_at (changes_of h) (OfBuffer b)) t) refl none
+  none_same (AccountFloor a t) none = floor_none (OfAccount a) t (nat_lt (floor_at (changes_of h) (OfAccount a)) t) refl none
 
 -- ---- lists
 
