@@ -64,10 +64,8 @@ pub record IsSoundFacts (f : Facts) : Type 0 where
 
 -- a marker of a lawful buffer, of a time
 abbrev pub IsTimedMark : Change → Type 0
-IsTimedMark (Post r) = ⊥
-IsTimedMark (Redaction b m t) = ⊥
 IsTimedMark (Mark b t) = IsLawfulBuffer b × ((bytes : List ℕ) × (time_of bytes ≡ Some t))
-IsTimedMark (Floor b t) = ⊥
+IsTimedMark _ = ⊥
 
 abbrev pub EffectStands : TagLimit → Effect → Type 0
 EffectStands limit (Send bytes) = AreLines limit bytes

@@ -149,10 +149,8 @@ IsGreeting Close = ⊥
 
 -- a marker of a buffer of the account and the network
 abbrev pub IsMarkOf : Facts → Change → Type 0
-IsMarkOf f (Post r) = ⊥
-IsMarkOf f (Redact buffer id at) = ⊥
 IsMarkOf f (Mark buffer at) = (buffer.account ≡ f.account) × (buffer.network ≡ f.network)
-IsMarkOf f (Floor buffer at) = ⊥
+IsMarkOf f _ = ⊥
 
 abbrev pub IsOwnChange : Stage → Change → Type 0
 IsOwnChange (Waiting w) change = ⊥

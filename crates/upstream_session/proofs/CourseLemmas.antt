@@ -62,10 +62,8 @@ IsSend Close = ⊥
 
 -- a redaction of one's own
 abbrev pub IsOwnRedaction : Home → Change → Type 0
-IsOwnRedaction home (change.Post r) = ⊥
 IsOwnRedaction home (change.Redact buffer id at) = IsIn home buffer
-IsOwnRedaction home (change.Mark buffer at) = ⊥
-IsOwnRedaction home (change.Floor buffer at) = ⊥
+IsOwnRedaction home _ = ⊥
 
 -- a line that is passed on, or such a redaction
 abbrev pub IsPassed : Home → UpEffect → Type 0

@@ -78,6 +78,7 @@ redaction_is_own home (change.Post r) h = absurd h
 redaction_is_own home (change.Redact buffer id at) h = h
 redaction_is_own home (change.Mark buffer at) h = h
 redaction_is_own home (change.Floor buffer at) h = h
+redaction_is_own home (change.AccountFloor account at) h = h
 
 passed_is_own : (home : Home) (e : UpEffect) → IsPassed home e → IsOwnEffect home e
 passed_is_own home (Send bytes) h = tt
@@ -170,6 +171,7 @@ redaction_has_id old new id_of (change.Post r) h = absurd h
 redaction_has_id old new id_of (change.Redact buffer id at) h = tt
 redaction_has_id old new id_of (change.Mark buffer at) h = tt
 redaction_has_id old new id_of (change.Floor buffer at) h = tt
+redaction_has_id old new id_of (change.AccountFloor account at) h = tt
 
 passed_has_id : (old new : Connection) (id_of : Option (List ℕ)) (e : UpEffect) → IsPassed old.home e → IsIdOf old new id_of e
 passed_has_id old new id_of (Send bytes) h = tt
@@ -204,6 +206,7 @@ redaction_has_tags home tags (change.Post r) h = absurd h
 redaction_has_tags home tags (change.Redact buffer id at) h = tt
 redaction_has_tags home tags (change.Mark buffer at) h = tt
 redaction_has_tags home tags (change.Floor buffer at) h = tt
+redaction_has_tags home tags (change.AccountFloor account at) h = tt
 
 passed_has_tags : (home : Home) (tags : List ℕ) (e : UpEffect) → IsPassed home e → HasTags tags e
 passed_has_tags home tags (Send bytes) h = tt

@@ -54,8 +54,7 @@ IsIn home buffer = (buffer.account ≡ home.account) × (buffer.network ≡ home
 abbrev pub IsOwnChange : Home → Change → Type 0
 IsOwnChange home (Post r) = IsIn home r.buffer
 IsOwnChange home (Redact buffer id at) = IsIn home buffer
-IsOwnChange home (Mark buffer at) = ⊥
-IsOwnChange home (Floor buffer at) = ⊥
+IsOwnChange home _ = ⊥
 
 abbrev pub IsOwnEffect : Home → UpEffect → Type 0
 IsOwnEffect home (Put change) = IsOwnChange home change
