@@ -12,8 +12,9 @@ use Rattle.toml.specs.Data.{Items, Members, no_items, array, get_member}
 use Rattle.toml.specs.View.{view, members_view}
 use Rattle.toml.specs.declared.value.Value.{Value}
 use Rattle.toml.proofs.Views.{Entry, table_get}
-use Rattle.peer_lines.specs.declared.version.Version.TheVariants.{Two}
-use Rattle.node_config.specs.Values.{HasItems, AreItemsAt, HasVersion, IsVersionAt}
+use Rattle.irc_time.specs.Time.{IsTime}
+use Rattle.peer_lines.specs.declared.version.TheConstants.Version.{OWN}
+use Rattle.node_config.specs.Values.{HasText, HasNumber, HasNumberOr, IsNumberAt, HasTime, IsTimeAt, HasItems, AreItemsAt, HasVersion, IsVersionAt}
 
 -- the map of a table was asked for a key, and answered this
 pub record Found (r : Option (Bor Value)) (key : List ℕ) (entries : List Entry) : Type 0 where
@@ -38,8 +39,20 @@ no_items_at t key e = subst (λ o. AreItemsAt o no_items) (sym e) refl
 pub items_at : (t : Members) (key : List ℕ) (items : Items) → get_member key t ≡ Some (array items) → HasItems t key items
 items_at t key items e = subst (λ o. AreItemsAt o items) (sym e) refl
 
-pub no_version_at : (t : Members) (key : List ℕ) → get_member key t ≡ None → HasVersion t key Two
-no_version_at t key e = subst (λ o. IsVersionAt o Two) (sym e) refl
+pub no_number_at : (default : ℕ) (t : Members) (key : List ℕ) → get_member key t ≡ None → HasNumberOr default t key default
+no_number_at default t key e = subst (λ o. IsNumberAt default o default) (sym e) refl
+
+pub number_at : (default : ℕ) (t : Members) (key : List ℕ) (n : ℕ) → HasNumber t key n → HasNumberOr default t key n
+number_at default t key n e = subst (λ o. IsNumberAt default o n) (sym e) refl
+
+pub no_time_at : (t : Members) (key : List ℕ) → get_member key t ≡ None → HasTime t key None
+no_time_at t key e = subst (λ o. IsTimeAt o None) (sym e) refl
+
+pub time_at : (t : Members) (key text : List ℕ) (time : ℕ) → HasText t key text → IsTime text time → HasTime t key (Some time)
+time_at t key text time e is = subst (λ o. IsTimeAt o (Some time)) (sym e) (text, refl, is)
+
+pub no_version_at : (t : Members) (key : List ℕ) → get_member key t ≡ None → HasVersion t key OWN
+no_version_at t key e = subst (λ o. IsVersionAt o OWN) (sym e) refl
 
 as_read : (z : ℤ) (n : ℕ) → FitsUnsignedBits 32 z → n ≡ unsigned_abs z → z ≡ pos n
 as_read (pos m) n f e = ap pos (sym e)

@@ -7,7 +7,8 @@ use Rattle.node_config.specs.declared.entries.Account.{Account}
 use Rattle.node_config.specs.declared.entries.Network.{Network}
 use Rattle.node_config.specs.declared.entries.Peer.{Peer}
 use Rattle.node_config.specs.declared.limits.Limits.{Limits}
-use Rattle.node_config.specs.Values.{HasText, HasNumber, HasAddress, HasTexts, HasVersion, HasEntries}
+use Rattle.node_config.specs.declared.limits.TheConstants.{LEAST_MAXIMUM}
+use Rattle.node_config.specs.Values.{HasText, HasNumber, HasNumberOr, HasTime, HasAddress, HasTexts, HasVersion, HasEntries}
 
 -- a table of `peer` says this
 pub record IsPeerOf (t : Members) (peer : Peer) : Type 0 where
@@ -19,6 +20,7 @@ pub record IsPeerOf (t : Members) (peer : Peer) : Type 0 where
 pub record IsAccountOf (t : Members) (account : Account) : Type 0 where
   pub name : HasText t (codes "name") account.name
   pub secret : HasText t (codes "secret") account.secret
+  pub keep_from : HasTime t (codes "keep_from") account.keep_from
 
 -- a table of `network`
 pub record IsNetworkOf (t : Members) (network : Network) : Type 0 where
@@ -54,6 +56,7 @@ pub record IsConfigOf (document : Members) (config : Config) : Type 0 where
   pub peer_listen : HasAddress document (codes "peer_listen") config.peer_listen
   pub peer_word : HasText document (codes "peer_word") config.peer_word
   pub limits : AreLimitsOf document config.limits
+  pub maximum : HasNumberOr LEAST_MAXIMUM document (codes "maximum") config.maximum
   pub peers : ArePeersOf document config.peers.items
   pub accounts : AreAccountsOf document config.accounts.items
   pub networks : AreNetworksOf document config.networks.items

@@ -1,12 +1,13 @@
 -- What a table says: the value under each key, as it stands there.
-use Rattle.std.specs.Prelude.{◌≡◌, ℕ, pos, List, map, Option, Some, None}
+use Rattle.std.specs.Prelude.{◌≡◌, ℕ, pos, List, map, Option, Some, None, IsSomeAnd}
 use Rattle.std.specs.List.{AllZip}
 use Rattle.std.specs.declared.net.socket_addr.SocketAddr.{SocketAddr}
 use Rattle.std.specs.Net.Grammar.{IsSocketText}
 use Rattle.toml.specs.Data.{Data, string, integer, array, table, Items, no_items, Members, get_member}
 use Rattle.toml.specs.View.{items_of}
+use Rattle.irc_time.specs.Time.{IsTime}
 use Rattle.peer_lines.specs.declared.version.Version.{Version}
-use Rattle.peer_lines.specs.declared.version.Version.TheVariants.{Two}
+use Rattle.peer_lines.specs.declared.version.TheConstants.Version.{OWN}
 use Rattle.peer_lines.specs.Version.{number}
 
 -- a key has this text, byte for byte
@@ -24,9 +25,27 @@ HasAddress t key address = (text : List ℕ) × HasText t key text × IsSocketTe
 abbrev pub HasTexts : Members → List ℕ → List (List ℕ) → Type 0
 HasTexts t key texts = get_member key t ≡ Some (array (items_of (map string texts)))
 
--- a version is its number, and a missing one is version 2
+-- a number is the one that stands there, and a missing one is the default
+abbrev pub IsNumberAt : ℕ → Option Data → ℕ → Type 0
+IsNumberAt default None n = n ≡ default
+IsNumberAt default (Some d) n = d ≡ integer (pos n)
+
+-- a key has a number, or the default where it is missing
+abbrev pub HasNumberOr : ℕ → Members → List ℕ → ℕ → Type 0
+HasNumberOr default t key n = IsNumberAt default (get_member key t) n
+
+-- a time is the moment that its text spells, and a missing one is none
+abbrev pub IsTimeAt : Option Data → Option ℕ → Type 0
+IsTimeAt None time = time ≡ None
+IsTimeAt (Some d) time = (text : List ℕ) × (d ≡ string text) × IsSomeAnd time (IsTime text)
+
+-- a key has a time, or none where it is missing
+abbrev pub HasTime : Members → List ℕ → Option ℕ → Type 0
+HasTime t key time = IsTimeAt (get_member key t) time
+
+-- a version is its number, and a missing one is the program's own
 abbrev pub IsVersionAt : Option Data → Version → Type 0
-IsVersionAt None version = version ≡ Two
+IsVersionAt None version = version ≡ OWN
 IsVersionAt (Some d) version = d ≡ integer (pos (number version))
 
 abbrev pub HasVersion : Members → List ℕ → Version → Type 0

@@ -25,6 +25,8 @@ pub enum Allowed {
     Channels,
     /// The word that the nodes share.
     SharedWord,
+    /// A text that spells a time.
+    Time,
     /// A text.
     Text,
     /// A table.
@@ -52,6 +54,7 @@ impl Display for Allowed {
             Allowed::Target => f.write_str(TARGET),
             Allowed::Channels => write!(f, "a list of texts, each {TARGET}"),
             Allowed::SharedWord => f.write_str("1 to 64 bytes without NUL, CR, LF and space"),
+            Allowed::Time => f.write_str("a text YYYY-MM-DDThh:mm:ss.sssZ, a time from 1970 on"),
             Allowed::Text => f.write_str("a text"),
             Allowed::Table => f.write_str("a table"),
             Allowed::Tables => f.write_str("a list of tables"),

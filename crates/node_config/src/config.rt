@@ -1,7 +1,8 @@
 //! The configuration of a node.
-ghost use Rattle.std.specs.Prelude.{◌≡◌, true, false};
+ghost use Rattle.std.specs.Prelude.{◌≡◌, ◌≤◌, true, false};
 ghost use Rattle.node_config.specs.Names.{is_cluster_name};
 ghost use Rattle.node_config.specs.Differing as differing;
+ghost use Rattle.node_config.specs.declared.limits.TheConstants.{LEAST_MAXIMUM, MOST_MAXIMUM};
 
 use crate::entries::{Account, Network, Peer};
 use crate::limits::Limits;
@@ -25,6 +26,8 @@ pub struct Config {
     pub peer_word: SharedWord,
     /// Its numbers.
     pub limits: Limits,
+    /// The most messages or buffers of one page.
+    pub maximum: u32,
     /// The other nodes.
     pub peers: Vec<Peer>,
     /// The accounts.
@@ -32,6 +35,8 @@ pub struct Config {
     /// The networks, in their order, which says by whom each is served.
     pub networks: Vec<Network>,
     ghost named: { is_cluster_name name ≡ true },
+    ghost some_messages: { LEAST_MAXIMUM ≤ maximum },
+    ghost few_messages: { maximum ≤ MOST_MAXIMUM },
     ghost peers_differ: { differing.all_differ differing.same_peer peers.items ≡ true },
     ghost others: { differing.has_peer peers.items node ≡ false },
     ghost accounts_differ: { differing.all_differ differing.same_account accounts.items ≡ true },

@@ -4,6 +4,7 @@ ghost use Rattle.std.specs.List.{list_all};
 ghost use Rattle.chat_change.specs.Words.{is_name, is_target};
 
 use byte_text::Text;
+use irc_time::Moment;
 use peer_lines::{NodeName, Version};
 use std::net::SocketAddr;
 
@@ -25,6 +26,8 @@ pub struct Account {
     pub name: Text,
     /// What lets a client in.
     pub secret: Text,
+    /// Before which nothing of it is kept.
+    pub keep_from: Option<Moment>,
     ghost named: { is_name name ≡ true },
 }
 

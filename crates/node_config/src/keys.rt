@@ -23,7 +23,7 @@ const TOP: Keys = Keys {
         "bound",
         "retain_days",
     ],
-    allowed: &["peer", "account", "network"],
+    allowed: &["maximum", "peer", "account", "network"],
 };
 
 const PEER: Keys = Keys {
@@ -33,7 +33,7 @@ const PEER: Keys = Keys {
 
 const ACCOUNT: Keys = Keys {
     wanted: &["name", "secret"],
-    allowed: &[],
+    allowed: &["keep_from"],
 };
 
 const NETWORK: Keys = Keys {

@@ -10,15 +10,17 @@
 //! places = 64                     # clients at once, 1 to 4096
 //! bound = 65536                   # bytes that may be owed to a client, 1024 to 1048576
 //! retain_days = 30                # after which messages go, 0 to 36500; 0 keeps all
+//! maximum = 100                   # messages or buffers of one page, 100 to 1000; 100 where it is missing
 //!
 //! [[peer]]                        # each other node
 //! name = "n2"
 //! address = "127.0.0.1:7001"
-//! version = 2                     # of the lines between nodes, 1 or 2; 2 where it is missing
+//! version = 3                     # of the lines between nodes, 1 to 3; 3 where it is missing
 //!
 //! [[account]]
 //! name = "demo"                   # 1 to 32 bytes of `a-z`, `0-9`, `-` and `_`
 //! secret = "s3cret"
+//! keep_from = "2026-01-01T00:00:00.000Z"  # nothing older is kept; may be missing
 //!
 //! [[network]]                     # each network of an account
 //! account = "demo"
@@ -29,7 +31,8 @@
 //! channels = ["#a"]
 //! ```
 //!
-//! All keys but `version` are needed, and no others may stand there; each of the three lists may be missing.
+//! All keys but `maximum`, `version` and `keep_from` are needed, and no others may stand there; each of the three lists
+//! may be missing.
 //! [`read_config`] answers a [`Config`] or the first [`ConfigFault`], which says where the text is wrong and what is
 //! allowed there, and never shows a secret or the shared word. A [`Config`] gives what the parts of a node begin with:
 //! the directory of accounts and networks for clients' sessions, the names of the peers, and a copy of each network for

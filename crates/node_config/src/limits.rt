@@ -19,6 +19,12 @@ pub const MOST_BOUND: u32 = 1_048_576;
 /// The most days after which a message may be let go.
 pub const MOST_RETAIN_DAYS: u32 = 36_500;
 
+/// The least number that may be set as the most messages or buffers of one page. It is what stands where none is set.
+pub const LEAST_MAXIMUM: u32 = 100;
+
+/// The greatest number that may be set as the most messages or buffers of one page.
+pub const MOST_MAXIMUM: u32 = 1_000;
+
 /// The numbers of a configuration, each in its range.
 #[derive(Clone, Copy, Debug)]
 pub struct Limits {

@@ -49,10 +49,19 @@ fn read_account(
 {
     let name = entry.name(alloc, "name")?;
     let secret = entry.any_text(alloc, "secret")?;
+    // The borrow checker doesn't cover `?` at an `Option<Moment>`.
+    let keep_from = match entry.time("keep_from") {
+        Ok(time) => time,
+        Err(fault) => return Err(fault),
+    };
     if has_account(before, name.as_bytes()) {
         return Err(entry.wrong("name", Allowed::NewName));
     }
-    Ok(Account { name, secret })
+    Ok(Account {
+        name,
+        secret,
+        keep_from,
+    })
 }
 
 fn has_network(networks: &[Network], account: &[u8], name: &[u8]) -> bool

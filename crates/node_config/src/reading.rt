@@ -8,7 +8,10 @@ ghost use Rattle.node_config.specs.Sections.{table_of};
 use crate::config::Config;
 use crate::fault::{ConfigFault, ConfigPlace, ValueFault};
 use crate::keys::check_keys;
-use crate::limits::{LEAST_BOUND, Limits, MOST_BOUND, MOST_PLACES, MOST_RETAIN_DAYS, MOST_WORKERS};
+use crate::limits::{
+    LEAST_BOUND, LEAST_MAXIMUM, Limits, MOST_BOUND, MOST_MAXIMUM, MOST_PLACES, MOST_RETAIN_DAYS,
+    MOST_WORKERS,
+};
 use crate::networks::{read_accounts, read_networks};
 use crate::peers::read_peers;
 use crate::section::Section;
@@ -64,6 +67,7 @@ fn read_values(alloc: Global, table: &Table) -> Result<Config, ValueFault>
     let peer_listen = top.address("peer_listen")?;
     let peer_word = top.shared_word(alloc, "peer_word")?;
     let limits = read_limits(top)?;
+    let maximum = top.number_or_least("maximum", LEAST_MAXIMUM, MOST_MAXIMUM)?;
     let peers = read_peers(alloc, top, &node)?;
     let accounts = read_accounts(alloc, top)?;
     let networks = read_networks(alloc, top, accounts.as_slice())?;
@@ -74,6 +78,7 @@ fn read_values(alloc: Global, table: &Table) -> Result<Config, ValueFault>
         peer_listen,
         peer_word,
         limits,
+        maximum,
         peers,
         accounts,
         networks,

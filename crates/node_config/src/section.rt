@@ -6,13 +6,14 @@ ghost use Rattle.toml.specs.Data.{string, table};
 ghost use Rattle.toml.specs.View.{view, items_view};
 ghost use Rattle.node_config.specs.Names as spec;
 ghost use Rattle.node_config.specs.Values.{HasText, HasNumber, HasAddress, HasTexts};
-ghost use Rattle.node_config.specs.Values.{HasVersion, HasItems};
+ghost use Rattle.node_config.specs.Values.{HasNumberOr, HasTime, HasVersion, HasItems};
 ghost use Rattle.node_config.specs.Sections.{table_of, key_of};
 
 use crate::allowed::Allowed;
 use crate::fault::{ConfigPlace, ListName, ValueFault, Wrong};
 use crate::names::is_cluster_name;
 use byte_text::Text;
+use irc_time::{Moment, read_time};
 use peer_lines::{LinkFault, NodeName, SharedWord, Version};
 use std::alloc::{AllocError, Global};
 use std::net::SocketAddr;
@@ -47,6 +48,37 @@ impl<'a> Section<'a> {
         match u32::try_from(*number) {
             Ok(number) if least <= number && number <= most => Ok(number),
             _ => Err(wrong),
+        }
+    }
+
+    /// A number in that range, the least where the key is missing.
+    pub fn number_or_least(
+        self,
+        key: &'static str,
+        least: u32,
+        most: u32,
+    ) -> Result<u32, ValueFault>
+        requires { least ≤ most }
+        ensures low { IfOk result (λ n. least ≤ n) }
+        ensures high { IfOk result (λ n. n ≤ most) }
+        ensures value { IfOk result (λ n. HasNumberOr least (table_of self.entry) key.now n) }
+    {
+        if self.table.get(key).is_none() {
+            return Ok(least);
+        }
+        self.number(key, least, most)
+    }
+
+    /// A time by its text: none where the key is missing.
+    pub fn time(self, key: &'static str) -> Result<Option<Moment>, ValueFault>
+        ensures { IfOk result (λ t. HasTime (table_of self.entry) key.now t) }
+    {
+        if self.table.get(key).is_none() {
+            return Ok(None);
+        }
+        match read_time(self.text(key, Allowed::Time)?.as_bytes()) {
+            Some(time) => Ok(Some(time)),
+            None => Err(self.wrong(key, Allowed::Time)),
         }
     }
 
