@@ -11,16 +11,17 @@ use Rattle.std.specs.FinMap.{put, entries, entries-insert, empty, len-empty, len
 use Rattle.std.specs.FinMap.Entries.{by_order}
 use Rattle.std.proofs.lemmas.Cmp.{nat_cmp_total}
 use Rattle.irc_time.specs.Time as time
-use Rattle.chat_change.specs.Words.{is_id}
+use Rattle.chat_change.specs.Words.{is_name, is_id}
 use Rattle.chat_change.specs.Buffer.{Buffer, IsLawfulBuffer}
 use Rattle.chat_change.specs.Order.{record_cmp}
 use Rattle.chat_change.specs.Lawful.{IsLawfulRecord, IsLawfulChange}
-use Rattle.chat_change.specs.Key.{Key, FloorOf, MarkerOf, MessageOf, same_key, key_of, bearers_of}
+use Rattle.chat_change.specs.Extent.{Extent, OfAccount, OfBuffer}
+use Rattle.chat_change.specs.Key.{Key, FloorOf, MarkerOf, MessageOf, same_key, key_of, bearers_of, floor_change}
 use Rattle.chat_change.specs.declared.change.Change.{Change}
-use Rattle.chat_change.specs.declared.change.Change.TheVariants.{Post, Redact, Mark, Floor}
+use Rattle.chat_change.specs.declared.change.Change.TheVariants.{Post, Redact, Mark, Floor, AccountFloor}
 use Rattle.chat_change.proofs.CallerLemmas.{key_total}
 use Rattle.chat_history.specs.Choice.{earlier, first_by, greatest}
-use Rattle.chat_history.specs.History.{own_floor, floor, mark, is_gone, kept_record, position_of, floor_moment, marker_moment, posted_record, message_moment, piece, piece_entry, norm}
+use Rattle.chat_history.specs.History.{own_floor, floor_around, floor, mark, is_gone, kept_record, position_of, floor_moment, marker_moment, posted_record, message_moment, piece, piece_entry, norm}
 use Rattle.chat_history.specs.Numbering.{delta, newer, numbers, numbered_entry, delta_limit}
 
 -- ---- lists
@@ -93,7 +94,8 @@ IsMoment t = t ≤ time.greatest
 
 -- what lawful changes bear
 abbrev IsLawfulKey : Key → Type 0
-IsLawfulKey (FloorOf b) = IsLawfulBuffer b
+IsLawfulKey (FloorOf (OfAccount a)) = is_name a ≡ true
+IsLawfulKey (FloorOf (OfBuffer b)) = IsLawfulBuffer b
 IsLawfulKey (MarkerOf b) = IsLawfulBuffer b
 IsLawfulKey (MessageOf b m) = IsLawfulBuffer b × (is_id m ≡ true)
 
@@ -102,30 +104,35 @@ key_lawful (Post r) h = (h.buffer, h.id)
 key_lawful (Redact b m t) h = (h.0, h.1)
 key_lawful (Mark b t) h = h.0
 key_lawful (Floor b t) h = h.0
+key_lawful (AccountFloor a t) h = h.0
 
 floor_in : (c : Change) → IsLawfulChange c → IfSome (floor_moment c) IsMoment
 floor_in (Post r) h = tt
 floor_in (Redact b m t) h = tt
 floor_in (Mark b t) h = tt
 floor_in (Floor b t) h = h.1
+floor_in (AccountFloor a t) h = h.1
 
 marker_in : (c : Change) → IsLawfulChange c → IfSome (marker_moment c) IsMoment
 marker_in (Post r) h = tt
 marker_in (Redact b m t) h = tt
 marker_in (Mark b t) h = h.1
 marker_in (Floor b t) h = tt
+marker_in (AccountFloor a t) h = tt
 
 message_in : (c : Change) → IsLawfulChange c → IfSome (message_moment c) IsMoment
 message_in (Post r) h = h.at
 message_in (Redact b m t) h = h.2
 message_in (Mark b t) h = tt
 message_in (Floor b t) h = tt
+message_in (AccountFloor a t) h = tt
 
 record_in : (c : Change) → IsLawfulChange c → IfSome (posted_record c) IsLawfulRecord
 record_in (Post r) h = h
 record_in (Redact b m t) h = tt
 record_in (Mark b t) h = tt
 record_in (Floor b t) h = tt
+record_in (AccountFloor a t) h = tt
 
 or_zero : (u : Option ℕ) → IfSome u IsMoment → IsMoment (unwrap_or u 0)
 or_zero None h = omega arith
@@ -135,10 +142,14 @@ module _ (changes : List Change) (all : AllByRecursion IsLawfulChange changes) w
   bearers : (k : Key) → AllByRecursion IsLawfulChange (bearers_of k changes)
   bearers k = all-filter IsLawfulChange (λ c. same_key k (key_of c)) changes all
 
-  floor_within : (b : Buffer) → IsMoment (own_floor changes b)
-  floor_within b =
-      or_zero (greatest (filter_map floor_moment (bearers_of (FloorOf b) changes)))
-      (some-first IsMoment (flip_args nat_cmp) _ (all-made IsLawfulChange IsMoment floor_moment floor_in (bearers_of (FloorOf b) changes) (bearers (FloorOf b))))
+  floor_within : (e : Extent) → IsMoment (own_floor changes e)
+  floor_within e =
+      or_zero (greatest (filter_map floor_moment (bearers_of (FloorOf e) changes)))
+      (some-first IsMoment (flip_args nat_cmp) _ (all-made IsLawfulChange IsMoment floor_moment floor_in (bearers_of (FloorOf e) changes) (bearers (FloorOf e))))
+
+  floor_lawful : (e : Extent) (t : ℕ) → IsLawfulKey (FloorOf e) → IsMoment t → IsLawfulChange (floor_change e t)
+  floor_lawful (OfAccount a) t h w = (h, w)
+  floor_lawful (OfBuffer b) t h w = (h, w)
 
   mark_within : (b : Buffer) → IfSome (mark changes b) IsMoment
   mark_within b = some-first IsMoment (flip_args nat_cmp) _ (all-made IsLawfulChange IsMoment marker_moment marker_in (bearers_of (MarkerOf b) changes) (bearers (MarkerOf b)))
@@ -154,8 +165,11 @@ module _ (changes : List Change) (all : AllByRecursion IsLawfulChange changes) w
       (all-filter IsLawfulRecord (λ r. nat_le (floor changes b) r.at) _ (all-made IsLawfulChange IsLawfulRecord posted_record record_in (bearers_of (MessageOf b m) changes) (bearers (MessageOf b m))))
 
   piece_lawful : (k : Key) → IsLawfulKey k → IfSome (piece changes k) IsLawfulChange
-  piece_lawful (FloorOf b) h =
-      elim (nat_lt 0 (own_floor changes b)) as (λ t. IfSome (cond t (Some (Floor b (own_floor changes b))) None) IsLawfulChange) [ true ↦ (h, floor_within b) | false ↦ tt ]
+  piece_lawful (FloorOf e) h =
+      elim (nat_lt (floor_around changes e) (own_floor changes e)) as (λ t. IfSome (cond t (Some (floor_change e (own_floor changes e))) None) IsLawfulChange) [
+        | true ↦ floor_lawful e (own_floor changes e) h (floor_within e)
+        | false ↦ tt
+      ]
   piece_lawful (MarkerOf b) h = some-map (Mark b) IsLawfulChange (mark changes b) (some-any IsMoment _ (mark changes b) (mark_within b) (λ t w. (h, w)))
   piece_lawful (MessageOf b m) h =
       elim (is_gone changes b m) as (λ t. IfSome (cond t (Some (Redact b m (position_of changes b m))) (option_map Post (kept_record changes b m))) IsLawfulChange) [

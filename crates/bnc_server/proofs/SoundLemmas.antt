@@ -20,7 +20,7 @@ use Rattle.chat_change.specs.Words.{is_name, is_target, begins_with}
 use Rattle.chat_change.specs.Faults.{unless_lawful, buffer_fault}
 use Rattle.chat_change.specs.Lawful.{IsLawfulChange}
 use Rattle.chat_change.specs.declared.change.Change.{Change}
-use Rattle.chat_change.specs.declared.change.Change.TheVariants.{Post, Redact, Mark, Floor}
+use Rattle.chat_change.specs.declared.change.Change.TheVariants.{Post, Redact, Mark, Floor, AccountFloor}
 use Rattle.chat_change.specs.declared.faults.ChangeFault.{ChangeFault}
 use Rattle.gossip_delta.specs.ChangeLine.{read_change}
 use Rattle.gossip_delta.specs.declared.fault.ChangeLineFault.{ChangeLineFault}
@@ -129,6 +129,7 @@ mark_sound (Post r) is = absurd is
 mark_sound (Redact b m t) is = absurd is
 mark_sound (Mark b t) is = (is.0, time_within is.1.0 t is.1.1)
 mark_sound (Floor b t) is = absurd is
+mark_sound (AccountFloor a t) is = absurd is
 
 -- ---- nodes
 

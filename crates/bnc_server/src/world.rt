@@ -21,7 +21,7 @@ use crate::node::{Node, all_hear, lives_of, push};
 use crate::reply::{put_bad_field, put_bad_form, put_link_fault};
 use byte_text::{NoMemory, Text};
 use chat_batch::Facts;
-use chat_change::{Buffer, Change};
+use chat_change::{Buffer, Change, Extent};
 use client_session::{Account, Directory, Entry, Network};
 use gossip_delta::{ChangeLineFault, is_text, read_change_in};
 use gossip_link::{Ack, Life, LinkFault, NodeName, Packet};
@@ -200,11 +200,14 @@ impl World {
         })
     }
 
-    // Keeps a clone of the change's buffer, unless the buffer has too many owners.
+    // Keeps a clone of the change's buffer, if it is in one, unless the buffer has too many owners.
     fn keep_buffer(&mut self, change: &Change)
         ensures { self.new ≡ self.old }
     {
-        if let Ok(buffer) = change.key().buffer().try_clone() {
+        let Extent::Buffer(buffer) = change.key().extent() else {
+            return;
+        };
+        if let Ok(buffer) = buffer.try_clone() {
             self.latest = Some(buffer);
         }
     }
