@@ -63,6 +63,12 @@ pub enum Event<'a> {
         clients: SocketAddr,
         peers: SocketAddr,
     },
+    /// The floor of an account was put: it keeps nothing before that moment. Whether that lies ahead of the clock.
+    FloorPut {
+        account: &'a [u8],
+        at: Moment,
+        is_ahead: bool,
+    },
     /// The system gave no further connection, as where no descriptor is left. It is tried again.
     AcceptFailed,
     /// A client registered.
@@ -117,6 +123,7 @@ impl<'a> Event<'a> {
     fn title(&self) -> &'static str {
         match self {
             Event::Listening { .. } => "listening",
+            Event::FloorPut { .. } => "floor put",
             Event::AcceptFailed => "accept failed",
             Event::ClientIn { .. } => "client in",
             Event::ClientOut { .. } => "client out",
@@ -193,6 +200,16 @@ impl<'a, 'b> fmt::Display for Detail<'a, 'b> {
             Event::Listening { clients, peers } => {
                 write!(f, "clients on {clients}, peers on {peers}")
             }
+            Event::FloorPut {
+                account,
+                at,
+                is_ahead,
+            } => write!(
+                f,
+                "{}{}",
+                KeptFrom(account, at),
+                if is_ahead { ", which lies ahead" } else { "" }
+            ),
             Event::AcceptFailed => f.write_str("tried again in a second"),
             Event::ClientIn { address, .. } | Event::ClientOut { address, .. } => {
                 write!(f, " from {}", Address(address))
@@ -207,6 +224,22 @@ impl<'a, 'b> fmt::Display for Detail<'a, 'b> {
             }
             Event::PeerDown { node, .. } => write!(f, "{}", BStr::new(node)),
         }
+    }
+}
+
+// What an account keeps no longer.
+#[derive(Clone, Copy)]
+struct KeptFrom<'a>(&'a [u8], Moment);
+
+impl<'a> fmt::Display for KeptFrom<'a> {
+    fn fmt<W: fmt::Write>(&self, f: &mut fmt::Formatter<W>) -> fmt::Result {
+        let time = write_time(self.1);
+        write!(
+            f,
+            "{} keeps nothing before {}",
+            BStr::new(self.0),
+            BStr::new(&time)
+        )
     }
 }
 
@@ -233,19 +266,5 @@ struct Network<'a> {
 impl<'a> fmt::Display for Network<'a> {
     fn fmt<W: fmt::Write>(&self, f: &mut fmt::Formatter<W>) -> fmt::Result {
         write!(f, "{}/{}", BStr::new(self.account), BStr::new(self.network))
-    }
-}
-
-/// The line that tells the operator of an event, without its ending: the moment in UTC, and the event in words.
-#[derive(Clone, Copy)]
-pub struct EventLine<'a> {
-    pub moment: Moment,
-    pub event: Event<'a>,
-}
-
-impl<'a> fmt::Display for EventLine<'a> {
-    fn fmt<W: fmt::Write>(&self, f: &mut fmt::Formatter<W>) -> fmt::Result {
-        let time = write_time(self.moment);
-        write!(f, "{} {}", BStr::new(&time), self.event)
     }
 }

@@ -13,7 +13,7 @@ mod lobby;
 mod mail;
 mod port;
 
-pub use event::{Event, EventLine, Reason};
+pub use event::{Event, Reason};
 pub use gate::Gate;
 pub use lobby::{Admitted, Arrival, Lobby};
 pub use mail::Mail;

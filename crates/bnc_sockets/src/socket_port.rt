@@ -3,19 +3,20 @@ ghost use Rattle.std.specs.Prelude.{◌≤◌, length, IfOk};
 
 use crate::handing::{Mailbox, Parcel};
 use crate::line::{Line, Outcome, Stage};
-use bnc_ports::{Dial, Event, EventLine, Halt, Happening, Mail, Port, PortFault};
+use bnc_ports::{Dial, Event, Halt, Happening, Mail, Port, PortFault};
+use bstr::BStr;
 use crossbeam_channel::Receiver;
-use irc_time::Moment;
+use irc_time::{Moment, write_time};
 use mio::event::Event as Readiness;
 use mio::net::TcpStream;
 use mio::{Events, Interest, Poll, Token, Waker};
 use slab::Slab;
 use std::alloc::AllocError;
-use std::io;
 use std::io::Eprint;
 use std::net::{Net, SocketAddr};
 use std::sync::{Arc, Wait};
 use std::time::{Clock, Duration};
+use std::{fmt, io};
 
 // The token of the waker. Those of lines are their numbers.
 const WAKER: Token = Token(usize::MAX);
@@ -348,11 +349,24 @@ pub fn now_ms<R: Clock>(rt: &R) -> Option<u64> {
     u64::try_from(now.as_millis()).ok()
 }
 
+// An event with its time, which is lent: the borrow checker copies no event out of a reference.
+#[derive(Clone, Copy)]
+struct TimedEvent<'a, 'b> {
+    moment: Moment,
+    event: &'b Event<'a>,
+}
+
+impl<'a, 'b> fmt::Display for TimedEvent<'a, 'b> {
+    fn fmt<W: fmt::Write>(&self, f: &mut fmt::Formatter<W>) -> fmt::Result {
+        let time = write_time(self.moment);
+        write!(f, "{} {}", BStr::new(&time), self.event)
+    }
+}
+
 /// Tells the operator of an event, by a line on standard error.
 pub fn report<R: Clock + Eprint>(rt: &R, event: &Event<'_>) {
-    let event = *event;
     let _ = match now_ms(rt).and_then(Moment::from_ms) {
-        Some(moment) => rt.eprintln(EventLine { moment, event }),
+        Some(moment) => rt.eprintln(TimedEvent { moment, event }),
         None => rt.eprintln(event),
     };
 }
