@@ -1,8 +1,13 @@
--- What the workers of a node begin with: what its configuration says.
-use Rattle.std.specs.Prelude.{ℕ, List, map}
+-- What the workers of a node begin with, and what is put before that: what its configuration says.
+use Rattle.std.specs.Prelude.{ℕ, Option, List, map}
+use Rattle.std.specs.List.{filter_map}
+use Rattle.std.specs.Option.{option_map}
+use Rattle.chat_change.specs.declared.change.Change.{Change}
+use Rattle.chat_change.specs.declared.change.Change.TheVariants.{AccountFloor}
 use Rattle.gossip_link.specs.Handshake.{Terms}
 use Rattle.gossip_link.specs.declared.terms.PeerTerms.{PeerTerms}
 use Rattle.node_config.specs.declared.config.Config.{Config}
+use Rattle.node_config.specs.declared.entries.Account.{Account}
 use Rattle.node_config.specs.declared.entries.Network.{Network}
 use Rattle.node_config.specs.declared.entries.Peer.{Peer}
 use Rattle.upstream_session.specs.declared.config.Config as session
@@ -32,3 +37,11 @@ terms_of config incarnation = record {
   me = record { node = config.node; incarnation = incarnation };
   peers = map peer_terms_of config.peers.items;
 }
+
+-- the floor of an account that keeps nothing before a moment
+abbrev pub floor_of : Account → Option Change
+floor_of a = option_map (AccountFloor a.name) a.keep_from
+
+-- one for each such account, in their order
+abbrev pub floors_of : List Account → List Change
+floors_of accounts = filter_map floor_of accounts

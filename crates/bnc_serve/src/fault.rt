@@ -4,7 +4,7 @@ ghost use Rattle.std.specs.Prelude.{◌≡◌, ◌≢◌, ◌↔◌};
 use attach::PlacesFault;
 use bnc_work::StartFault;
 use byte_text::NoMemory;
-use shared_node::NodeFault;
+use shared_node::{NodeFault, PutFault};
 use std::alloc::AllocError;
 use std::io;
 use std::io::ErrorKind;
@@ -118,6 +118,18 @@ impl From<PlacesFault> for ServeFault {
             PlacesFault::NoMemory => ServeFault::NoMemory,
             PlacesFault::BadCount => ServeFault::BadCount,
         }
+    }
+}
+
+impl From<PutFault> for ServeFault {
+    ghost use Rattle.std.specs.Prelude.{◌≡◌};
+    ghost use Rattle.bnc_serve.specs.declared.fault.ServeFault.TheVariants as fault_case;
+
+    ghost from_gives = { λ _ fault. fault ≡ fault_case.NoMemory };
+
+    // A node that begins has numbers left.
+    fn from(_: PutFault) -> ServeFault {
+        ServeFault::NoMemory
     }
 }
 

@@ -8,6 +8,7 @@
 
 mod crew;
 mod fault;
+mod floors;
 mod listeners;
 mod node;
 mod reception;

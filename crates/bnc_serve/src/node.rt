@@ -3,12 +3,14 @@ ghost use Rattle.shared_node.specs.Names.{IsNamed};
 
 use crate::crew::Crew;
 use crate::fault::ServeFault;
+use crate::floors::{floors_of, put_floors};
 use crate::listeners::Listeners;
 use crate::reception::{Reception, receive};
 use attach::{Attachment, Boxed, Places, RingClient};
 use bnc_ports::{Gate, Port};
 use bnc_sockets::{Door, SocketPort, now_ms};
 use bnc_work::{Station, WorkEnd, work_all};
+use chat_change::Change;
 use node_config::Config;
 use shared_node::{Naming, Pass, SharedNode, Unnamed};
 use std::alloc::{AllocError, Global};
@@ -37,6 +39,8 @@ pub struct Prepared<R: Wait + Drop, X: Drop = Boxed> {
     pub intake: Intake<X>,
     /// What each worker begins with, but for its pass.
     pub posts: Vec<(Station<X>, SocketPort<R>)>,
+    /// The floors of accounts that are put before the workers begin.
+    pub floors: Vec<Change>,
 }
 
 /// Listens at the addresses of the configuration, and makes what its workers begin with. The node's incarnation is the clock's
@@ -56,7 +60,12 @@ pub fn prepare<R: Net + Wait + Clock + Eprint + AllocGlobal + Copy + Drop, X: At
         places: config.limits.places,
         bound: config.limits.bound,
     };
-    Ok(Prepared { intake, posts })
+    let floors = floors_of(rt.alloc(), &config.accounts)?;
+    Ok(Prepared {
+        intake,
+        posts,
+        floors,
+    })
 }
 
 // A gate that is always open.
@@ -84,15 +93,16 @@ fn jobs_of<J: Naming, X: Attachment, P: Port>(
     Ok(jobs)
 }
 
-/// Runs a node of that name, which is to have a pass for each post. Connections are taken in on a thread of its own, and
-/// each worker runs on one of its own. It answers how the workers ended, once all have. A worker that ends makes the others
-/// end.
+/// Runs a node of that name, which is to have a pass for each post. The floors are put first. Connections are taken in on a
+/// thread of its own, and each worker runs on one of its own. It answers how the workers ended, once all have. A worker that
+/// ends makes the others end.
 ///
 /// `boxed` makes of a client what the workers' halls keep; none where there is no memory.
 pub fn run_node<J, R, X, P, F>(
     rt: &R,
     intake: Intake<X>,
     posts: Vec<(Station<X>, P)>,
+    floors: Vec<Change>,
     name: Unnamed,
     boxed: F,
 ) -> Result<Vec<WorkEnd>, ServeFault>
@@ -106,7 +116,10 @@ where
     requires callable { F.IsAlwaysCallable boxed }
 {
     let alloc = rt.alloc();
-    let (node, passes) = SharedNode::<J, &R>::new(alloc, rt, name)?;
+    let (node, mut passes) = SharedNode::<J, &R>::new(alloc, rt, name)?;
+    if let Some(pass) = passes.first_mut() {
+        put_floors(rt, &node, pass, &floors)?;
+    }
     let jobs = jobs_of(alloc, passes, posts)?;
     begin_reception(rt, intake, boxed)?;
     let ends = work_all(rt, &node, jobs, &Open)?;

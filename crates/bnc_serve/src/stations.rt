@@ -14,9 +14,6 @@ use std::alloc::Global;
 use upstream_session as upstream;
 use upstream_session::Channels;
 
-// The most records or buffers of an answer.
-const MAXIMUM: u32 = 100;
-
 fn copies_of(alloc: Global, texts: &[Text]) -> Result<Vec<Text>, NoMemory>
     ensures { IfOk result (λ copies. copies.items ≡ texts.now) }
 {
@@ -110,7 +107,7 @@ pub(crate) fn station_of<X: Attachment>(
 ) -> Result<Station<X>, NoMemory>
     ensures lobby { IfOk result (λ station. station.lobby ≡ lobby) }
     ensures cluster { IfOk result (λ station. station.cluster ≡ config.now.name) }
-    ensures maximum { IfOk result (λ station. station.maximum ≡ MAXIMUM) }
+    ensures maximum { IfOk result (λ station. station.maximum ≡ config.now.maximum) }
     ensures directory { IfOk result (λ station. station.directory
         ≡ directory_of config.now.accounts.items config.now.networks.items) }
     ensures networks { IfOk result (λ station. station.networks.items
@@ -129,7 +126,7 @@ pub(crate) fn station_of<X: Attachment>(
     Ok(Station {
         lobby,
         cluster,
-        maximum: MAXIMUM,
+        maximum: config.maximum,
         directory,
         networks,
         terms,
