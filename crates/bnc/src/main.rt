@@ -222,7 +222,11 @@ fn main(rt: HostRuntime) -> ExitCode {
         Ok(None) => return exit(&rt, Ok(())),
         Err(end) => return exit(&rt, Err(end)),
     };
-    let Prepared { intake, posts } = match prepare(&rt, &config) {
+    let Prepared {
+        intake,
+        posts,
+        floors,
+    } = match prepare(&rt, &config) {
         Ok(prepared) => prepared,
         Err(fault) => return exit(&rt, Err(End::from(fault))),
     };
@@ -238,6 +242,6 @@ fn main(rt: HostRuntime) -> ExitCode {
         }
     };
     let name = Unnamed::new(config.limits.workers);
-    let run = run_node::<Brand, _, _, _, _>(&rt, intake, posts, name, boxed);
+    let run = run_node::<Brand, _, _, _, _>(&rt, intake, posts, floors, name, boxed);
     exit(&rt, end_of_run(run))
 }
