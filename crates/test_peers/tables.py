@@ -49,12 +49,20 @@ def kind(f):
     return f in (b"P", b"N")
 
 
+def tags(f):
+    """Client-only tags of distinct keys, each alone or with a value, in which five bytes are escaped."""
+    parts = f.split(b";")
+    keys = {part.split(b"=")[0] for part in parts}
+    return 1 <= len(f) <= 4094 and plain(f) and len(keys) == len(parts) and all(
+        re.fullmatch(rb"\+[^=]*(=([^\\]|\\[:s\\rn])+)?", part) for part in parts)
+
+
 def shared_word(f):
     return 1 <= len(f) <= 64 and plain(f)
 
 
 def version(f):
-    return f in (b"1", b"2")
+    return f in (b"1", b"2", b"3")
 
 
 moment = number(GREATEST_MOMENT)
@@ -72,32 +80,36 @@ CHANGES = {
     b"REDACT": BUFFER + [identity, lambda f: f == b"*" or moment(f)],
     b"MARK": BUFFER + [moment],
     b"FLOOR": BUFFER + [moment],
+    b"AFLOOR": [name, moment],
 }
-POST = BUFFER + [identity, moment, kind, target, identity]
+# the words before the body
+POSTS = {
+    b"POST": BUFFER + [identity, moment, kind, target, identity],
+    b"TPOST": BUFFER + [identity, moment, kind, tags, target, identity],
+}
 
 
 def fits(fields, shape):
     return len(fields) == len(shape) and all(test(f) for f, test in zip(fields, shape))
 
 
-def is_post(line):
-    parts = line.split(b" ", 10)
-    if len(parts) != 11 or parts[10][:1] != b":" or set(parts[10]) & set(b"\0\r\n"):
+def is_post(line, shape):
+    words = line.split(b" ", len(shape) + 2)[2:]
+    if not fits(words[:-1], shape) or words[-1][:1] != b":" or set(words[-1]) & set(b"\0\r\n"):
         return False
-    if not fits(parts[2:10], POST):
-        return False
-    command = {b"P": b"PRIVMSG", b"N": b"NOTICE"}[parts[7]]
-    return len(b":%s %s %s %s" % (parts[9], command, parts[8], parts[10])) <= LINE_LIMIT
+    command = {b"P": b"PRIVMSG", b"N": b"NOTICE"}[words[5]]
+    to, source, body = words[-3:]
+    return len(b":%s %s %s %s" % (source, command, to, body)) <= LINE_LIMIT
 
 
 def letter_of(line):
     """The first word of the line that is read, or `-`."""
     words = line.split(b" ")
     if words[0] == b"C":
-        if words[1:2] == [b"POST"]:
-            return "C" if is_post(line) else "-"
-        shape = CHANGES.get(words[1]) if len(words) > 1 else None
-        return "C" if shape and fits(words[2:], shape) else "-"
+        what = b"".join(words[1:2])
+        if what in POSTS:
+            return "C" if is_post(line, POSTS[what]) else "-"
+        return "C" if what in CHANGES and fits(words[2:], CHANGES[what]) else "-"
     shape = SHAPES.get(words[0])
     if shape is None or not fits(words[1:], shape):
         return "-"
@@ -118,8 +130,10 @@ PACKET = [
     b"C REDACT demo net #a m2 *",
     b"C MARK demo net #a 1001",
     b"C FLOOR demo net #a 999",
+    b"C TPOST demo net #a m3 0 P +0=\\:;+7 #a bob!b@h :hi",
+    b"C AFLOOR demo 999",
     b"A n2 3 n1 12 5",
-    b"H 2 n1 1",
+    b"H 3 n1 1",
 ]
 PUT = [0, 10, 13, 32, 255] + [ord(c) for c in "07zZ:*"]
 
@@ -149,6 +163,10 @@ def post(network="net", target="#a", id="m1", ms=1, to="#a", source="bob!b@h", b
     return f"C POST demo {network} {target} {id} {ms} P {to} {source} :{body}"
 
 
+def tagged(tags):
+    return f"C TPOST demo net #a m1 1 P {tags} #a bob!b@h :hi"
+
+
 def longest_body(source, to):
     return LINE_LIMIT - len(f":{source} PRIVMSG {to} :")
 
@@ -164,6 +182,7 @@ def limit_lines():
         yield f"A n1 1 {'n' * n} 1 0"
         yield f"C MARK {'d' * n} net #a 1"
         yield f"C MARK demo {'n' * n} #a 1"
+        yield f"C AFLOOR {'d' * n} 1"
     for n in (GREATEST, GREATEST + 1, 10 ** 20, 2 ** 128):
         yield f"H 1 n1 {n}"
         yield f"A n1 {n} n2 1 0"
@@ -182,6 +201,7 @@ def limit_lines():
     for n in (GREATEST_MOMENT, GREATEST_MOMENT + 1, GREATEST):
         yield f"C MARK demo net #a {n}"
         yield f"C FLOOR demo net #a {n}"
+        yield f"C AFLOOR demo {n}"
         yield f"C REDACT demo net #a m1 {n}"
         yield post(ms=n)
     for n in (200, 201):
@@ -192,21 +212,32 @@ def limit_lines():
         yield f"C REDACT demo net #a {'m' * n} 1"
         yield post(id="m" * n)
         yield post(source="s" * n)
+    for n in (4094, 4095):
+        yield tagged("+" + "x" * (n - 1))
+    for text in ("+", "+x=1;+y", "+x=\\:\\s\\\\\\r\\n", "+x==y", "+y=", "y=1", "+x;+x=1", "+x;", ";+x", "+x=\\",
+                 "+x=\\b", "", "+x +y"):
+        yield tagged(text)
     for source, to in (("bob!b@h", "#a"), ("s" * 255, "#" * 200)):
         for more in (0, 1):
             yield post(source=source, to=to, body="b" * (longest_body(source, to) + more))
-    for version_text in ("", "0", "1", "2", "3", "9", "00", "01", "02", "10", "11", "12", "20", "21", "22", "+1", "-1",
-                         "+2", "1.0", "2.", "0x2", "0b1", "*", "1_", "a", "n1", str(2 ** 8 + 1), str(2 ** 8 + 2),
-                         str(2 ** 32 + 1), str(2 ** 64 + 1), str(2 ** 64 + 2)):
+    for version_text in ("", "0", "1", "2", "3", "4", "9", "00", "01", "02", "03", "10", "11", "12", "13", "20", "21", "22",
+                         "30", "33", "+1", "-1", "+2", "+3", "1.0", "2.", "3.0", "0x2", "0x3", "0b1", "*", "1_", "a", "n1",
+                         str(2 ** 8 + 1), str(2 ** 8 + 3), str(2 ** 32 + 1), str(2 ** 32 + 3), str(2 ** 64 + 1),
+                         str(2 ** 64 + 3)):
         yield f"H {version_text} n1 1"
     for number in ("00", "01", "+1", "-1", "1.0", "0x1", "1_0", "1e1"):
         yield f"H 1 n1 {number}"
         yield f"C MARK demo net #a {number}"
+        yield f"C AFLOOR demo {number}"
         yield f"D n1 1 n2 1 0 2 {number}"
-    for other in ("", " ", "W", "W ", "H", "H 1", "H 2", "H 1 n1", "H 2 n1", "H n1 1", "H 1 n1 1 1", "H 2 n1 1 1", "H 1 2 n1 1", "h 1 n1 1", "D",
+    for other in ("", " ", "W", "W ", "H", "H 1", "H 3", "H 1 n1", "H 3 n1", "H n1 1", "H 1 n1 1 1", "H 3 n1 1 1", "H 1 3 n1 1", "h 1 n1 1", "D",
                   "D n1 1 n2 1 0 2", "D n1 1 n2 1 0 2 2 2", "A n1 1 n2 1", "A n1 1 n2 1 0 0", "C", "C POST", "C MARK",
                   "C PART demo net #a 1", "C mark demo net #a 1", "C MARK demo net #A 1", "C MARK demo net #a 1 ",
                   "C MARK demo net  1", "C REDACT demo net #a m1", "C REDACT demo net #a m1 **", "C FLOOR demo net * 1",
+                  "C AFLOOR", "C AFLOOR demo", "C AFLOOR demo ", "C AFLOOR  1", "C AFLOOR demo  1", "C AFLOOR demo 1 ",
+                  "C AFLOOR demo 1 2", "C AFLOOR demo net #a 1", "C AFLOOR Demo 1", "C AFLOOR de.mo 1", "C AFLOOR demo *",
+                  "C afloor demo 1", "C FLOOR demo 1", "C TPOST demo net #a m1 1 P #a bob!b@h :hi",
+                  "C POST demo net #a m1 1 P +x #a bob!b@h :hi",
                   "X n1 1", "WW green", "W\tgreen"):
         yield other
 
@@ -229,7 +260,7 @@ def head(count):
     return f"D n1 1 n2 1 0 300 {count}"
 
 
-HELLO, ACK, WORD = "H 2 n1 1", "A n2 1 n1 1 5", "W green"
+HELLO, ACK, WORD = "H 3 n1 1", "A n2 1 n1 1 5", "W green"
 
 CONNECTIONS = {
     "words, hellos and acknowledgements arrive by themselves": [WORD, HELLO, ACK, WORD],
@@ -239,7 +270,7 @@ CONNECTIONS = {
     "a head of 256 changes, and a hello behind it": [head(256), HELLO, MARK, head(1), MARK],
     "a head that is refused opens no packet": [head(257), MARK, head(1), MARK],
     "a head from where it ends opens no packet": ["D n1 1 n2 1 5 5 1", MARK, head(1), MARK],
-    "a packet of each kind of change": ["D n1 12 n2 3 0 5 5"] + PACKET_TEXTS[3:8] + PACKET_TEXTS[8:9] + [ACK],
+    "a packet of each kind of change": ["D n1 12 n2 3 0 8 8"] + PACKET_TEXTS[3:11] + [MARK, ACK],
     "two packets in turn": [head(2), MARK, MARK, head(1), MARK],
 }
 for word, line in (("word", WORD), ("hello", HELLO), ("head", head(1)), ("acknowledgement", ACK)):
@@ -289,7 +320,7 @@ class Node:
         self.missing, self.end = 0, None
 
     def greeting(self):
-        return [WORD, f"H 2 {self.me} 1"]
+        return [WORD, f"H 3 {self.me} 1"]
 
     def next_packet(self):
         if not self.is_known or not self.is_due or self.under_way is not None:

@@ -1,216 +1,21 @@
 #!/usr/bin/env python3
-"""Writes the files of rows in data/, each with the answers of a plain and slow model: it keeps every change that was taken,
-and says what they mean as the definitions of a history word it. The gate doesn't run it; it runs what it wrote.
+"""Writes the files of rows in data/, each with the answers of a plain and slow model (model.py). The gate doesn't run it; it
+runs what it wrote.
 
-    ./tables.py          writes data/looks, data/orders, data/long, data/short, data/steps, data/limits
+    ./tables.py          writes data/looks, data/orders, data/long, data/short, data/steps, data/limits, data/floors
 """
 
 import itertools
 import os
 import random
-from collections import namedtuple
+import sys
 
-LAST_NUMBER = 18446744073709551615
-LAST_MOMENT = 253402300799999
-DAY = 86400000
-PACKET = 256
+sys.dont_write_bytecode = True
 
-# A buffer is (account, network, target). A moment is in milliseconds since 1970 began.
-Post = namedtuple("Post", "buffer id at letter source target body")
-Redact = namedtuple("Redact", "buffer id at")
-Mark = namedtuple("Mark", "buffer at")
-Floor = namedtuple("Floor", "buffer at")
-
-
-def net(target):
-    return ("demo", "net", target)
-
-
-def message(target, id, at, body, letter="P", source="bob!b@h", to=None):
-    return Post(net(target), id, at, letter, source, target if to is None else to, body)
-
-
-def redact(target, id, at=None):
-    return Redact(net(target), id, at)
-
-
-def mark(target, at):
-    return Mark(net(target), at)
-
-
-def floor(target, at):
-    return Floor(net(target), at)
-
-
-def line_of(change):
-    """The line that spells a change."""
-    account, network, target = change.buffer
-    names = f"{account} {network} {target}"
-    if isinstance(change, Post):
-        c = change
-        return f"C POST {names} {c.id} {c.at} {c.letter} {c.target} {c.source} :{c.body}"
-    if isinstance(change, Redact):
-        return f"C REDACT {names} {change.id} {'*' if change.at is None else change.at}"
-    return f"C {'MARK' if isinstance(change, Mark) else 'FLOOR'} {names} {change.at}"
-
-
-def key_of(change):
-    """What a change speaks of: a floor, a marker, or a message."""
-    if isinstance(change, Floor):
-        return (change.buffer, "floor", "")
-    if isinstance(change, Mark):
-        return (change.buffer, "marker", "")
-    return (change.buffer, "message", change.id)
-
-
-def greatest(moments):
-    return max(moments) if moments else None
-
-
-# ---- what a set of changes means, a list of which only membership counts
-
-
-def floor_of(changes, buffer):
-    """The greatest floor that was set for a buffer, or 0."""
-    return max([c.at for c in changes if isinstance(c, Floor) and c.buffer == buffer], default=0)
-
-
-def marker_of(changes, buffer):
-    return greatest([c.at for c in changes if isinstance(c, Mark) and c.buffer == buffer])
-
-
-def is_gone(changes, buffer, id):
-    return any(isinstance(c, Redact) and (c.buffer, c.id) == (buffer, id) for c in changes)
-
-
-def position_of(changes, buffer, id):
-    """The greatest moment at or above the floor that posts of a message have or redactions of it name."""
-    least = floor_of(changes, buffer)
-    named = [c.at for c in changes if key_of(c) == (buffer, "message", id)]
-    return greatest([at for at in named if at is not None and at >= least])
-
-
-def goes_before(one, other):
-    """Whether a post is kept over another of its message: the later one, and of one moment the one with the smaller letter,
-    source, target and body, compared byte by byte in this order."""
-    if one.at != other.at:
-        return one.at > other.at
-    parts = lambda post: [t.encode() for t in (post.letter, post.source, post.target, post.body)]
-    return parts(one) < parts(other)
-
-
-def kept_of(changes, buffer, id):
-    """Of the posts of a message at or above the floor the one before which no other goes."""
-    least = floor_of(changes, buffer)
-    posts = [c for c in changes if isinstance(c, Post) and (c.buffer, c.id) == (buffer, id)]
-    posts = [p for p in posts if p.at >= least]
-    first = [p for p in posts if not any(goes_before(q, p) for q in posts)]
-    return first[0] if first else None
-
-
-def piece_of(changes, key):
-    """The one change that stands for all those of a key, if any does."""
-    buffer, kind, id = key
-    if kind == "floor":
-        at = floor_of(changes, buffer)
-        return Floor(buffer, at) if at > 0 else None
-    if kind == "marker":
-        at = marker_of(changes, buffer)
-        return None if at is None else Mark(buffer, at)
-    if is_gone(changes, buffer, id):
-        return Redact(buffer, id, position_of(changes, buffer, id))
-    return kept_of(changes, buffer, id)
-
-
-def normal_form(changes):
-    """The piece of each key."""
-    pieces = {key: piece_of(changes, key) for key in {key_of(c) for c in changes}}
-    return {key: piece for key, piece in pieces.items() if piece is not None}
-
-
-class Model:
-    """The changes that were taken, buffer by buffer, and the front and the numbers that came of them. A change says nothing
-    of other buffers than its own, so that only those of its buffer are looked through."""
-
-    def __init__(self, start=0):
-        self.front = start
-        self.taken = {}
-        self.forms = {}
-        self.numbers = {}
-
-    def copy(self):
-        other = Model(self.front)
-        other.taken = {buffer: list(changes) for buffer, changes in self.taken.items()}
-        other.forms = {buffer: dict(form) for buffer, form in self.forms.items()}
-        other.numbers = dict(self.numbers)
-        return other
-
-    def absorb(self, change):
-        """`+` where the change changes the normal form, and the front is one more; else `-`; `!` where it would and no
-        number is left."""
-        before = self.forms.get(change.buffer, {})
-        changes = self.taken.get(change.buffer, []) + [change]
-        form = normal_form(changes)
-        if form == before:
-            self.taken[change.buffer] = changes
-            return "-"
-        if self.front == LAST_NUMBER:
-            return "!"
-        self.front += 1
-        self.taken[change.buffer] = changes
-        self.forms[change.buffer] = form
-        self.numbers[key_of(change)] = self.front
-        return "+"
-
-    def take(self, changes):
-        """What refuses them, if anything does."""
-        for count, change in enumerate(changes):
-            if self.absorb(change) == "!":
-                return f"{count} changes were taken, and then: no number is left"
-        return ""
-
-    def merge(self, other):
-        return self.take([change for _, change in other.pieces()])
-
-    # ---- what is asked
-
-    def changes(self, buffer):
-        return self.taken.get(buffer, [])
-
-    def visible(self, buffer):
-        """The kept records of a buffer that weren't redacted, by (moment, id)."""
-        posts = [p for p in self.forms.get(buffer, {}).values() if isinstance(p, Post)]
-        return sorted(posts, key=lambda p: (p.at, p.id.encode()))
-
-    def pieces(self):
-        """The pieces by rising number: the number of a key is the front after its last change that counted."""
-        held = [(self.numbers[key], piece) for form in self.forms.values() for key, piece in form.items()]
-        return sorted(held, key=lambda entry: entry[0])
-
-    def newer(self, start, limit):
-        return [entry for entry in self.pieces() if entry[0] > start][:limit]
-
-    def delta(self, start):
-        above = self.newer(start, LAST_NUMBER)
-        end = above[PACKET - 1][0] if len(above) > PACKET else max(start, self.front)
-        return start, end, [change for _, change in above[:PACKET]]
-
-    def buffers(self, is_wanted):
-        """The buffers of which a record passes a test, in their order."""
-        found = {p.buffer for buffer in self.forms for p in self.visible(buffer) if is_wanted(p)}
-        return sorted(found, key=lambda buffer: [text.encode() for text in buffer])
-
-    def latest(self, account, network):
-        wanted = self.buffers(lambda post: post.buffer[:2] == (account, network))
-        return [(buffer[2], self.visible(buffer)[-1].at) for buffer in wanted]
-
-    def due(self, now, days):
-        """A floor so many days ago for each buffer that holds an older record."""
-        at = now - days * DAY
-        if days == 0 or at < 0:
-            return []
-        return [Floor(buffer, at) for buffer in self.buffers(lambda post: post.at < at)]
-
+from model import (
+    DAY, LAST_MOMENT, LAST_NUMBER, PACKET, Model, Post, account_floor, floor, floor_of, is_gone, line_of,
+    mark, marker_of, message, net, position_of, redact,
+)
 
 # ---- rows
 
@@ -648,11 +453,11 @@ def in_merge(case, draw, numbers):
     case.look()
 
 
-def random_orders(seed, count):
+def random_orders(seed, count, drawn=drawn_change):
     """In turn, looked at after each tenth; and three times in other orders, in groups and merged."""
     draw = random.Random(seed)
     case = Case(f"seed {seed}", CHANNELS, IDS)
-    numbers = case.learn([drawn_change(draw) for _ in range(count)])
+    numbers = case.learn([drawn(draw) for _ in range(count)])
     for i in range(0, count, 10):
         case.absorb(numbers[i:i + 10])
         case.look()
@@ -665,11 +470,11 @@ def random_orders(seed, count):
 CUT_MOMENTS = [0, 1, 2, 998, 999, 1000, 1001, 2000, 2001, 2002, LAST_MOMENT]
 
 
-def random_steps(seed, count):
+def random_steps(seed, count, drawn=drawn_change):
     """Numbers, deltas and walks after each step."""
     draw = random.Random(seed)
     case = Case(f"seed {seed}", CHANNELS, IDS, cuts_at(CUT_MOMENTS, IDS))
-    for number in case.learn([drawn_change(draw) for _ in range(count)]):
+    for number in case.learn([drawn(draw) for _ in range(count)]):
         case.absorb([number])
         case.all()
         case.latest("demo", "ne")
@@ -793,6 +598,236 @@ def limits():
             last_number_of_a_merge()]
 
 
+# ---- floors of accounts
+
+
+def elsewhere(account, network, id, at):
+    return Post((account, network, "#a"), id, at, "P", "al", "#a", "")
+
+
+def step_by_step(case, steps):
+    """Takes changes one by one, with every look-up after each."""
+    for number in case.learn(steps):
+        case.absorb([number])
+        case.newer(0, 300)
+        case.all()
+
+
+def floors_among_posts():
+    """Floors of an account before, between and after posts, redactions, markers and own floors of its buffers, and those of
+    other networks and accounts."""
+    ids = ["m1", "m2", "m3", "m9"]
+    case = Case("a floor of an account holds in all of its buffers", ["#a", "#b", "#c", "#d"], ids, cuts_at([1500], ["m2"]))
+    step_by_step(case, [
+        account_floor(900), message("#a", "m1", 899, "hi"), message("#a", "m1", 900, "hi"), message("#a", "m2", 1500, "hi"),
+        message("#b", "m1", 1499, "hi"), message("#b", "m2", 2000, "hi"), message("#c", "m3", 1000, "hi"),
+        redact("#b", "m9", 1200), redact("#a", "m2", 1700), mark("#a", 100), mark("#c", 0), floor("#d", 1400),
+        elsewhere("demo", "two", "m1", 1499), elsewhere("demo", "two", "m2", 1500), elsewhere("dem", "net", "m1", 1000),
+        elsewhere("demos", "net", "m1", 1000), elsewhere("demos", "net", "m2", 2000), account_floor(1500),
+        message("#a", "m3", 1499, "late"), message("#b", "m3", 1500, "late"), message("#d", "m1", 1499, "late"),
+        redact("#c", "m9", 1499), redact("#c", "m9", 1500), account_floor(1001, "demos"), account_floor(1, "none"),
+        account_floor(1499), account_floor(1700), account_floor(1701), floor("#d", 1702), mark("#d", 1)])
+    for account, network in [("demo", "net"), ("demo", "two"), ("dem", "net"), ("demos", "net"), ("none", "net")]:
+        case.latest(account, network)
+    for start in range(6, 24, 4):
+        case.delta(start)
+    return case
+
+
+def own_floors():
+    """Below, at and above the floor of the account, before it and after it."""
+    channels = ["#a", "#b", "#c"]
+    case = Case("an own floor counts where it is above its account's", channels, ["m1", "m2"])
+    posts = [message(target, id, at, "hi") for target in channels for id, at in [("m1", 1500), ("m2", 1501)]]
+    step_by_step(case, [
+        floor("#a", 1499), floor("#b", 1500), floor("#c", 1501), *posts, account_floor(1500), floor("#a", 1499),
+        floor("#b", 1500), floor("#c", 1501), floor("#a", 1501), account_floor(1501), floor("#c", 1501), floor("#b", 1502),
+        account_floor(1501), account_floor(1500), floor("#b", 1503), account_floor(1503)])
+    return case
+
+
+def either_floor_first():
+    """An own floor that the account's reaches is no piece, and counts where it came first."""
+    case = Case("two floors make one normal form in either order", ["#a", "#b"], ["m1", "m2"])
+    a, b, account, own = case.learn([message("#a", "m1", 1000, "a"), message("#b", "m2", 2000, "b"), account_floor(1500),
+                                     floor("#a", 1200)])
+    for turn in [(a, b, account, own), (a, b, own, account), (account, own, a, b), (own, account, b, a)]:
+        case.new()
+        case.absorb(turn)
+        case.all()
+        case.newer(0, LAST_NUMBER)
+        for start in range(6):
+            case.delta(start)
+    return case
+
+
+def floors_at_both_ends():
+    """A floor of 0 says nothing, and at the greatest moment nothing below it is left."""
+    case = Case("floors of an account at 0 and at the greatest moment", ["#a", "#b"], ["m1", "m2", "m3"])
+    step_by_step(case, [
+        account_floor(0), floor("#a", 0), message("#a", "m1", 0, "a"), account_floor(0), floor("#b", 1),
+        message("#b", "m1", LAST_MOMENT, "b"), message("#b", "m2", LAST_MOMENT - 1, "c"), redact("#a", "m2", LAST_MOMENT),
+        redact("#a", "m3", LAST_MOMENT - 1), floor("#a", LAST_MOMENT - 1), account_floor(1), account_floor(LAST_MOMENT),
+        floor("#b", LAST_MOMENT), message("#a", "m1", LAST_MOMENT - 1, "d"), message("#a", "m1", LAST_MOMENT, "e")])
+    return case
+
+
+def redactions_and_two_floors():
+    """The place of a redacted message is at or above both floors, and neither gives its redaction another number."""
+    ids = ["m1", "m2", "m3"]
+    case = Case("a redaction forgets a moment below either floor", ["#a", "#b"], ids)
+    redactions = [redact(target, id, at) for target in ("#a", "#b") for id, at in [("m1", 1300), ("m2", 1600), ("m3", None)]]
+    posts = [message(target, "m3", 1400, "hi") for target in ("#a", "#b")]
+    step_by_step(case, [
+        *redactions, *posts, account_floor(1200), floor("#a", 1350), account_floor(1350), redact("#b", "m1", 1349),
+        redact("#b", "m1", 1350), floor("#b", 1500), account_floor(1450), message("#b", "m3", 1499, "hi"),
+        message("#a", "m3", 1499, "hi"), account_floor(1601)])
+    return case
+
+
+def merges_with_account_floors():
+    case = Case("states with floors of an account merge to the same either way", ["#a", "#b"], ["m1", "m2", "m3"])
+    a, b, c, account, below, above, higher, gone = case.learn([
+        message("#a", "m1", 1000, "a"), message("#b", "m2", 2000, "b"), message("#b", "m3", 1600, "c"), account_floor(1500),
+        floor("#a", 1200), floor("#b", 1700), account_floor(1700), redact("#a", "m2", 1550)])
+    pairs = [([a, below, b], [account]), ([account, b, c], [above, a, gone]), ([account, above], [higher, c]),
+             ([a, b, c, gone], [higher]), ([below, account], [account, below])]
+    for one, other in pairs + [(other, one) for one, other in pairs]:
+        case.new()
+        case.take(other)
+        case.swap()
+        case.new()
+        case.take(one)
+        case.merge()
+        case.all()
+        # whichever takes the other once more has all of it
+        case.merge()
+        case.front()
+        case.swap()
+        case.merge()
+        case.all()
+    return case
+
+
+def copies_with_account_floors():
+    case = Case("a copy has the floors of accounts as they were", ["#a", "#b"], ["m1", "m2"])
+    case.take(case.learn([account_floor(500), floor("#b", 700), message("#a", "m1", 600, "a"), message("#b", "m2", 1000, "b")]))
+    case.copy()
+    later = case.learn([account_floor(800), message("#a", "m1", 600, "a"), floor("#b", 750)])
+    case.absorb(later)
+    case.all()
+    case.swap()
+    case.all()
+    case.absorb(later)
+    case.all()
+    return case
+
+
+def due_beside_account_floors():
+    """Floors are due for buffers that hold an older record, and a floor of the account may have left none."""
+    now = DAY + 2000
+    case = Case("floors are due beside a floor of an account", ["#a", "#b", "#c"], ["m1", "m2"])
+    case.take(case.learn([message("#a", "m1", 1000, "a"), message("#b", "m1", 1800, "b"), message("#c", "m1", 2000, "c"),
+                          elsewhere("demos", "net", "m1", 1), account_floor(1500)]))
+    for at in (DAY + 1499, DAY + 1500, DAY + 1800, DAY + 1801):
+        case.due(at, 1)
+    case.absorb(case.learn(case.due(now, 1)))
+    case.all()
+    case.due(now, 1)
+    case.absorb(case.learn([account_floor(2000)]))
+    case.all()
+    case.due(now + 1, 1)
+    case.absorb(case.learn([account_floor(2001)]))
+    case.due(now + 1, 1)
+    case.all()
+    return case
+
+
+def last_number_of_account_floors():
+    case = Case("a floor of an account is taken up to the last number", CHANNELS, IDS)
+    none, account, own, post = case.learn([account_floor(0), account_floor(5), floor("#a", 4), message("#a", "m1", 4, "a")])
+    case.new(LAST_NUMBER)
+    case.absorb([none, account, none])
+    case.look()
+    case.take([none, account])
+    case.new(LAST_NUMBER - 2)
+    # the floor of the account takes the own one and the post away where a number is left, and neither where none is
+    case.absorb([post, own, none, account])
+    case.look()
+    case.newer(0, 300)
+    case.new(LAST_NUMBER - 3)
+    case.absorb([post, own, account, own, post, account, none])
+    case.look()
+    case.newer(0, 300)
+    for start in (LAST_NUMBER - 3, LAST_NUMBER - 1, LAST_NUMBER):
+        case.delta(start)
+    case.absorb(case.learn([account_floor(6)]))
+    case.look()
+    case.swap()
+    case.new(LAST_NUMBER)
+    case.merge()
+    case.swap()
+    case.merge()
+    return case
+
+
+def floor_of_many_buffers():
+    """A floor takes half of 520 messages away, from 130 buffers, so that 260 pieces and the floor are left."""
+    case = Case("a floor of an account of many buffers", ["#0", "#1", "#129", "#130"], ["m1", "m4"])
+    posts = case.learn([message(f"#{n % 130}", f"m{n // 130}", n // 130, "", source="b", to="#a") for n in range(520)])
+    case.take(posts)
+    case.absorb(case.learn([account_floor(2)]))
+    case.look()
+    case.newer(515, 300)
+    for start in (0, 519):
+        case.delta(start)
+    return case
+
+
+ACCOUNT_SETS = [
+    ("an own floor below its account's, and a redaction between the two", [
+        account_floor(1500), floor("#a", 1200), message("#a", "m1", 1400, "a"), message("#b", "m2", 2000, "b"),
+        redact("#a", "m1", 1300)]),
+    ("an own floor above its account's, and redactions in and beside its buffer", [
+        account_floor(1200), floor("#a", 1500), message("#a", "m1", 1600, "a"), redact("#a", "m1", 1300),
+        redact("#b", "m1", 1300)]),
+    ("an own floor above its account's, and posts between the two", [
+        account_floor(1200), floor("#a", 1500), message("#a", "m1", 1400, "a"), message("#b", "m2", 1400, "b"),
+        redact("#b", "m2", 1300)]),
+    ("an own floor at its account's", [
+        account_floor(1500), floor("#b", 1500), message("#b", "m1", 1500, "a"), message("#a", "m2", 1499, "b"),
+        redact("#b", "m10", 1500)]),
+    ("two floors of an account, and an own one between them", [
+        account_floor(1000), account_floor(2000), floor("#b", 1500), message("#a", "m1", 1500, "a"), redact("#b", "m2", 1700)]),
+]
+
+
+def drawn_of_accounts(draw):
+    """As `drawn_change`, with more floors, those of accounts among them, and with buffers of other networks and accounts."""
+    case = draw.randrange(20)
+    if case <= 1:
+        return account_floor(draw.choice(FLOORS + [2000]), draw.choice(["demo", "demo", "demo", "demos"]))
+    if case <= 3:
+        return floor(draw.choice(CHANNELS), draw.choice(FLOORS + [1001, 2000]))
+    if case == 4:
+        return redact(draw.choice(CHANNELS), draw.choice(IDS), draw.choice(MOMENTS))
+    change = drawn_change(draw)
+    if case <= 6:
+        return change._replace(buffer=draw.choice([("demos", "net", "#a"), ("demo", "two", "#b")]))
+    return change
+
+
+def floors():
+    return [
+        floors_among_posts(), own_floors(), either_floor_first(), floors_at_both_ends(), redactions_and_two_floors(),
+        merges_with_account_floors(), copies_with_account_floors(), due_beside_account_floors(),
+        last_number_of_account_floors(), floor_of_many_buffers(),
+        *(every_order(name, changes) for name, changes in ACCOUNT_SETS),
+        *(random_orders(seed, 30, drawn_of_accounts) for seed in range(301, 313)),
+        *(random_steps(seed, 25, drawn_of_accounts) for seed in range(401, 403)),
+    ]
+
+
 def main():
     files = {
         "looks": looks(),
@@ -801,6 +836,7 @@ def main():
         "short": [random_orders(seed, 20) for seed in range(101, 151)],
         "steps": [random_steps(seed, 40) for seed in range(201, 213)],
         "limits": limits(),
+        "floors": floors(),
     }
     here = os.path.dirname(os.path.abspath(__file__))
     for name, cases in files.items():

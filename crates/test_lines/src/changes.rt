@@ -1,7 +1,7 @@
 //! Changes, as their lines spell them, and deltas of many.
 use crate::spelling::tell_words;
 use anyhow::Error;
-use chat_change::{Buffer, Change, goes_before};
+use chat_change::{Buffer, Change, Extent, goes_before};
 use chat_state::State;
 use gossip_delta::{Delta, delta_since, read_change, read_change_in, write_change};
 use std::alloc::Global;
@@ -40,7 +40,11 @@ fn tell_keys(one: &Change, other: &Change, out: &mut Vec<u8>) -> Result<(), Erro
         b"other than in "
     };
     out.extend_from_slice(words)?;
-    Ok(out.extend_from_slice(one.key().buffer().target())?)
+    let place = match one.key().extent() {
+        Extent::Account(account) => account.name(),
+        Extent::Buffer(buffer) => buffer.target(),
+    };
+    Ok(out.extend_from_slice(place)?)
 }
 
 /// Whether the first of two posts goes before the other, which is of the same message.

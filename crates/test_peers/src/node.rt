@@ -34,8 +34,8 @@ fn peer_of(alloc: Global, name: &[u8], version: Version) -> Result<PeerTerms, Li
 // The terms of a node with three peers, itself among them. n3 is told version 1.
 fn terms_of(alloc: Global, me: &[u8], incarnation: u64) -> Result<Terms, Error> {
     let mut peers = Vec::new(alloc);
-    peers.push(peer_of(alloc, b"n1", Version::Two)?)?;
-    peers.push(peer_of(alloc, b"n2", Version::Two)?)?;
+    peers.push(peer_of(alloc, b"n1", Version::OWN)?)?;
+    peers.push(peer_of(alloc, b"n2", Version::OWN)?)?;
     peers.push(peer_of(alloc, b"n3", Version::One)?)?;
     let word = SharedWord::new(alloc, b"green")?;
     Ok(Terms::new(word, life_of(alloc, me, incarnation)?, peers))

@@ -1,11 +1,12 @@
 //! Sessions of clients, played line by line. The setting of a case is of two words:
 //!
-//!     == new|member|bare up|down|redact|redact-down|channel|renamed|nowhere: name of the case
+//!     == new|wide|member|bare up|down|redact|redact-down|channel|renamed|nowhere: name of the case
 //!     lines of the client
 //!     --
 //!     lines that the client gets, and `put`, `ask`, `up` and `close` with what they carry
 //!
-//! A session is new, or registered with all capabilities (`member`) or none (`bare`). Its network is up or down; its server
+//! A session is new, with pages of 100 messages or, where it is `wide`, of 1,000, or registered with all capabilities
+//! (`member`) or none (`bare`). Its network is up or down; its server
 //! may take REDACT, it may be in the channel #a, its nick may be `bo` in place of `al`, or the directory may have no account
 //! at all.
 //!
@@ -81,6 +82,7 @@ fn session_of(alloc: Global, word: &str) -> Result<Session, Error> {
     let caps = match word {
         "member" => CapSet::all(),
         "bare" => CapSet::none(),
+        "wide" => return Ok(Session::new(alloc, b"~", 1000)?),
         _ => return Ok(Session::new(alloc, b"~", 100)?),
     };
     Ok(Session::registered(facts_of(alloc, b"demo", b"~", caps, 1)?))

@@ -34,6 +34,7 @@ fn tell_top(out: &mut Vec<u8>, config: &Config) -> Result<(), Error> {
         "bound {}\nretain_days {}\n",
         limits.bound, limits.retain_days
     )?;
+    write!(out, "maximum {}\n", config.maximum)?;
     Ok(())
 }
 
@@ -47,10 +48,18 @@ fn tell_peer(out: &mut Vec<u8>, peer: &Peer) -> Result<(), Error> {
     Ok(())
 }
 
-fn tell_account(out: &mut Vec<u8>, account: &Account) -> Result<(), AllocError> {
+// An account, and from which milliseconds on it is kept.
+fn tell_account(out: &mut Vec<u8>, account: &Account) -> Result<(), Error> {
     out.extend_from_slice(b"account ")?;
     out.extend_from_slice(account.name.as_bytes())?;
-    tell_row(out, b" ", account.secret.as_bytes())
+    tell_row(out, b" ", account.secret.as_bytes())?;
+    out.extend_from_slice(b"keep_from ")?;
+    out.extend_from_slice(account.name.as_bytes())?;
+    match account.keep_from {
+        Some(time) => write!(out, " {}\n", time.ms())?,
+        None => tell_row(out, b" ", b"missing")?,
+    }
+    Ok(())
 }
 
 fn tell_network(out: &mut Vec<u8>, network: &Network) -> Result<(), Error> {

@@ -1,7 +1,7 @@
 //! Plays files of cases and compares what each case comes to with what it is to come to: sessions of clients (`client`),
 //! sessions with servers (`upstream`), and configurations (`config`). The words name the files; the part of a file's name in
 //! front of the first `_` says how its cases are played ([`cases`] has the forms). Then it tells the answers of each set of
-//! capabilities (`capabilities`), the faults of the crates in words and what the operator reads (`words`).
+//! capabilities (`capabilities`), pages of a long conversation (`pages`), the faults of the crates in words and what the operator reads (`words`).
 //!
 //! It stands on `client_session`, `upstream_session`, `chat_batch`, `node_config` and the crates whose faults it tells. Read
 //! `play_file` first.
@@ -13,6 +13,7 @@ mod client;
 mod config;
 mod facts;
 mod hearers;
+mod pages;
 mod telling;
 mod upstream;
 mod words;
@@ -92,6 +93,8 @@ fn main(rt: HostRuntime) -> Result<(), Error> {
     }
     let answers = capabilities::told(rt.alloc())?;
     tell(&rt, answers.as_bytes())?;
+    let pages = pages::told(rt.alloc())?;
+    tell(&rt, pages.as_bytes())?;
     let words = words::told(rt.alloc())?;
     tell(&rt, &words)?;
     Ok(())

@@ -1,6 +1,6 @@
 //! The faults of the crates in words, and what the operator reads: each event as a line, and each reason.
 use anyhow::Error;
-use bnc_ports::{Event, EventLine, Reason};
+use bnc_ports::{Event, Reason};
 use bnc_server::ReplayFault;
 use chat_batch::AnswerFault;
 use chat_change::{ChangeFault, Moment};
@@ -125,12 +125,8 @@ fn address_of(text: &str) -> Option<SocketAddr> {
 }
 
 fn tell_events(out: &mut Vec<u8>, events: &[Event<'_>]) -> io::Result<()> {
-    let Some(moment) = Moment::from_ms(1_795_401_600_007) else {
-        return Ok(());
-    };
     for event in events {
-        let event = *event;
-        write!(out, "{}\n", EventLine { moment, event })?;
+        write!(out, "2026-11-23T02:40:00.007Z {}\n", event)?;
     }
     Ok(())
 }
@@ -145,6 +141,27 @@ fn tell_listening(out: &mut Vec<u8>) -> io::Result<()> {
     tell_events(
         out,
         &[Event::Listening { clients, peers }, Event::AcceptFailed],
+    )
+}
+
+fn tell_floors(out: &mut Vec<u8>) -> io::Result<()> {
+    let Some(at) = Moment::from_ms(1_767_225_600_000) else {
+        return Ok(());
+    };
+    tell_events(
+        out,
+        &[
+            Event::FloorPut {
+                account: ACCOUNT,
+                at,
+                is_ahead: false,
+            },
+            Event::FloorPut {
+                account: ACCOUNT,
+                at,
+                is_ahead: true,
+            },
+        ],
     )
 }
 
@@ -214,6 +231,7 @@ pub fn told(alloc: Global) -> Result<Vec<u8>, Error> {
     tell_faults_of_peers(&mut out)?;
     tell_faults_of_nodes(&mut out)?;
     tell_listening(&mut out)?;
+    tell_floors(&mut out)?;
     tell_clients(&mut out)?;
     tell_servers(&mut out)?;
     for reason in REASONS {

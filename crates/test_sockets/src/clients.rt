@@ -90,7 +90,14 @@ fn one_after_another<R: Net<Stream = TcpStream> + Clock>(
 fn the_next_client_has_the_place_of_one_that_left(rt: HostRuntime) {
     let (listener, network) = listener(&rt);
     let is_over = Arc::new(rt.alloc(), AtomicBool::new(false)).expect(&rt, "memory");
-    let (Prepared { intake, posts }, address) = node(&rt, network);
+    let (
+        Prepared {
+            intake,
+            posts,
+            floors,
+        },
+        address,
+    ) = node(&rt, network);
     let posts = until_told(&rt, posts, &is_over);
     let talk = move || {
         let talked = one_after_another(&rt, &listener, address);
@@ -103,6 +110,7 @@ fn the_next_client_has_the_place_of_one_that_left(rt: HostRuntime) {
         &rt,
         intake,
         posts,
+        floors,
         name,
         |client| Some(client),
     ).expect(&rt, "a node");

@@ -3,7 +3,7 @@ ghost use Rattle.std.specs.Prelude.{◌<◌};
 
 use irc_line::{Feeder, Line, Next, TagLimit, read_line};
 use std::alloc::Global;
-use std::time::Instant;
+use std::time::{Duration, Instant};
 
 /// A line of 100 bytes with its ending.
 const LINE: &[u8] =
@@ -71,7 +71,7 @@ pub fn read_lines(
     alloc: Global,
     size: u64,
     count: u64,
-) -> Option<(Instant, u64)> {
+) -> Option<(Duration, u64)> {
     let size = usize::try_from(size).unwrap_or(1).max(1);
     let block = block(alloc)?;
     let mut feeder = Feeder::new(alloc).ok()?;
@@ -80,5 +80,5 @@ pub fn read_lines(
     for _ in 0..count {
         total = total.wrapping_add(feed_block(&mut feeder, &block, size));
     }
-    Some((start, total))
+    Some((start.elapsed(rt).ok()?, total))
 }

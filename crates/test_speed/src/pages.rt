@@ -5,7 +5,7 @@ use chat_batch::{Facts, answer};
 use irc_caps::CapSet;
 use irc_line::{TagLimit, read_line};
 use std::alloc::Global;
-use std::time::Instant;
+use std::time::{Duration, Instant};
 
 /// How many messages a page has.
 const PAGE: u64 = 100;
@@ -89,16 +89,16 @@ fn answer_all(bench: &Bench, facts: &Facts, is_latest: bool, held: u64, count: u
     Some(total)
 }
 
-/// The same, and when that began.
+/// The same, and how long that took.
 pub fn answer_questions(
     rt: &HostRuntime,
     bench: &Bench,
     is_latest: bool,
     held: u64,
     count: u64,
-) -> Option<(Instant, u64)> {
+) -> Option<(Duration, u64)> {
     let facts = facts(bench.alloc)?;
     let start = Instant::now(rt).ok()?;
     let total = answer_all(bench, &facts, is_latest, held, count)?;
-    Some((start, total))
+    Some((start.elapsed(rt).ok()?, total))
 }

@@ -2,7 +2,7 @@
 use chat_change::{Buffer, Change, Kind, Message, Moment, MsgId, Record};
 use chat_state::State;
 use std::alloc::Global;
-use std::time::Instant;
+use std::time::{Duration, Instant};
 
 /// A body of 40 bytes.
 const BODY: &[u8] = b"a body of forty bytes, as many lines are";
@@ -58,7 +58,7 @@ fn record(alloc: Global, buffer: &Buffer, id: MsgId, number: u64, order: Order) 
 }
 
 /// The message of a number.
-fn post(alloc: Global, buffer: &Buffer, number: u64, order: Order) -> Option<Change> {
+pub fn post(alloc: Global, buffer: &Buffer, number: u64, order: Order) -> Option<Change> {
     let id = id(alloc, number)?;
     let record = record(alloc, buffer, id, number, order)?;
     Some(Change::Post(record))
@@ -123,7 +123,7 @@ pub fn absorb_posts(
     held: u64,
     count: u64,
     order: Order,
-) -> Option<(Instant, u64)> {
+) -> Option<(Duration, u64)> {
     let posts = bench.posts(held, count, order)?;
     let start = Instant::now(rt).ok()?;
     let mut taken = 0u64;
@@ -132,7 +132,7 @@ pub fn absorb_posts(
             taken = taken.wrapping_add(1);
         }
     }
-    Some((start, taken))
+    Some((start.elapsed(rt).ok()?, taken))
 }
 
 /// The changes above a number, as a delta has them.
@@ -152,7 +152,7 @@ pub fn make_deltas(
     bench: &Bench,
     held: u64,
     count: u64,
-) -> Option<(Instant, u64)> {
+) -> Option<(Duration, u64)> {
     let from = held.saturating_sub(DELTA_LIMIT as u64);
     let start = Instant::now(rt).ok()?;
     let mut total = 0u64;
@@ -160,5 +160,5 @@ pub fn make_deltas(
         let changes = newer_changes(bench, from)?;
         total = total.wrapping_add(changes.len() as u64);
     }
-    Some((start, total))
+    Some((start.elapsed(rt).ok()?, total))
 }
