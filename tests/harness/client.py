@@ -6,11 +6,12 @@ from harness.failure import Failed
 LOGIN = ("NICK al", "USER demo/net 0 * :Al")
 
 
-def greeting(nick="al", network="net"):
-    """What a session is told once it is registered."""
+def greeting(nick="al", network="net", maximum=100):
+    """What a session is told once it is registered, by a node whose pages have so many messages at most."""
     return (
         f":bnc.example 001 {nick} :Welcome to {network}",
-        f":bnc.example 005 {nick} CASEMAPPING=ascii CHATHISTORY=100 MSGREFTYPES=msgid,timestamp :are supported by this server",
+        f":bnc.example 005 {nick} CASEMAPPING=ascii CHATHISTORY={maximum} MSGREFTYPES=msgid,timestamp "
+        ":are supported by this server",
         f":bnc.example 422 {nick} :MOTD File is missing",
     )
 
@@ -31,13 +32,13 @@ class Client(Connection):
         super().__init__(fixture, connect(fixture, address, room), name)
         self.address = self.socket.getsockname()
 
-    def register(self, capabilities="", nick="al", channels=(), network="net"):
+    def register(self, capabilities="", nick="al", channels=(), network="net", maximum=100):
         """Registers, and hears the whole greeting and nothing else. The nick is the one that the network has."""
         if capabilities:
             self.say(f"CAP REQ :{capabilities}")
             self.hear(f":bnc.example CAP * ACK :{capabilities}")
         self.say("PASS s3cret", "NICK al", f"USER demo/{network} 0 * :Al", *(["CAP END"] if capabilities else []))
-        self.hear(*greeting(nick, network))
+        self.hear(*greeting(nick, network, maximum))
         for channel in channels:
             self.hear(f":{nick} JOIN {channel}")
             if "draft/read-marker" in capabilities:

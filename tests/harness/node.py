@@ -44,13 +44,21 @@ class Node:
             "name": self.cluster, "node": self.name, "listen": spelled(self.clients),
             "peer_listen": spelled(self.peers), "peer_word": "green", **self.limits,
         }
-        networks = [
-            {"account": self.account, "name": name, "address": spelled(address), "nick": self.nick, "user": self.nick,
-             "channels": list(self.channels)}
-            for name, address in zip(self.networks, self.servers)
-        ]
         peers = [{"name": name, "address": spelled(address), **dict(more)} for name, address, *more in self.known]
-        return configuration(top, peers, [{"name": self.account, "secret": self.secret}], networks)
+        return configuration(top, peers, self.accounts(), self.sessions())
+
+    def accounts(self):
+        """The tables of accounts in the configuration."""
+        return [{"name": self.account, "secret": self.secret}]
+
+    def sessions(self):
+        """The tables of networks."""
+        return [self.session(self.account, name, address) for name, address in zip(self.networks, self.servers)]
+
+    def session(self, account, name, address):
+        """The table of a network."""
+        return {"account": account, "name": name, "address": spelled(address), "nick": self.nick, "user": self.nick,
+                "channels": list(self.channels)}
 
     def begin(self):
         """Starts the program, and waits until it says that it listens. Where a port was taken meanwhile, others are tried."""

@@ -9,7 +9,7 @@ from harness.failure import Failed
 class Peer(Connection):
     """A node of the cluster, by its name and its incarnation."""
 
-    def __init__(self, fixture, it, name, incarnation=5, version=2, told=2):
+    def __init__(self, fixture, it, name, incarnation=5, version=3, told=3):
         """It says hello in that version, and is told the version that the node's configuration has for it."""
         super().__init__(fixture, it, f"the peer {name}")
         self.life = f"{name} {incarnation}"

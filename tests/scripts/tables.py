@@ -2,7 +2,7 @@
 """Writes the tables of queries of this folder, each with the answers of a plain program: filter, sort and cut over a list of
 changes, as the IRCv3 specification draft/chathistory words them. tests/run doesn't run it; it plays what it wrote.
 
-    ./tables.py          writes pages, between, targets, refusals, lengths, orders, limits
+    ./tables.py          writes pages, between, targets, refusals, lengths, orders, limits, extents
 """
 
 import os
@@ -26,6 +26,7 @@ class History:
         self.posts = []
         self.redactions = []
         self.floors = {}
+        self.account_floors = [0]
 
     def post(self, target, id, ms, body):
         self.lines.append(f"C POST demo net {target} {id} {ms} P {target} bob!b@h :{body}")
@@ -39,12 +40,21 @@ class History:
         self.lines.append(f"C FLOOR demo net {target} {ms}")
         self.floors[target] = max(ms, self.floors.get(target, 0))
 
+    def account_floor(self, ms, account="demo"):
+        self.lines.append(f"C AFLOOR {account} {ms}")
+        if account == "demo":
+            self.account_floors.append(ms)
+
+    def floor_of(self, target):
+        """The floor in force: the greater of the buffer's own and its account's."""
+        return max(self.account_floors + [self.floors.get(target, 0)])
+
     def visible(self, target):
         """The records that a session sees: of each id the latest post at or above the floor, unless it is redacted."""
         gone = {id for t, id, _ in self.redactions if t == target}
         shown = {}
         for t, id, ms, body in self.posts:
-            if t == target and id not in gone and ms >= self.floors.get(target, 0):
+            if t == target and id not in gone and ms >= self.floor_of(target):
                 if id not in shown or ms > shown[id][0]:
                     shown[id] = (ms, body)
         return sorted((ms, id.encode(), body) for id, (ms, body) in shown.items())
@@ -53,7 +63,7 @@ class History:
         """Where a message stands, or stood: None where nothing says so."""
         moments = [ms for t, i, ms, _ in self.posts if (t, i) == (target, id)]
         moments += [ms for t, i, ms in self.redactions if (t, i) == (target, id) and ms is not None]
-        moments = [ms for ms in moments if ms >= self.floors.get(target, 0)]
+        moments = [ms for ms in moments if ms >= self.floor_of(target)]
         return max(moments) if moments else None
 
 
@@ -353,38 +363,47 @@ def questions(session):
     session.ask_targets(0, 9000, 5)
 
 
-def asked_of_all(name, lines):
+def asked_of_all(name, lines, history=None):
     """The lines, and then every node is asked the same and answers alike."""
     asked, printed = list(lines), []
     for node in range(1, 10):
-        session = Session(channel())
+        session = Session(history or channel())
         questions(session)
         asked += [f"%{node}"] + session.asked
         printed += session.printed
     return "\n".join([f"== {name}"] + asked + ["--"] + printed) + "\n"
 
 
-def orders():
-    """One set of changes, which nine nodes take in other orders, with repeats, in other parts."""
-    changes = channel().lines
+def in_orders(changes):
+    """Each node takes all of them, in an order of its own, and some of them again."""
     lines = []
     for node in range(1, 10):
         chosen = random.Random(node)
         mine = changes + chosen.sample(changes, node)
         chosen.shuffle(mine)
         lines += [f"%{node}"] + mine
-    yield asked_of_all("each node takes all, in an order of its own, some of it again", lines)
+    return lines
+
+
+def in_parts(changes, seed):
+    """Each node takes a part of them, and packets carry the rest."""
+    chosen = random.Random(100 + seed)
+    lines = []
+    for node in range(1, 10):
+        lines += [f"%{node}"] + [c for i, c in enumerate(changes) if (i + seed) % 9 + 1 == node]
+    for _ in range(40):
+        a, b = chosen.sample(range(1, 10), 2)
+        lines.append(chosen.choice([f"%{a}>{b}", f"%{a}>{b}!", f"%{a}>{b}-", f"%{a}<{b}"]))
+    # a ring, twice around: then each has all
+    return lines + 2 * [f"%{a}>{a % 9 + 1}" for a in range(1, 10)]
+
+
+def orders():
+    """One set of changes, which nine nodes take in other orders, with repeats, in other parts."""
+    changes = channel().lines
+    yield asked_of_all("each node takes all, in an order of its own, some of it again", in_orders(changes))
     for seed in range(4):
-        chosen = random.Random(100 + seed)
-        lines = []
-        for node in range(1, 10):
-            lines += [f"%{node}"] + [c for i, c in enumerate(changes) if (i + seed) % 9 + 1 == node]
-        for _ in range(40):
-            a, b = chosen.sample(range(1, 10), 2)
-            lines.append(chosen.choice([f"%{a}>{b}", f"%{a}>{b}!", f"%{a}>{b}-", f"%{a}<{b}"]))
-        # a ring, twice around: then each has all
-        lines += 2 * [f"%{a}>{a % 9 + 1}" for a in range(1, 10)]
-        yield asked_of_all(f"each node takes a part, and packets carry the rest, {seed}", lines)
+        yield asked_of_all(f"each node takes a part, and packets carry the rest, {seed}", in_parts(changes, seed))
     lines = changes + [f"%1>{a}" for a in range(2, 10)] + ["%5*", "%7*", "%5>7", "%7>5", "%2>5", "%3>7", "%1*", "%9>1"]
     yield asked_of_all("nodes begin again with nothing and are filled by others", lines)
 
@@ -400,6 +419,7 @@ FIELDS = [
     ("C POST demo net #a m 0 P #a ", 255, " :"),
     ("C POST demo net #a m 0 P #a bob :", 493, ""),
     ("C POST demo net #a m 0 N #a bob :", 494, ""),
+    ("C AFLOOR ", 32, " 0"),
 ]
 
 MOMENTS = [0, 253402300799999, 253402300800000, 18446744073709551616]
@@ -471,6 +491,82 @@ def limits():
     yield from longest_ids()
 
 
+LAST_MOMENT = 253402300799999
+
+
+def floored(floors, are_first):
+    """Records of two buffers, some of them redacted, and floors of the account and of the first buffer, before or after them.
+    A floor is spelled as its target, or `*` for the account, and its moment."""
+    history = History()
+
+    def set_floors():
+        for target, ms in floors:
+            if target == "*":
+                history.account_floor(ms)
+            else:
+                history.floor(target, ms)
+
+    if are_first:
+        set_floors()
+    for target, id, ms in [
+        ("#a", "m1", 1000), ("#a", "m2", 1300), ("#a", "m3", 1500), ("#a", "m4", 1800), ("#a", "gone", 1600), ("#b", "m1", 1300),
+        ("#b", "m2", 1500), ("bob", "m1", 1100), ("#a", "m5", 1250),
+    ]:
+        history.post(target, id, ms, "x")
+    history.redact("#a", "gone")
+    history.redact("#a", "low", 1300)
+    history.redact("#b", "low", 1300)
+    history.redact("#a", "m5", 1700)
+    history.redact("#a", "nowhere")
+    history.account_floor(LAST_MOMENT, "demos")
+    if not are_first:
+        set_floors()
+    return history
+
+
+# Floors of the account (`*`) and of buffers, as they come: the own one below its account's, at it and above it, each of them
+# first.
+FLOORS = [
+    [("*", 1500), ("#a", 1200)],
+    [("#a", 1200), ("*", 1500)],
+    [("*", 1200), ("#a", 1500)],
+    [("#a", 1500), ("*", 1200)],
+    [("*", 1500), ("#a", 1500)],
+    [("*", 0), ("#a", 1301)],
+    [("*", 1301), ("*", 1100), ("#b", 1400)],
+    [("#b", 1400), ("*", 1100), ("*", 1801)],
+    [("*", LAST_MOMENT)],
+]
+
+
+def floor_questions(session):
+    for id in ["m1", "m2", "m3", "m4", "m5", "gone", "low", "nowhere"]:
+        session.ask("AFTER", "#a", [("msgid", id)], 5)
+    session.ask("LATEST", "#a", [("timestamp", 1000)], 5)
+    session.ask("AROUND", "#a", [("timestamp", 1500)], 2)
+    session.ask("BETWEEN", "#a", [("timestamp", 1900), ("timestamp", 0)], 9)
+    session.ask("LATEST", "#b", [], 5)
+    session.ask("BEFORE", "#b", [("msgid", "low")], 5)
+    session.ask("LATEST", "bob", [], 5)
+    session.ask_targets(0, 9000, 5)
+
+
+def extents():
+    """Floors of the account and of its buffers."""
+    for floors in FLOORS:
+        for are_first in (True, False):
+            session = Session(floored(floors, are_first))
+            floor_questions(session)
+            spelled = " ".join(f"{target} {ms}" for target, ms in floors)
+            yield session.case(f"floors {'before' if are_first else 'after'} the posts: {spelled}")
+    for floors in FLOORS[1], FLOORS[2]:
+        history = floored(floors, False)
+        for seed in range(2):
+            yield asked_of_all(f"parts and packets with floors of an account, {floors[0][0]} first, {seed}",
+                               in_parts(history.lines, seed), history)
+        yield asked_of_all(f"orders with floors of an account, {floors[0][0]} first", in_orders(history.lines), history)
+
+
 def write(name, cases):
     path = os.path.join(os.path.dirname(os.path.abspath(__file__)), name)
     with open(path, "w", encoding="utf-8", newline="\n") as file:
@@ -485,3 +581,4 @@ if __name__ == "__main__":
     write("lengths", lengths())
     write("orders", orders())
     write("limits", limits())
+    write("extents", extents())

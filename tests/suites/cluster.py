@@ -4,7 +4,7 @@ stop": a node that starts again is filled by its peers)."""
 from harness.failure import expect
 from harness.node import Node
 from harness.peer import Peer
-from harness.registry import test
+from harness.registry import add, test
 from harness.server import Server
 
 PAST = "batch draft/chathistory draft/read-marker message-tags server-time"
@@ -124,35 +124,43 @@ def more_than_a_packet_comes_across(fixture):
     cluster.both_show(lines[-100:])
 
 
-@test
-def nodes_of_two_versions_live_together(fixture):
-    """One of three nodes is older: its peers have `version = 1` for it. What it posts reaches the others, what they post reaches
-    each other, and once it is the newer version too it gets all of it."""
-    older = ("n1", ("127.0.0.1", 1), ("version", 1))
-    servers = [Server(fixture), Server(fixture)]
-    third = Node(fixture, "n3", [servers[1].address], [older, ("n2", ("127.0.0.1", 1))], nick="al3").begin()
-    second = Node(fixture, "n2", [servers[0].address], [older, ("n3", third.peers)], nick="al2").begin()
-    sessions = [servers[0].register(OFFERED, "al2"), servers[1].register(OFFERED, "al3")]
-    second.wait_for("peer greeted: n3")
-    old = [Peer.dial(node, "n1", 5, version=1, told=1).greet() for node in (second, third)]
-    ours, theirs = [said(number) for number in range(0, 20)], [said(number, "eve") for number in range(20, 40)]
-    sessions[0].say(*ours, "@+r=1;msgid=t;time=2026-11-23T00:00:41.000Z :bob!b@h PRIVMSG #a :t")
-    sessions[1].say(*theirs)
-    posts = [f"C POST demo net #a old{n} {1795392050000 + n * 1000} P #a old!o@h :{n}" for n in range(2)]
-    for peer, post in zip(old, posts):
-        peer.give(0, post)
-        peer.hear_acknowledged(1)
-    wanted = ours + theirs + ["@msgid=t;time=2026-11-23T00:00:41.000Z;+r=1 :bob!b@h PRIVMSG #a :t"]
-    wanted += [f"@msgid=old{n};time=2026-11-23T00:00:5{n}.000Z :old!o@h PRIVMSG #a :{n}" for n in range(2)]
-    for node, nick in ((second, "al2"), (third, "al3")):
-        client = node.client(f"a client of {node.name}").register(PAST, nick)
-        fixture.until(f"{node.name} shows all", lambda: shown(client) == wanted)
-        client.ping()
-    for peer, node in zip(old, (second, third)):
-        peer.close()
-        node.wait_for("peer down: n1")
-        newer = Peer.dial(node, "n1", 6, told=1).greet()
-        head = newer.line("a packet").split(" ")
-        expect("a packet of all", ["0", "43", "43"], head[5:])
-        told = [newer.line("a change") for _ in range(43)]
-        expect("a post with tags", 1, sum(line.startswith("C TPOST demo net #a t ") for line in told))
+def live_together(version):
+    """A test that nodes of that older version and of this one live together. One of three nodes is older: its peers have its
+    version for it. What it posts reaches the others, what they post reaches each other, and once it is the newer version too
+    it gets all of it."""
+
+    def call(fixture):
+        older = ("n1", ("127.0.0.1", 1), ("version", version))
+        servers = [Server(fixture), Server(fixture)]
+        third = Node(fixture, "n3", [servers[1].address], [older, ("n2", ("127.0.0.1", 1))], nick="al3").begin()
+        second = Node(fixture, "n2", [servers[0].address], [older, ("n3", third.peers)], nick="al2").begin()
+        sessions = [servers[0].register(OFFERED, "al2"), servers[1].register(OFFERED, "al3")]
+        second.wait_for("peer greeted: n3")
+        old = [Peer.dial(node, "n1", 5, version=version, told=version).greet() for node in (second, third)]
+        ours, theirs = [said(number) for number in range(0, 20)], [said(number, "eve") for number in range(20, 40)]
+        sessions[0].say(*ours, "@+r=1;msgid=t;time=2026-11-23T00:00:41.000Z :bob!b@h PRIVMSG #a :t")
+        sessions[1].say(*theirs)
+        posts = [f"C POST demo net #a old{n} {1795392050000 + n * 1000} P #a old!o@h :{n}" for n in range(2)]
+        for peer, post in zip(old, posts):
+            peer.give(0, post)
+            peer.hear_acknowledged(1)
+        wanted = ours + theirs + ["@msgid=t;time=2026-11-23T00:00:41.000Z;+r=1 :bob!b@h PRIVMSG #a :t"]
+        wanted += [f"@msgid=old{n};time=2026-11-23T00:00:5{n}.000Z :old!o@h PRIVMSG #a :{n}" for n in range(2)]
+        for node, nick in ((second, "al2"), (third, "al3")):
+            client = node.client(f"a client of {node.name}").register(PAST, nick)
+            fixture.until(f"{node.name} shows all", lambda: shown(client) == wanted)
+            client.ping()
+        for peer, node in zip(old, (second, third)):
+            peer.close()
+            node.wait_for("peer down: n1")
+            newer = Peer.dial(node, "n1", 6, told=version).greet()
+            head = newer.line("a packet").split(" ")
+            expect("a packet of all", ["0", "43", "43"], head[5:])
+            told = [newer.line("a change") for _ in range(43)]
+            expect("a post with tags", 1, sum(line.startswith("C TPOST demo net #a t ") for line in told))
+
+    return call
+
+
+for older_version in (1, 2):
+    add(f"cluster: nodes of versions {older_version} and 3 live together", live_together(older_version))

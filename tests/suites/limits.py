@@ -246,6 +246,25 @@ def pages_of_two_hundred_conversations(fixture):
 
 
 @test
+def pages_of_the_greatest_maximum(fixture):
+    """A thousand messages and a thousand conversations. A client is told the number as it registers; where it asks for more it
+    gets so many."""
+    node, server, session = begun(fixture, maximum=1000)
+
+    def time(n):
+        return f"2026-11-23T00:{n // 60:02}:{n % 60:02}.000Z"
+
+    messages = [f"@msgid=m{n};time={time(n)} :bob!b@h PRIVMSG #a :{n}" for n in range(1200)]
+    session.say(*messages, *(f"@msgid=c{n};time={time(n)} :bob!b@h PRIVMSG #c{n:04} :{n}" for n in range(1200)))
+    server.settled(session)
+    client = node.client().register(PAST, maximum=1000)
+    client.say("CHATHISTORY LATEST #a * 5000", "CHATHISTORY AFTER #a msgid=m9 1000")
+    client.hear(*page(1, "#a", *messages[200:]), *page(2, "#a", *messages[10:1010]))
+    came = client.ask("CHATHISTORY TARGETS timestamp=2026-11-23T00:00:00.000Z timestamp=2026-11-24T00:00:00.000Z 5000")
+    expect("how many conversations", 1000, len(came))
+
+
+@test
 def two_thousand_messages_with_questions_in_between(fixture):
     """Each page is right at its moment: it is of the messages that the client had heard by then."""
     node, server, session = begun(fixture, workers=2)
@@ -545,6 +564,8 @@ BEYOND = (
     ("a marker after the last moment", f"C MARK {ACCOUNT} {NETWORK} {TARGET} 253402300800000"),
     ("a floor of an account of 33 bytes", f"C FLOOR {ACCOUNT}a {NETWORK} {TARGET} 0"),
     ("a floor after the last moment", f"C FLOOR {ACCOUNT} {NETWORK} {TARGET} 253402300800000"),
+    ("a name of 33 bytes in a floor of an account", f"C AFLOOR {ACCOUNT}a 0"),
+    ("a floor of an account after the last moment", f"C AFLOOR {ACCOUNT} 253402300800000"),
 )
 
 
@@ -570,16 +591,16 @@ for name, change in BEYOND:
 
 @test
 def other_changes_of_a_peer_at_their_limits(fixture):
-    """A redaction, a marker and a floor have fields of the same lengths, and moments up to the last one."""
+    """A redaction, a marker and floors have fields of the same lengths, and moments up to the last one."""
     node, peer = greeted(fixture)
     last = "253402300799999"
     changes = [
         f"C REDACT {ACCOUNT} {NETWORK} {TARGET} {'i' * 255} {last}", f"C MARK {ACCOUNT} {NETWORK} {TARGET} {last}",
-        f"C FLOOR {ACCOUNT} {NETWORK} {TARGET} {last}",
+        f"C FLOOR {ACCOUNT} {NETWORK} {TARGET} {last}", f"C AFLOOR {'b' * 32} {last}",
     ]
     peer.give(0, *changes)
-    peer.hear_acknowledged(3)
-    peer.hear_packet(0, 3, *changes)
+    peer.hear_acknowledged(4)
+    peer.hear_packet(0, 4, *changes)
 
 
 @test
@@ -594,7 +615,7 @@ def the_greatest_numbers_between_nodes(fixture):
     peer.close()
     node.wait_for("peer down: n0")
     other = Peer.dial(node)
-    other.say("W green", f"H 2 n0 {most + 1}")
+    other.say("W green", f"H 3 n0 {most + 1}")
     other.hear_end()
     for head in (f"D n0 {most + 1} {peer.other} 0 1 1", f"D n0 5 {peer.other} {most} {most + 1} 1"):
         other = Peer.dial(node).greet()
@@ -613,10 +634,10 @@ def the_longest_word_and_names_of_nodes(fixture):
         stranger.say(f"W {wrong}")
         stranger.hear_end()
     stranger = Peer.dial(node, other)
-    stranger.say(f"W {word}", f"H 2 {other}m 5")
+    stranger.say(f"W {word}", f"H 3 {other}m 5")
     stranger.hear_end()
     peer = Peer.dial(node, other)
-    peer.say(f"W {word}", f"H 2 {other} 5")
+    peer.say(f"W {word}", f"H 3 {other} 5")
     peer.hear(f"W {word}")
     peer.hear_hello()
     session = server.register()

@@ -83,6 +83,7 @@ SCRIPTS = (
     ("nodes", "a redaction behind its post on one node and before it on another, and then a floor above both"),
     ("nodes", "a restart between a packet's loss, an acknowledgement held back, and its coming"),
     ("nodes", "a marker of a session reaches the others"),
+    ("floors", "posts below the floor of an account come from a node that hasn't it, and the floor comes back"),
     ("lines", "each kind of question and of refusal in one session"),
     ("sessions", "capabilities are given up and asked for"),
     ("orders", "nodes begin again with nothing and are filled by others"),

@@ -42,15 +42,16 @@ CLOSING = (
     ("the word behind two spaces", ["W  green"]),
     ("an empty line", [""]),
     ("a line of a client", ["NICK al"]),
-    ("a hello without a word", ["H 2 n0 5"]),
+    ("a hello without a word", ["H 3 n0 5"]),
     ("a line that is too long", ["W " + "g" * 9000]),
-    ("a node that is no peer", ["W green", "H 2 n9 5"]),
-    ("the node's own name", ["W green", "H 2 n1 5"]),
-    ("a version that there isn't", ["W green", "H 3 n0 5"]),
+    ("a node that is no peer", ["W green", "H 3 n9 5"]),
+    ("the node's own name", ["W green", "H 3 n1 5"]),
+    ("a version that there isn't", ["W green", "H 4 n0 5"]),
+    ("a version of two digits", ["W green", "H 33 n0 5"]),
     ("version 0", ["W green", "H 0 n0 5"]),
-    ("a version with a leading zero", ["W green", "H 02 n0 5"]),
+    ("a version with a leading zero", ["W green", "H 03 n0 5"]),
     ("a hello without a version", ["W green", "H n0 5"]),
-    ("an incarnation with a leading zero", ["W green", "H 2 n0 05"]),
+    ("an incarnation with a leading zero", ["W green", "H 3 n0 05"]),
     ("a second word in place of a hello", ["W green", "W green"]),
     ("garbage in place of a hello", ["W green", "\x01\x02"]),
 )
@@ -75,7 +76,7 @@ for name, lines in CLOSING:
 # What closes a connection after the hello.
 CLOSING_LATER = (
     ("a second word", ["W green"]),
-    ("a hello of another node", ["H 2 n2 5"]),
+    ("a hello of another node", ["H 3 n2 5"]),
     ("a change without a packet", [POST_ONE]),
     ("a line that can't be read", ["X"]),
     ("a packet of no changes", ["D n0 5 n1 1 0 1 0"]),
@@ -121,39 +122,49 @@ def the_word_alone_is_not_answered(fixture):
     peer.hear_hello()
 
 
-@test
-def a_peer_of_an_older_version_is_told_nothing_more(fixture):
-    """It is greeted in its own version where the configuration says so. What it brings is taken and acknowledged; it is made no
-    packet, in this life."""
-    node = Node(fixture, peers=[("n0", NOBODY, ("version", 1))], servers=[NOBODY]).begin()
-    peer = Peer.dial(node, version=1, told=1).greet()
-    node.wait_for("peer greeted: n0")
-    peer.give(0, POST_ONE)
-    peer.hear_acknowledged(1)
-    client = node.client().register(f"{PAST} draft/read-marker")
-    client.say("CHATHISTORY LATEST #a * 10", "MARKREAD #a timestamp=1970-01-01T00:00:06.000Z")
-    client.hear(*page(1, "#a", ONE), ":bnc.example MARKREAD #a timestamp=1970-01-01T00:00:06.000Z")
-    # (a later hello of that life in a greater version changes nothing)
-    peer.say("H 2 n0 5")
-    peer.give(1, POST_TWO)
-    peer.hear_acknowledged(2)
-    peer.close()
-    node.wait_for("peer down: n0")
-    newer = Peer.dial(node, incarnation=6, told=1).greet()
-    newer.hear_packet(0, 3, POST_ONE, "C MARK demo net #a 6000", POST_TWO)
+def tells_nothing_more(version):
+    """A test that a peer of that older version is greeted in it where the configuration says so. What it brings is taken and
+    acknowledged; it is made no packet, in this life."""
+
+    def call(fixture):
+        node = Node(fixture, peers=[("n0", NOBODY, ("version", version))], servers=[NOBODY]).begin()
+        peer = Peer.dial(node, version=version, told=version).greet()
+        node.wait_for("peer greeted: n0")
+        peer.give(0, POST_ONE)
+        peer.hear_acknowledged(1)
+        client = node.client().register(f"{PAST} draft/read-marker")
+        client.say("CHATHISTORY LATEST #a * 10", "MARKREAD #a timestamp=1970-01-01T00:00:06.000Z")
+        client.hear(*page(1, "#a", ONE), ":bnc.example MARKREAD #a timestamp=1970-01-01T00:00:06.000Z")
+        # (a later hello of that life in a greater version changes nothing)
+        peer.say("H 3 n0 5")
+        peer.give(1, POST_TWO)
+        peer.hear_acknowledged(2)
+        peer.close()
+        node.wait_for("peer down: n0")
+        newer = Peer.dial(node, incarnation=6, told=version).greet()
+        newer.hear_packet(0, 3, POST_ONE, "C MARK demo net #a 6000", POST_TWO)
+
+    return call
+
+
+for older in (1, 2):
+    add(f"peers: a peer of version {older} is told nothing more", tells_nothing_more(older))
 
 
 @test
 def the_hello_bears_the_version_for_the_peer(fixture):
-    """Whichever of the two opened the connection. A peer without the key is told version 2."""
-    first, second = Listener(fixture), Listener(fixture)
-    peers = [("n2", first.address, ("version", 1)), ("n3", second.address), ("n0", NOBODY, ("version", 1))]
+    """Whichever of the two opened the connection. A peer without the key is told version 3."""
+    configured = {"n2": [("version", 1)], "n3": [("version", 2)], "n4": [("version", 3)], "n5": []}
+    listeners = {name: Listener(fixture) for name in configured}
+    peers = [(name, listeners[name].address, *more) for name, more in configured.items()]
+    peers += [("m1", NOBODY, ("version", 1)), ("m2", NOBODY, ("version", 2)), ("m3", NOBODY)]
     node = Node(fixture, name="n1", peers=peers).begin()
-    for listener, name, version in ((first, "n2", 1), (second, "n3", 2)):
-        peer = Peer(fixture, listener.accept(f"the peer {name}").socket, name, told=version)
+    for name, version in (("n2", 1), ("n3", 2), ("n4", 3), ("n5", 3)):
+        peer = Peer(fixture, listeners[name].accept(f"the peer {name}").socket, name, told=version)
         peer.hear("W green")
         peer.hear_hello()
-    Peer.dial(node, told=1).greet()
+    for name, version in (("m1", 1), ("m2", 2), ("m3", 3)):
+        Peer.dial(node, name, told=version).greet()
 
 
 @test
@@ -295,7 +306,7 @@ def the_node_opens_the_connection_to_a_peer_of_a_greater_name(fixture):
     peer = Peer(fixture, listener.accept("the peer n2").socket, "n2")
     peer.hear("W green")
     peer.hear_hello()
-    peer.say("W green", "H 2 n2 5")
+    peer.say("W green", "H 3 n2 5")
     node.wait_for("peer greeted: n2")
     peer.give(0, POST_ONE)
     peer.hear_acknowledged(1)

@@ -1,6 +1,6 @@
 """Scripts, each answered by a run of `bnc replay demo net al` of its own, so by a new cluster.
 
-The tables pages, between, targets, refusals, lengths, orders and limits are what a plain program answers
+The tables pages, between, targets, refusals, lengths, orders, limits and extents are what a plain program answers
 (scripts/tables.py); the others were written by hand from docs/PROTOCOL.md."""
 
 from harness.registry import add
@@ -8,7 +8,7 @@ from harness.scripts import cases
 
 FILES = (
     "examples", "markers", "pages", "between", "targets", "refusals", "sessions", "lengths", "nodes", "orders", "lines",
-    "questions", "limits", "thousand", "tags",
+    "questions", "limits", "thousand", "tags", "floors", "extents",
 )
 
 

@@ -1,8 +1,10 @@
 """Client-only tags: kept with their message, passed on, and told to sessions that hold `message-tags` (the IRCv3 specification
 message-tags, "Client-only tags", "Escaping values" and "Size limit"; docs/PROTOCOL.md)."""
 
+import array
+
 from harness.client import page
-from harness.failure import expect
+from harness.failure import Failed, expect
 from harness.node import Node
 from harness.peer import Peer
 from harness.registry import add, test
@@ -252,3 +254,53 @@ def a_typing_notice_to_a_network_that_is_not_up(fixture):
     client = node.client().register()
     client.say("TAGMSG #a", "@+typing=active TAGMSG #a", "TAGMSG")
     client.hear(*3 * [":bnc.example NOTICE al :Not connected to net"])
+
+
+# Ten tags with those of an id and a moment, of which two are kept.
+TEN = "account=b;+draft/reply=abcdefgh;label=7;{};batch=x9;example.com/a=1;+r=1;example.com/b=2;bot"
+TWO = "+draft/reply=abcdefgh;+r=1"
+LINES = 100
+
+
+def lines_of(tags, command="PRIVMSG", text=" :hi"):
+    """Lines of the server with these tags, among which are an id and a moment of each."""
+    ids = (f"msgid=m{n:03};time=2026-11-23T00:{n // 60:02}:{n % 60:02}.000Z" for n in range(2 * LINES))
+    return [f"@{tags.format(id)} :bob!b@h {command} #a{text}" for id in ids]
+
+
+def asked_for(fixture, lines):
+    """How many requests for memory of each size a node makes for the second half of these lines, each of which comes by itself.
+    The sizes that it asks for whenever something comes are left out."""
+    front = ["env", f"LD_PRELOAD={fixture.shims.path('count')}", f"COUNTS={fixture.path('counts')}"]
+    node, _, session = begun(fixture, workers=1, front=front)
+    counted = []
+    for part in (lines[:LINES], lines[LINES:], LINES * [":irc.example 002 al :hi"]):
+        for line in part:
+            # (in one packet, since a second one would wait until the first is acknowledged)
+            session.say(line, "PING :taken")
+            session.hear("PONG :taken")
+        counted.append(counts(fixture))
+    node.kill()
+    first, second, idle = counted
+    if first == idle:
+        raise Failed("no request for memory was counted: is the program built with a sanitizer, which has its own malloc?")
+    both = enumerate(zip(first, second, idle))
+    return {size: then - before for size, (before, then, after) in both if then > before and after == then}
+
+
+def counts(fixture):
+    """How many requests of each size there were so far."""
+    with open(fixture.path("counts"), "rb") as file:
+        return array.array("Q", file.read())
+
+
+@test
+def a_line_asks_for_the_memory_of_its_record_alone(fixture):
+    """Whatever tags it has: those that aren't kept ask for none, and those that are for their bytes in a block that is there
+    without them. A typing notice asks for none."""
+    ten, two, none = (asked_for(fixture, lines_of(tags)) for tags in (TEN, "{};" + TWO, "{}"))
+    expect("requests by their sizes", two, ten)
+    expect("requests", sum(none.values()), sum(two.values()))
+    more = sum(size * (two.get(size, 0) - none.get(size, 0)) for size in {*two, *none})
+    expect("bytes for what is kept", LINES * len(TWO), more)
+    expect("requests for a typing notice", {}, asked_for(fixture, lines_of(TEN, "TAGMSG", "")))
