@@ -34,15 +34,39 @@ impl Texts {
     }
 }
 
+#[derive(Clone, PartialEq, Eq, PartialOrd, Ord)]
+struct Account(Arc<[u8]>);
+
+struct Names {
+    account: Account,
+    // the network and the target
+    texts: Texts,
+}
+
 #[derive(Clone)]
-struct Buffer(Arc<Texts>);
+struct Buffer(Arc<Names>);
+
+impl Buffer {
+    fn new(account: &[u8], network: &[u8], target: &[u8]) -> Buffer {
+        let account = Account(Arc::from(account));
+        Buffer(Arc::new(Names { account, texts: Texts::new(network, target, b"") }))
+    }
+
+    fn target(&self) -> &[u8] {
+        self.0.texts.parts().1
+    }
+
+    fn names(&self) -> (&Account, (&[u8], &[u8], &[u8])) {
+        (&self.0.account, self.0.texts.parts())
+    }
+}
 
 impl Ord for Buffer {
     fn cmp(&self, other: &Buffer) -> Ordering {
         if Arc::ptr_eq(&self.0, &other.0) {
             return Ordering::Equal;
         }
-        self.0.parts().cmp(&other.0.parts())
+        self.names().cmp(&other.names())
     }
 }
 
@@ -107,6 +131,7 @@ enum Place {
     Posted(Record),
     Redacted(Arc<(Buffer, MsgId)>),
     Stamped(Buffer),
+    Floored(Account),
 }
 
 impl Place {
@@ -114,13 +139,14 @@ impl Place {
         match self {
             Place::Posted(post) => Some((&post.0.buffer, &post.0.id)),
             Place::Redacted(name) => Some((&name.0, &name.1)),
-            Place::Stamped(_) => None,
+            Place::Stamped(_) | Place::Floored(_) => None,
         }
     }
 }
 
 #[derive(Default)]
 struct State {
+    accounts: BTreeMap<Account, (u64, u64)>,
     held: BTreeMap<Buffer, Held>,
     index: BTreeMap<u64, Place>,
     front: u64,
@@ -135,8 +161,9 @@ impl State {
     fn absorb(&mut self, post: Record) -> bool {
         let parts = &post.0;
         let mut before = None;
+        let around = self.account_floor(&parts.buffer.0.account);
         if let Some(held) = self.held.get(&parts.buffer) {
-            let floor = held.floor.map_or(0, |stamp| stamp.0);
+            let floor = held.floor.map_or(0, |stamp| stamp.0).max(around);
             match held.by_id.get(&parts.id) {
                 Some(Standing::Kept(old, number)) => {
                     if !goes_before(parts, &old.0) {
@@ -148,6 +175,8 @@ impl State {
                 None if parts.at < floor => return false,
                 None => {}
             }
+        } else if parts.at < around {
+            return false;
         }
         let number = self.front + 1;
         self.index.insert(number, Place::Posted(post.clone()));
@@ -160,6 +189,34 @@ impl State {
         }
         held.by_id.insert(parts.id.clone(), Standing::Kept(post.clone(), number));
         self.front = number;
+        true
+    }
+
+    fn account_floor(&self, account: &Account) -> u64 {
+        self.accounts.get(account).map_or(0, |stamp| stamp.0)
+    }
+
+    // Takes a floor of an account. What is older goes from each of its buffers, and so do own floors that are no higher.
+    fn absorb_account_floor(&mut self, account: Account, at: u64) -> bool {
+        if at <= self.account_floor(&account) {
+            return false;
+        }
+        self.front += 1;
+        self.index.insert(self.front, Place::Floored(account.clone()));
+        for (_, held) in self.held.iter_mut().filter(|(buffer, _)| buffer.0.account == account) {
+            while let Some(entry) = held.by_spot.first_entry().filter(|entry| entry.key().at < at) {
+                let post = entry.remove();
+                if let Some(Standing::Kept(_, number)) = held.by_id.remove(&post.0.id) {
+                    self.index.remove(&number);
+                }
+            }
+            if let Some((_, number)) = held.floor.take_if(|stamp| stamp.0 <= at) {
+                self.index.remove(&number);
+            }
+        }
+        if let Some((_, number)) = self.accounts.insert(account, (at, self.front)) {
+            self.index.remove(&number);
+        }
         true
     }
 
@@ -180,7 +237,7 @@ impl State {
         let [b"CHATHISTORY", subcommand, target, selector, limit] = words[..] else {
             return Ok(());
         };
-        if target != buffer.0.parts().2 {
+        if target != buffer.target() {
             return Ok(());
         }
         let limit = number(limit).unwrap_or(0).min(PAGE) as usize;
@@ -274,7 +331,7 @@ fn id_text(number: u64) -> String {
 }
 
 fn channel() -> Buffer {
-    Buffer(Arc::new(Texts::new(b"demo", b"net", b"#a")))
+    Buffer::new(b"demo", b"net", b"#a")
 }
 
 fn post(buffer: &Buffer, number: u64, order: Order) -> Record {
@@ -313,12 +370,34 @@ fn answer_questions(state: &State, buffer: &Buffer, is_latest: bool, held: u64, 
     total
 }
 
+// Takes a floor of an account with `held` messages in `count` buffers, which lets half of each go, and counts what the last
+// buffer has left.
+fn take_account_floor(held: u64, count: u64) -> (Instant, u64) {
+    let name = |number: u64| format!("#{number}");
+    let buffers: Vec<Buffer> = (0..count).map(|number| Buffer::new(b"demo", b"net", name(number).as_bytes())).collect();
+    let mut state = State::default();
+    for round in 0..held / count.max(1) {
+        for (buffer, number) in buffers.iter().zip(round * count..) {
+            state.absorb(post(buffer, number, Order::Rising));
+        }
+    }
+    let account = Account(Arc::from(&b"demo"[..]));
+    let start = Instant::now();
+    state.absorb_account_floor(account, held / 2);
+    let left = buffers.last().map_or(0, |last| state.held[last].by_spot.len() as u64);
+    (start, left)
+}
+
 fn main() {
     let words: Vec<String> = std::env::args().collect();
     let [_, what, held, count] = &words[..] else {
-        return println!("usage: state newest|mixed|latest|before|delta HELD COUNT");
+        return println!("usage: state newest|mixed|latest|before|delta|floor HELD COUNT");
     };
     let (held, count): (u64, u64) = (held.parse().unwrap(), count.parse().unwrap());
+    if what == "floor" {
+        let (start, left) = take_account_floor(held, count);
+        return print_measure(what, held, count, start, left);
+    }
     let order = if what == "mixed" { Order::Mixed } else { Order::Rising };
     let buffer = channel();
     let mut state = filled(&buffer, held, order);
@@ -332,6 +411,10 @@ fn main() {
         "delta" => (0..count).map(|_| state.delta(held.saturating_sub(LIMIT as u64)).len() as u64).sum::<u64>(),
         _ => return,
     };
+    print_measure(what, held, count, start, total);
+}
+
+fn print_measure(what: &str, held: u64, count: u64, start: Instant, total: u64) {
     let each = start.elapsed().as_nanos() / u128::from(count.max(1));
     println!("{what} {held} {count}: {each} ns each, {total} in all");
 }
