@@ -3,6 +3,7 @@ ghost use Rattle.std.specs.Prelude.{◌≡◌, IfOk};
 
 use crate::account::Account;
 use crate::buffer::Buffer;
+use crate::change_ref::ChangeRef;
 use crate::extent::Extent;
 use crate::key::Key;
 use crate::msg_id::MsgId;
@@ -39,7 +40,8 @@ pub enum Change {
     },
 }
 
-// Their bodies name each kind: the borrow checker can't plan a call that goes through `ChangeRef::of`.
+// Both go by what the change says, as it is lent. The first line of each names the types that are lent then: without it the
+// borrow checker isn't told of them.
 impl Change {
     ghost use Rattle.chat_change.specs.Key.{key_of, value_of};
 
@@ -47,13 +49,8 @@ impl Change {
     pub fn key(&self) -> Key<'_>
         ensures { value_of result ≡ key_of self.now }
     {
-        match self {
-            Change::Post(record) => record.key(),
-            Change::Redact { buffer, id, .. } => Key::Message(buffer, id),
-            Change::Mark { buffer, .. } => Key::Marker(buffer),
-            Change::Floor { buffer, .. } => Key::Floor(Extent::Buffer(buffer)),
-            Change::AccountFloor { account, .. } => Key::Floor(Extent::Account(account)),
-        }
+        let _held: (Option<&Record>, Option<&MsgId>, Option<Extent<'_>>) = (None, None, None);
+        ChangeRef::of(self).key()
     }
 
     /// An equal change, of the same kind, which shares its memory. It takes none, and fails only where a part of the
@@ -61,29 +58,7 @@ impl Change {
     pub fn try_clone(&self) -> Result<Change, AllocError>
         ensures { IfOk result (λ copy. copy ≡ self.now) }
     {
-        match self {
-            Change::Post(record) => Ok(Change::Post(record.try_clone()?)),
-            Change::Redact { buffer, id, at } => {
-                let buffer = buffer.try_clone()?;
-                let id = id.try_clone()?;
-                Ok(Change::Redact {
-                    buffer,
-                    id,
-                    at: *at,
-                })
-            }
-            Change::Mark { buffer, at } => Ok(Change::Mark {
-                buffer: buffer.try_clone()?,
-                at: *at,
-            }),
-            Change::Floor { buffer, at } => Ok(Change::Floor {
-                buffer: buffer.try_clone()?,
-                at: *at,
-            }),
-            Change::AccountFloor { account, at } => Ok(Change::AccountFloor {
-                account: account.try_clone()?,
-                at: *at,
-            }),
-        }
+        let _held: (Option<&Record>, Option<&MsgId>, Option<Extent<'_>>) = (None, None, None);
+        ChangeRef::of(self).to_change()
     }
 }

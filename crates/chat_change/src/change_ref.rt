@@ -2,12 +2,13 @@
 ghost use Rattle.std.specs.Prelude.{◌≡◌, IfOk};
 ghost use Rattle.chat_change.specs.ChangeRef.{change_of};
 ghost use Rattle.chat_change.specs.Extent as spec;
-ghost use Rattle.chat_change.specs.Key.{floor_change};
+ghost use Rattle.chat_change.specs.Key.{floor_change, key_of, value_of};
 
 use crate::account::Account;
 use crate::buffer::Buffer;
 use crate::change::Change;
 use crate::extent::Extent;
+use crate::key::Key;
 use crate::msg_id::MsgId;
 use crate::record::Record;
 use irc_time::Moment;
@@ -57,6 +58,18 @@ impl<'c> ChangeRef<'c> {
                 extent: Extent::Account(account),
                 at: *at,
             },
+        }
+    }
+
+    /// What the change speaks of.
+    pub fn key(&self) -> Key<'c>
+        ensures { value_of result ≡ key_of (change_of self.now) }
+    {
+        match self {
+            ChangeRef::Post(record) => record.key(),
+            ChangeRef::Redact { buffer, id, .. } => Key::Message(buffer, id),
+            ChangeRef::Mark { buffer, .. } => Key::Marker(buffer),
+            ChangeRef::Floor { extent, .. } => Key::Floor(*extent),
         }
     }
 
