@@ -1,36 +1,43 @@
--- The floor of an account, what it leaves in the account's buffers, and a walk over these.
-use Rattle.std.proofs.Common.{◌≡◌, refl, sym, ◌∙◌, ap, subst, ℕ, max, ◌≤◌, ◌<◌, List, [], ◌∷◌, ◌++◌, true, false, cond, Option, Some, None, ◌⊎◌, ⊎_elim, inl, inr, arith}
+-- The floor of an account, what it leaves in the account's buffers, and the list of these.
+use Rattle.std.proofs.Common.{◌≡◌, refl, sym, ◌∙◌, ap, subst, ℕ, max, ◌≤◌, ◌<◌, List, [], ◌∷◌, ◌++◌, map, take, reverse, Bool, true, false, cond, not, ◌&&◌, Option, Some, None, ◌⊎◌, ⊎_elim, inl, inr, arith}
 use Rattle.std.specs.Prelude.{Contains}
 use Rattle.std.proofs.lemmas.Bool.{false≢true}
 use Rattle.std.proofs.lemmas.Option.{same_Some}
 use Rattle.std.proofs.lemmas.List.Elements.{Contains-append_left, Contains-append_right}
+use Rattle.std.proofs.lemmas.List.Kept.{IsStrictlySortedBy-filter}
 use Rattle.std.proofs.lemmas.Cmp.{tied_itself}
 use Rattle.std.specs.declared.cmp.Ordering.{Ordering}
 use Rattle.std.specs.declared.cmp.Ordering.TheVariants.{Less, Equal, Greater}
-use Rattle.std.specs.Ordering.{ordering_then, is_eq}
+use Rattle.std.specs.Ordering.{ordering_then, ordering_reverse, on, flip_args, is_eq, is_gt, is_le}
 use Rattle.std.specs.Option.{option_map}
+use Rattle.std.specs.List.{prefix_len, AllByRecursion}
+use Rattle.std.specs.List.Sorted.{IsStrictlySortedBy}
+use Rattle.std.specs.Map.{keys_of}
 use Rattle.std.specs.BTreeMap as tree
+use Rattle.std.specs.BTreeMap.Range.{entries_between}
+use Rattle.std.specs.declared.ops.Bound.TheVariants.{Included, Excluded, Unbounded}
 use Rattle.std.specs.FinMap as finite
 use Rattle.chat_change.specs.Buffer.{Buffer}
 use Rattle.chat_change.specs.Extent.{Extent, OfAccount, OfBuffer}
 use Rattle.chat_change.specs.Order.{text_cmp, buffer_cmp}
 use Rattle.chat_change.specs.declared.change.Change.TheVariants.{Floor, Mark, AccountFloor}
 use Rattle.chat_change.specs.Key.{Key, FloorOf, MarkerOf, MessageOf, key_extent, same_key}
-use Rattle.chat_change.proofs.CallerLemmas.{text_total, buffer_total, buffer_exact, same_key_itself}
+use Rattle.chat_change.proofs.CallerLemmas.{text_total, text_exact, buffer_total, buffer_exact, same_key_itself}
 use Rattle.chat_history.specs.Choice.{Among}
 use Rattle.chat_history.specs.Retention.{same_account, is_covered}
-use Rattle.chat_history.proofs.CallerLemmas.{contained, got}
+use Rattle.chat_history.proofs.CallerLemmas.{among, contained, image, among-filter, among_passing, among-reverse, reverse_among, sorted_reverse, got}
 use Rattle.ordered_maps.specs.MapView.{held_by, IsWith}
 use Rattle.ordered_maps.proofs.CallerLemmas.{get-held_by, entries-from_ordered}
 use Rattle.chat_buffers.specs.Stamps.{floor_moment, IsAbove}
-use Rattle.chat_buffers.specs.Store.{Store, Numbered}
+use Rattle.chat_buffers.specs.Store.{Numbered}
 use Rattle.chat_buffers.specs.Entering.{with_remainder, IsEntered, TakesFloor, HasNoFloorTo, AreBuffersOf}
 use Rattle.chat_buffers.specs.Held.{held_floor, numbered, held_piece, floor_piece, account_piece, account_key}
 use Rattle.chat_buffers.specs.declared.held.Held.{Held}
 use Rattle.chat_buffers.specs.declared.held.Stamp.{Stamp}
 use Rattle.chat_buffers.proofs.HeldLemmas.{same_account_is, one_buffer}
+use Rattle.chat_buffers.proofs.LeadingLemmas.{IsLeading, leading_sorted, leading_taken}
 use Rattle.chat_buffers.proofs.SettleLemmas.{no_account, stays, gone_stays, other_extent, same_max, max_reached, message_left, stamp_left, floor_elsewhere, Accounts, Tree, seen, floor_around, tree_piece, get-tree, has_here, taken_store}
-use Rattle.chat_buffers.proofs.SoughtLemmas.{Entries, IsRising, rising_from, same_held, something}
+use Rattle.chat_buffers.proofs.SoughtLemmas.{Entries, something}
 
 same_account_itself : (a : List ℕ) → same_account a a ≡ true
 same_account_itself a = ap is_eq (tied_itself text_total a)
@@ -133,62 +140,121 @@ floor_above ac bs b h has f above n u e = above_said b f h.floor above n u (sym 
 pub floor_absent : (ac : Accounts) (bs : Tree) (b : Buffer) → tree.get buffer_cmp bs b ≡ None → (f : ℕ) → HasNoFloorTo b f (seen ac bs)
 floor_absent ac bs b none f n u e = cc (sym (has_here ac bs (seen ac bs) b None refl none (FloorOf (OfBuffer b)) refl) ∙ e)
 
--- ---- a walk to the last buffer of an account
+-- ---- the buffers of an account stand side by side
 
--- each buffer of the account in which a piece stands was found, or is ahead
-pub record AreAhead (s : Store) (a : List ℕ) (found : List Buffer) (es : Entries) : Type 0 where
-  pub rising : IsRising es
-  pub all : (k : Key) (p : Numbered) (b : Buffer) → finite.get s k ≡ Some p → key_extent k ≡ OfBuffer b → b.account ≡ a → Contains found b ⊎ ((h : Held) × Among (b, h) es)
+-- whether an entry is of a buffer of an account
+abbrev pub is_of : List ℕ → Buffer × Held → Bool
+is_of a e = same_account e.0.account a
 
--- a buffer in which a piece stands is held
-held_here : (ac : Accounts) (bs : Tree) (k : Key) (p : Numbered) (b : Buffer) → finite.get (seen ac bs) k ≡ Some p → key_extent k ≡ OfBuffer b → (h : Held) × (tree.get buffer_cmp bs b ≡ Some h)
-held_here ac bs k p b e is = something (tree.get buffer_cmp bs b) (λ none. cc (sym (has_here ac bs (seen ac bs) b None refl none k is) ∙ e))
+its_account : (a : List ℕ) (e : Buffer × Held) → is_of a e ≡ true → e.0.account ≡ a
+its_account a e t = same_account_is e.0.account a t
 
-pub all_ahead : (ac : Accounts) (bs : Tree) → tree.IsOrdered buffer_cmp bs → (a : List ℕ) (found : List Buffer) → AreAhead (seen ac bs) a found bs.entries
-all_ahead ac bs ordered a found = record {
-  rising = rising_from bs.entries ordered;
-  all = λ k p b e is at.
-      let here = held_here ac bs k p b e is in
-      inr (here.0, subst (Among (b, here.0)) (entries-from_ordered buffer_total bs.entries ordered) (got buffer_total buffer_exact (held_by bs) b here.0 (get-held_by buffer_total bs b ∙ here.1)));
-}
+of_its_account : (a : List ℕ) (e : Buffer × Held) → e.0.account ≡ a → is_of a e ≡ true
+of_its_account a e is = ap (λ d. same_account d a) is ∙ same_account_itself a
 
-untied : {A : Type 0} (a d : List ℕ) (o : Ordering) → text_cmp d a ≡ o → (o ≡ Equal → ⊥) → d ≡ a → A
-untied a d o e apart same = absurd (apart (sym e ∙ ap (text_cmp d) (sym same) ∙ tied_itself text_total d))
+-- the account is what is compared first
+account_first : (x y : Ordering) → is_gt (ordering_then x y) ≡ false → is_gt x ≡ false
+account_first Less y l = refl
+account_first Equal y l = refl
+account_first Greater y l = l
 
-not_behind : {A : Type 0} (x y : Ordering) → ordering_then x y ≡ Less → x ≡ Greater → A
-not_behind Less y e f = cc f
-not_behind Equal y e f = cc f
-not_behind Greater y e f = cc e
+same_from_both : (a d : List ℕ) → is_gt (text_cmp a d) ≡ false → is_gt (text_cmp d a) ≡ false → d ≡ a
+same_from_both a d l m =
+    elim (text_cmp d a) as (λ o. text_cmp d a ≡ o → d ≡ a) [
+      | Less ↦ λ e. absurd (false≢true (sym l ∙ ap is_gt (text_total.antisymm a d ∙ ap ordering_reverse e)))
+      | Equal ↦ λ e. text_exact d a e
+      | Greater ↦ λ e. absurd (false≢true (sym m ∙ ap is_gt e))
+    ] refl
 
-module _ (s : Store) (a : List ℕ) (found : List Buffer) where
-  pub all_found : AreAhead s a found [] → AreBuffersOf s a found
-  all_found left k p b e is at = ⊎_elim (λ f. f) (λ m. absurd m.1) (left.all k p b e is at)
+-- what stands between two buffers of one account is of that account
+between : (x y z : Buffer) → is_gt (buffer_cmp x y) ≡ false → is_gt (buffer_cmp y z) ≡ false → x.account ≡ z.account → y.account ≡ z.account
+between x y z l m same =
+    same_from_both x.account y.account (account_first (text_cmp x.account y.account) _ l)
+    (ap (λ d. is_gt (text_cmp y.account d)) same ∙ account_first (text_cmp y.account z.account) _ m) ∙ same
 
-  module _ (b : Buffer) (d : Held) (rest : Entries) (left : AreAhead s a found ((b, d) ∷ rest)) where
-    -- a buffer of another account is passed over
-    pub passed : (o : Ordering) → text_cmp b.account a ≡ o → (o ≡ Equal → ⊥) → AreAhead s a found rest
-    passed o order apart = record {
-      rising = left.rising.1;
-      all = λ k p x e is at.
-          ⊎_elim (λ f. inl f) (λ m.
-          ⊎_elim (λ same. untied a b.account o order apart (ap (λ (y : Buffer). y.account) (same_held b x d m.0 same).0 ∙ at)) (λ later. inr (m.0, later)) m.1)
-          (left.all k p x e is at);
-    }
+abbrev by_buffer : Buffer × Held → Buffer × Held → Ordering
+by_buffer = on (λ (e : Buffer × Held). e.0) buffer_cmp
 
-    pub found_one : AreAhead s a (found ++ b ∷ []) rest
-    found_one = record {
-      rising = left.rising.1;
-      all = λ k p x e is at.
-          ⊎_elim (λ f. inl (Contains-append_left found (b ∷ []) x f)) (λ m.
-          ⊎_elim (λ same. inl (Contains-append_right found (b ∷ []) x (contained (b ∷ []) x (inl (same_held b x d m.0 same).0)))) (λ later. inr (m.0, later)) m.1)
-          (left.all k p x e is at);
-    }
+less_entries : (b : Buffer) (es : Entries) → AllByRecursion (λ d. buffer_cmp b d ≡ Less) (keys_of es) → AllByRecursion (λ (e : Buffer × Held). buffer_cmp b e.0 ≡ Less) es
+less_entries b [] h = tt
+less_entries b (e ∷ es) h = (h.0, less_entries b es h.1)
 
-    -- after a buffer of a later account there are none
-    pub none_behind : text_cmp b.account a ≡ Greater → AreBuffersOf s a found
-    none_behind order k p x e is at =
-        ⊎_elim (λ f. f) (λ m.
-        ⊎_elim
-        (λ same. untied a b.account Greater order (λ g. cc g) (ap (λ (y : Buffer). y.account) (same_held b x d m.0 same).0 ∙ at))
-        (λ later. not_behind (text_cmp b.account x.account) _ (left.rising.0 (x, m.0) later) (ap (text_cmp b.account) at ∙ order)) m.1)
-        (left.all k p x e is at)
+entries_sorted : (es : Entries) → IsStrictlySortedBy buffer_cmp (keys_of es) → IsStrictlySortedBy by_buffer es
+unfolding IsStrictlySortedBy
+entries_sorted [] s = tt
+entries_sorted (e ∷ es) s = (less_entries e.0 es s.0, entries_sorted es s.1)
+
+-- an entry from the middle on is not below it
+up_to : (o : Ordering) → (is_le o && true) ≡ true → is_gt o ≡ false
+up_to Less t = refl
+up_to Equal t = refl
+up_to Greater t = absurd (false≢true t)
+
+-- and one below it is not above
+back_above : (o : Ordering) → not (is_le o) ≡ true → is_gt (ordering_reverse o) ≡ false
+back_above Less t = absurd (false≢true t)
+back_above Equal t = absurd (false≢true t)
+back_above Greater t = refl
+
+-- the entries below a buffer of the account, the nearest first, and those from it on
+module _ (ac : Accounts) (bs : Tree) (ordered : tree.IsOrdered buffer_cmp bs) (a : List ℕ) (middle : Buffer) (its : middle.account ≡ a) where
+  abbrev lower : Entries
+  lower = entries_between buffer_cmp Unbounded (Excluded middle) bs.entries
+
+  abbrev upper : Entries
+  upper = entries_between buffer_cmp (Included middle) Unbounded bs.entries
+
+  lower_leads : IsLeading (is_of a) (reverse lower)
+  lower_leads =
+      leading_sorted (flip_args by_buffer) (is_of a) (reverse lower)
+      (sorted_reverse by_buffer lower (IsStrictlySortedBy-filter by_buffer _ bs.entries (entries_sorted bs.entries ordered)))
+      (λ e f m less t.
+      let below = (among-filter (λ (x : Buffer × Held). true && not (is_le (buffer_cmp middle x.0))) bs.entries e (among-reverse lower e m)).1 in
+      of_its_account a e
+      (between f.0 e.0 middle (ap is_gt less)
+      (ap is_gt (buffer_total.antisymm e.0 middle) ∙ back_above (buffer_cmp middle e.0) below)
+      (its_account a f t ∙ sym its) ∙ its))
+
+  upper_leads : IsLeading (is_of a) upper
+  upper_leads =
+      leading_sorted by_buffer (is_of a) upper
+      (IsStrictlySortedBy-filter by_buffer _ bs.entries (entries_sorted bs.entries ordered))
+      (λ e f m less t.
+      let from = (among-filter (λ (x : Buffer × Held). is_le (buffer_cmp middle x.0) && true) bs.entries e m).1 in
+      of_its_account a e
+      (between middle e.0 f.0 (up_to (buffer_cmp middle e.0) from) (ap is_gt less) (its ∙ sym (its_account a f t)) ∙ its_account a f t))
+
+  abbrev pub taken_below : Entries
+  taken_below = take (prefix_len (is_of a) (reverse lower)) (reverse lower)
+
+  abbrev pub taken_from : Entries
+  taken_from = take (prefix_len (is_of a) upper) upper
+
+  below_or_from : (e : Buffer × Held) → Among e bs.entries → Among e lower ⊎ Among e upper
+  below_or_from e m =
+      elim (is_le (buffer_cmp middle e.0)) as (λ b. is_le (buffer_cmp middle e.0) ≡ b → Among e lower ⊎ Among e upper) [
+        | true ↦ λ t. inr (among_passing (λ (x : Buffer × Held). is_le (buffer_cmp middle x.0) && true) bs.entries e m (ap (λ b. b && true) t))
+        | false ↦ λ f. inl (among_passing (λ (x : Buffer × Held). true && not (is_le (buffer_cmp middle x.0))) bs.entries e m (ap not f))
+      ] refl
+
+  entry_taken : (e : Buffer × Held) → Among e bs.entries → is_of a e ≡ true → Contains (taken_below ++ taken_from) e
+  entry_taken e m t =
+      ⊎_elim
+      (λ l. Contains-append_left taken_below taken_from e (contained taken_below e (leading_taken (is_of a) (reverse lower) lower_leads e (reverse_among lower e l) t)))
+      (λ u. Contains-append_right taken_below taken_from e (contained taken_from e (leading_taken (is_of a) upper upper_leads e u t)))
+      (below_or_from e m)
+
+  -- a buffer in which a piece stands is held
+  held_here : (k : Key) (p : Numbered) (b : Buffer) → finite.get (seen ac bs) k ≡ Some p → key_extent k ≡ OfBuffer b → (h : Held) × Among (b, h) bs.entries
+  held_here k p b e is =
+      let here = something (tree.get buffer_cmp bs b) (λ none. cc (sym (has_here ac bs (seen ac bs) b None refl none k is) ∙ e)) in
+      (here.0, subst (Among (b, here.0)) (entries-from_ordered buffer_total bs.entries ordered) (got buffer_total buffer_exact (held_by bs) b here.0 (get-held_by buffer_total bs b ∙ here.1)))
+
+  pub all_taken : (found : List Buffer) → found ≡ map (λ (e : Buffer × Held). e.0) (taken_below ++ taken_from) → AreBuffersOf (seen ac bs) a found
+  all_taken found taken k p b e is at =
+      let here = held_here k p b e is in
+      let all : Entries = taken_below ++ taken_from in
+      subst (λ bs. Contains bs b) (sym taken)
+      (contained (map (λ (x : Buffer × Held). x.0) all) b
+      (image (λ (x : Buffer × Held). x.0) all (b, here.0)
+      (among all (b, here.0) (entry_taken (b, here.0) here.1 (of_its_account a (b, here.0) at)))))

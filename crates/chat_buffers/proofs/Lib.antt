@@ -9,5 +9,6 @@ mod LookupLemmas
 mod KeptLemmas
 mod CursorLemmas
 mod SoughtLemmas
+mod LeadingLemmas
 mod AccountLemmas
 pub mod CallerLemmas

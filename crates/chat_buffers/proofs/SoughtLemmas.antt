@@ -116,7 +116,7 @@ less_than_all : (k : Buffer) (es : Entries) → AllByRecursion (λ y. buffer_cmp
 less_than_all k [] h x m = absurd m
 less_than_all k (e ∷ es) h x m = ⊎_elim (λ s. subst (λ (y : Buffer × Held). buffer_cmp k y.0 ≡ Less) s h.0) (λ a. less_than_all k es h.1 x a) m
 
-pub rising_from : (es : Entries) → IsStrictlySortedBy buffer_cmp (keys_of es) → IsRising es
+rising_from : (es : Entries) → IsStrictlySortedBy buffer_cmp (keys_of es) → IsRising es
 rising_from [] s = tt
 rising_from (e ∷ es) s = (less_than_all e.0 es (sorted_head buffer_cmp e.0 (keys_of es) s), rising_from es (sorted_tail buffer_cmp e.0 (keys_of es) s))
 
@@ -128,7 +128,7 @@ rising_passing p (e ∷ es) h =
       | false ↦ rising_passing p es h.1
     ]
 
-pub same_held : (b d : Buffer) (h g : Held) → ◌≡◌ {A = Buffer × Held} (b, h) (d, g) → (b ≡ d) × (h ≡ g)
+same_held : (b d : Buffer) (h g : Held) → ◌≡◌ {A = Buffer × Held} (b, h) (d, g) → (b ≡ d) × (h ≡ g)
 same_held b d h g e = (ap (λ (x : Buffer × Held). x.0) e, ap (λ (x : Buffer × Held). x.1) e)
 
 pub something : (o : Option Held) → (o ≡ None → ⊥) → (h : Held) × (o ≡ Some h)

@@ -9,10 +9,9 @@ ghost use Rattle.chat_buffers.specs.Entering.{IsEntered, TakesFloor, HasNoFloorT
 
 use crate::buffers::Buffers;
 use crate::held::{Stamp, number_of, take_floor_to};
-use chat_change::{Account, Buffer, Moment};
+use chat_change::{Account, Buffer, ChangeFault, Moment};
 use ordered_maps::exchange;
 use std::alloc::{AllocError, Global};
-use std::cmp::Ordering;
 
 impl Buffers {
     /// Sets the floor of an account, and answers the number that its key had. Where there is no memory nothing has
@@ -45,20 +44,33 @@ impl Buffers {
         take_floor_to(&mut held.floor, floor)
     }
 
-    /// All buffers of an account of which something is held, as clones that share their memory. It looks at the buffers
-    /// up to the last one of the account.
+    /// All buffers of an account of which something is held, as clones that share their memory, in no particular order.
+    ///
+    /// It looks at no buffer of another account but at the nearest on either side, where its walks end.
     pub fn buffers_of(&self, alloc: Global, account: &Account) -> Result<Vec<Buffer>, AllocError>
         ensures { IfOk result (λ buffers. AreBuffersOf self.now account.now buffers.items) }
     {
+        // the buffers of an account stand side by side, so the others lie right below any one of them and right above
+        let middle = some_buffer_of(alloc, account)?;
+        let below = self.held.range(..&middle).rev();
+        let above = self.held.range(&middle..);
+        let below = below.take_while(|(buffer, _)| buffer.owner() == account);
+        let above = above.take_while(|(buffer, _)| buffer.owner() == account);
         let mut buffers = Vec::new(alloc);
-        let mut ahead = self.held.iter();
-        while let Some((buffer, _)) = ahead.next() {
-            match buffer.owner().cmp(account) {
-                Ordering::Less => {}
-                Ordering::Equal => buffers.push(buffer.try_clone()?)?,
-                Ordering::Greater => return Ok(buffers),
-            }
+        for (buffer, _) in below.chain(above) {
+            buffers.push(buffer.try_clone()?)?;
         }
         Ok(buffers)
+    }
+}
+
+// A buffer of an account, of which nothing need be held. It fails for want of memory alone.
+fn some_buffer_of(alloc: Global, account: &Account) -> Result<Buffer, AllocError>
+    ensures { IfOk result (λ b. b.account ≡ account.now) }
+{
+    match Buffer::new(alloc, account.name(), b"-", b"-") {
+        Ok(buffer) => Ok(buffer),
+        Err(ChangeFault::NoMemory) => Err(AllocError),
+        Err(_) => unreachable!(),
     }
 }
