@@ -6,7 +6,7 @@ use Rattle.std.proofs.lemmas.Cmp.{tied_itself}
 use Rattle.std.proofs.lemmas.Map.Lookups.{CmpEqualImpliesEq, exact_unsigned}
 use Rattle.work_timers.specs.contracts.timer.TimerOrd.TheImpl.Laws as timer_laws
 use Rattle.work_timers.specs.declared.timer.Timer.{Timer}
-use Rattle.work_timers.specs.declared.timer.Timer.TheVariants.{RetryNetwork, RetryPeer, QuietUpstream, Unregistered, UnansweredPacket, Floors, Publish}
+use Rattle.work_timers.specs.declared.timer.Timer.TheVariants.{RetryNetwork, RetryPeer, QuietUpstream, Unregistered, UnansweredPacket, QuietPeer, AbsentPeer, Floors, Publish}
 use Rattle.work_timers.specs.Agreement.{due}
 use Rattle.work_timers.specs.Order.{timer_cmp, due_cmp}
 
@@ -19,6 +19,8 @@ timer_exact (RetryPeer i) (RetryPeer j) e = ap RetryPeer (exact_unsigned i j e)
 timer_exact (QuietUpstream i) (QuietUpstream j) e = ap QuietUpstream (exact_unsigned i j e)
 timer_exact (Unregistered i) (Unregistered j) e = ap Unregistered (exact_unsigned i j e)
 timer_exact (UnansweredPacket i) (UnansweredPacket j) e = ap UnansweredPacket (exact_unsigned i j e)
+timer_exact (QuietPeer i) (QuietPeer j) e = ap QuietPeer (exact_unsigned i j e)
+timer_exact (AbsentPeer i) (AbsentPeer j) e = ap AbsentPeer (exact_unsigned i j e)
 timer_exact Floors Floors e = refl
 timer_exact Publish Publish e = refl
 timer_exact _ _ e = cc e

@@ -13,6 +13,10 @@ pub enum Timer {
     Unregistered(usize),
     /// A packet that wasn't acknowledged is sent again.
     UnansweredPacket(usize),
+    /// A peer to which nothing was sent is told that this node is there, and one from which nothing came is given up.
+    QuietPeer(usize),
+    /// The operator is told of a peer with which there is no connection.
+    AbsentPeer(usize),
     /// The floors that are due are put.
     Floors,
     /// What waits to be published is published.
