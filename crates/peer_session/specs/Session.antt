@@ -34,9 +34,13 @@ pub record Step : Type 0 where
   pub heard : Heard
   pub sent : List ℕ
 
--- the shared word, and the own hello in the version for the peer at a place
+-- the own hello, in the version for the peer at a place
+abbrev pub own_hello : Terms → ℕ → List ℕ
+own_hello t place = written (line.Hello t.me (version_for t place))
+
+-- the shared word, and the own hello to the peer at a place
 abbrev pub greeting : Terms → ℕ → List ℕ
-greeting t place = written (line.Word t.word) ++ written (line.Hello t.me (version_for t place))
+greeting t place = written (line.Word t.word) ++ own_hello t place
 
 abbrev pub greeting_if : Terms → Option ℕ → List ℕ
 greeting_if t None = []

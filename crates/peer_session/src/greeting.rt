@@ -16,6 +16,18 @@ fn write_greeting<W: Write>(terms: &Terms, place: usize, writer: &mut W) -> io::
     write_hello(terms.me(), terms.version_for(place), writer)
 }
 
+/// Appends the own hello alone, with the version for the peer at that place, as it is said again over a connection that is
+/// greeted: it is no news to the peer, but shows that this node and the way to it are there. For want of memory the connection
+/// is to be closed.
+pub fn say_hello_again(terms: &Terms, place: usize, out: &mut Vec<u8>) -> Result<(), NoMemory>
+    ensures { IfOk result (λ _. out.new.items ≡ out.old.items ++ spec.own_hello terms.now place) }
+{
+    match write_hello(terms.me(), terms.version_for(place), out) {
+        Ok(()) => Ok(()),
+        Err(_) => Err(NoMemory),
+    }
+}
+
 /// Appends the shared word and the own hello, which bears the version for the peer at that place.
 pub(crate) fn greet(terms: &Terms, place: usize, out: &mut Vec<u8>) -> Result<(), NoMemory>
     ensures { IfOk result (λ _. out.new.items ≡ out.old.items ++ spec.greeting terms.now place) }

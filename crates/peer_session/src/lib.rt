@@ -9,6 +9,9 @@
 //!
 //! At most one packet is under way. It is made after the peer's hello, after an acknowledgement, after a publish, and after
 //! 60 seconds without an acknowledgement; where three in a row got none, the connection is to be closed ([`laws`]).
+//!
+//! The own hello may be said again at any time once the peer has said its own ([`say_hello_again`]): a further hello of a life
+//! that the link knows changes nothing but that a packet is made where one is due.
 #![tactic(auto)]
 
 mod arrival;
@@ -25,6 +28,7 @@ pub use byte_text::NoMemory;
 pub use gossip_link::{
     Arrived, Life, Link, LinkFault, NodeName, PeerTerms, SharedWord, Side, Terms, Version,
 };
+pub use greeting::say_hello_again;
 pub use heard::Heard;
 pub use outcome::Outcome;
 pub use pace::{ACK_WAIT_MS, MOST_UNANSWERED};
