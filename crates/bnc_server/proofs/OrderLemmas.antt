@@ -233,6 +233,10 @@ text_of-append w (item ∷ before) items =
     ap (λ l. (outcome w (request_of item)).text ++ l) (text_of-append (outcome w (request_of item)).world before items)
     ∙ sym (append_assoc (outcome w (request_of item)).text (text_of (outcome w (request_of item)).world before) _)
 
+pub world_after-append : (w : World) (before items : List Item) → world_after w (before ++ items) ≡ world_after (world_after w before) items
+world_after-append w [] items = refl
+world_after-append w (item ∷ before) items = world_after-append (outcome w (request_of item)).world before items
+
 -- ---- lines of changes
 
 -- nodes of which the one at a place took more changes

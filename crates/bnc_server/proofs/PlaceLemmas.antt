@@ -1,15 +1,17 @@
 -- The nodes of a world by their places: what is held of them, and what changes with them.
 use Rattle.std.proofs.Common.{◌≡◌, ℕ, ◌+◌, ◌<◌, Option, None, Some, List, [], ◌∷◌, ◌++◌, take, drop, map, length, get_or, set, Result, Ok, Err, refl, sym, ap, ◌∙◌, arith}
-use Rattle.std.specs.Prelude.{OnOk, IfOk}
+use Rattle.std.specs.Prelude.{◌≢◌, OnOk, IfOk, option_map}
 use Rattle.std.proofs.lemmas.List.{get_or-map, get_or_default, map-set, length-map, set-get_or}
 use Rattle.std.proofs.lemmas.List.Edits.{map_over_more}
 use Rattle.std.proofs.Math.ListN.{length-set}
 use Rattle.chat_batch.specs.declared.facts.Facts.{Facts}
 use Rattle.client_session.specs.declared.stage.Stage.TheVariants.{Registered}
 use Rattle.peer_lines.specs.Life.{Life, Ack}
+use Rattle.peer_lines.specs.declared.fault.LinkFault.{LinkFault}
+use Rattle.peer_lines.specs.declared.fault.LinkFault.TheVariants.{BadForm, WrongLife, AckTooHigh, NoMemory, NotTaken, NoEntry}
 use Rattle.bnc_server.specs.Node.{Node}
-use Rattle.bnc_server.specs.Links.{new_node, hearing, late_ack}
-use Rattle.bnc_server.specs.World.{World, no_node, node_at, with_node, taking_ack, life_of, lives_with, after_restart}
+use Rattle.bnc_server.specs.Links.{new_node, hearing, ack_answer, late_ack}
+use Rattle.bnc_server.specs.World.{World, no_node, node_at, with_node, refusal_of, ack_text, taking_ack, life_of, lives_with, after_restart}
 use Rattle.bnc_server.specs.Script.{selected_node}
 use Rattle.bnc_server.specs.HeldNode.{HeldNode, HeldWorld, held_node, held_world, after_ack_if, after_late}
 
@@ -23,6 +25,22 @@ on_ok_then (Err e) P Q p f = tt
 pub if_ok_then : {T E : Type 0} (r : Result T E) (P Q : T → Type 0) → IfOk r P → ((x : T) → P x → Q x) → IfOk r Q
 if_ok_then (Ok x) P Q p f = f x p
 if_ok_then (Err e) P Q p f = tt
+
+-- ---- refused acknowledgements
+
+pub refusal_some : (fault : LinkFault) → refusal_of fault ≢ []
+refusal_some BadForm = λ none. cc
+refusal_some WrongLife = λ none. cc
+refusal_some AckTooHigh = λ none. cc
+refusal_some NoMemory = λ none. cc
+refusal_some NotTaken = λ none. cc
+refusal_some NoEntry = λ none. cc
+
+-- what is printed where what was held back is taken
+pub handed_text : (w : World) (place other : ℕ) (held : Option Ack) (answer : Result (Unit {0}) LinkFault) → Some answer ≡ option_map (ack_answer (node_at w place) other) held
+    → ack_text answer ≡ (taking_ack w place other held).text
+handed_text w place other None answer is = cc
+handed_text w place other (Some ack) answer is = (let same : answer ≡ ack_answer (node_at w place) other ack = cc in ap ack_text same)
 
 -- ---- nodes of a world
 

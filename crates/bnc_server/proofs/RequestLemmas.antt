@@ -9,7 +9,7 @@ use Rattle.gossip_delta.specs.declared.fault.ChangeLineFault.{ChangeLineFault}
 use Rattle.gossip_delta.specs.declared.fault.ChangeLineFault.TheVariants.{BadForm, BadField, NoMemory}
 use Rattle.bnc_server.specs.Request.{request_in, is_change_line, of_change, of_command, of_client}
 use Rattle.bnc_server.specs.Command.{command_of}
-use Rattle.bnc_server.specs.Faults.{IsFaultOf}
+use Rattle.bnc_server.specs.HeldNode.{IsFaultOf}
 
 module _ (text : List ℕ) where
   pub asked_change : is_change_line text ≡ true → request_in text ≡ of_change (read_change text)

@@ -1,11 +1,9 @@
--- Which fault a line of a change has, and which a script ends with.
-use Rattle.std.specs.Prelude.{◌≡◌, ◌≢◌, ◌⊎◌, ⊤, List, [], ◌∷◌, Result, Ok, Err}
-use Rattle.chat_state.specs.declared.faults.StateFault.{StateFault}
-use Rattle.chat_state.specs.declared.faults.StateFault.TheVariants as state
+-- Which fault a request of a script may end with.
+use Rattle.std.specs.Prelude.{ℕ, ◌-◌, ◌^◌, ◌≡◌, ◌≢◌, ◌⊎◌, ⊤, List, [], ◌∷◌, ◌++◌, take, Some, Ok, Err}
 use Rattle.chat_change.specs.declared.change.Change.{Change}
-use Rattle.chat_history.specs.StateValue.{state_after, IsPastTheLast}
-use Rattle.gossip_delta.specs.declared.fault.ChangeLineFault.{ChangeLineFault}
-use Rattle.gossip_delta.specs.declared.fault.ChangeLineFault.TheVariants as line
+use Rattle.chat_history.specs.Numbering.{front}
+use Rattle.chat_history.specs.StateValue.{state_after, IsPastTheLast, greatest_number}
+use Rattle.peer_lines.specs.Life.{Packet}
 use Rattle.client_session.specs.Session.{too_long}
 use Rattle.client_session.specs.Step.{Step}
 use Rattle.client_session.specs.declared.effect.Effect.{Effect}
@@ -15,24 +13,29 @@ use Rattle.bnc_server.specs.declared.fault.ReplayFault.TheVariants.{NoMemory, Re
 use Rattle.bnc_server.specs.Request.{Request, of_change, of_command, of_client, over_long}
 use Rattle.bnc_server.specs.Command.{Command, select, exchange, lose, hold_back, hand_over, restart, bad_form}
 use Rattle.bnc_server.specs.Node.{Node, with_session, reply_to_effect, step_of}
-use Rattle.bnc_server.specs.World.{World}
+use Rattle.bnc_server.specs.World.{World, node_at, life_of, packet_of, after_sending, after_command}
 use Rattle.bnc_server.specs.Script.{selected_node}
 
--- the fault is the line's own, or there was no memory for the change that it spells
-abbrev pub IsFaultOf : Result Change ChangeLineFault → ChangeLineFault → Type 0
-IsFaultOf read line.NoMemory = (change : Change) × (read ≡ Ok change)
-IsFaultOf read fault = read ≡ Err fault
+-- a count is at its last value, which is told as Read, or else there was no memory
+abbrev pub MayLack : (count last : ℕ) → ReplayFault → Type 0
+MayLack count last NoMemory = count ≢ last
+MayLack count last Read = count ≡ last
+MayLack count last Write = ⊥
 
--- of a change that isn't taken
-abbrev pub of_state : StateFault → ReplayFault
-of_state state.Exhausted = Read
-of_state state.NoMemory = NoMemory
+-- ---- changes
 
 -- a change that is taken writes nothing, and is refused as Read exactly where no number is left
 abbrev pub MayRefuse : Node → Change → ReplayFault → Type 0
 MayRefuse node change NoMemory = ⊤
 MayRefuse node change Read = IsPastTheLast (state_after 0 node.taken) change
 MayRefuse node change Write = ⊥
+
+-- So many of the changes of a packet were taken, and no more: then no number was left, or there was no memory.
+abbrev pub MayCutShort : Node → List Change → ReplayFault → Type 0
+MayCutShort node changes fault =
+    (count : ℕ) × MayLack (front 0 (node.taken ++ take count changes)) greatest_number fault
+
+-- ---- lines of a client
 
 -- what takes no memory and no change can only fail to write
 abbrev pub MayStop : Node → Effect → ReplayFault → Type 0
@@ -53,21 +56,42 @@ abbrev pub MayEndStep : Node → Step → ReplayFault → Type 0
 MayEndStep node s fault =
     (fault ≡ NoMemory) ⊎ MayStopIn (with_session node s.session) s.effects fault
 
--- Sending may want memory, and as Read a number or an incarnation past the last. Only what prints can fail to write.
-abbrev pub MayEndCommand : Command → ReplayFault → Type 0
-MayEndCommand (select node) fault = ⊥
-MayEndCommand (exchange sender receiver) fault = ⊤
-MayEndCommand (lose sender receiver) fault = fault ≡ NoMemory
-MayEndCommand (hold_back sender receiver) fault = fault ≢ Write
-MayEndCommand (hand_over sender receiver) fault = fault ≡ Write
-MayEndCommand (restart node) fault = fault ≢ Write
-MayEndCommand bad_form fault = fault ≡ Write
+-- ---- commands
+
+-- there was no memory for the packet, or its receiver takes only a part of it
+abbrev pub MayStopSending : World → (sender receiver : ℕ) → ReplayFault → Type 0
+MayStopSending w sender receiver fault =
+    (fault ≡ NoMemory)
+    ⊎ ((packet : Packet) × (packet_of w sender receiver ≡ Some packet)
+    × MayCutShort (node_at (after_sending w sender receiver) receiver) packet.changes fault)
+
+-- only what prints something can fail to write
+abbrev pub MayFailToPrint : World → Command → ReplayFault → Type 0
+MayFailToPrint w command fault = (fault ≡ Write) × ((after_command w command).text ≢ [])
+
+abbrev pub greatest_incarnation : ℕ
+greatest_incarnation = 2 ^ 64 - 1
+
+abbrev pub MayEndCommand : World → Command → ReplayFault → Type 0
+MayEndCommand w (select node) fault = ⊥
+MayEndCommand w (exchange sender receiver) fault =
+    MayStopSending w sender receiver fault
+    ⊎ MayFailToPrint w (exchange sender receiver) fault
+MayEndCommand w (lose sender receiver) fault = fault ≡ NoMemory
+MayEndCommand w (hold_back sender receiver) fault = MayStopSending w sender receiver fault
+MayEndCommand w (hand_over sender receiver) fault =
+    MayFailToPrint w (hand_over sender receiver) fault
+MayEndCommand w (restart node) fault =
+    MayLack (life_of (node_at w node)).incarnation greatest_incarnation fault
+MayEndCommand w bad_form fault = MayFailToPrint w bad_form fault
+
+-- ---- requests
 
 -- the fault may come of a world that is asked
 abbrev pub MayEnd : World → Request → ReplayFault → Type 0
 MayEnd w (of_change (Ok change)) fault = MayRefuse (selected_node w) change fault
 MayEnd w (of_change (Err refusal)) fault = fault ≡ Write
-MayEnd w (of_command command) fault = MayEndCommand command fault
+MayEnd w (of_command command) fault = MayEndCommand w command fault
 MayEnd w (of_client bytes) fault =
     MayEndStep (selected_node w) (step_of w.directory (selected_node w) bytes) fault
 MayEnd w over_long fault =

@@ -1,7 +1,12 @@
 -- The code's node and world: those of a script, with what is held in place of the changes that were taken.
-use Rattle.std.specs.Prelude.{◌≡◌, ◌<◌, ⊤, ℕ, List, map, Option, None, Some, Result, OnOk, IfErr}
+use Rattle.std.specs.Prelude.{◌≡◌, ◌<◌, ⊤, ℕ, List, map, Option, None, Some, Result, Ok, Err, OnOk, IfErr}
 use Rattle.byte_text.specs.Writes.{WritesKnown}
+use Rattle.chat_change.specs.declared.change.Change.{Change}
 use Rattle.chat_history.specs.StateValue.{StateValue, state_after}
+use Rattle.chat_state.specs.declared.faults.StateFault.{StateFault}
+use Rattle.chat_state.specs.declared.faults.StateFault.TheVariants as state_fault
+use Rattle.gossip_delta.specs.declared.fault.ChangeLineFault.{ChangeLineFault}
+use Rattle.gossip_delta.specs.declared.fault.ChangeLineFault.TheVariants as line_fault
 use Rattle.client_directory.specs.Directory.{Directory}
 use Rattle.client_session.specs.declared.stage.Stage.{Stage}
 use Rattle.chat_batch.specs.declared.facts.Facts.{Facts}
@@ -12,6 +17,8 @@ use Rattle.bnc_server.specs.Links.{after_ack_of, late_ack}
 use Rattle.bnc_server.specs.World.{World}
 use Rattle.bnc_server.specs.Schedule.{node_count, ArePlaces}
 use Rattle.bnc_server.specs.Command.{Command, select, exchange, lose, hold_back, hand_over, restart, bad_form}
+use Rattle.bnc_server.specs.declared.fault.ReplayFault.{ReplayFault}
+use Rattle.bnc_server.specs.declared.fault.ReplayFault.TheVariants.{NoMemory, Read}
 use Rattle.bnc_server.specs.declared.command.Command as code
 use Rattle.bnc_server.specs.declared.command.Command.TheVariants as variant
 
@@ -71,6 +78,18 @@ Becomes {T} {E} {S} {H} result hold old after new =
 abbrev pub EndsBy : {T E S H : Type 0} → Result T E → (S → H) → H → (S → E → Type 0) → Type 0
 EndsBy {T} {E} {S} {H} result hold held MayEnd =
     IfErr result (λ fault. (s : S) → held ≡ hold s → MayEnd s fault)
+
+-- ---- faults of the crates below
+
+-- the fault is the line's own, or there was no memory for the change that it spells
+abbrev pub IsFaultOf : Result Change ChangeLineFault → ChangeLineFault → Type 0
+IsFaultOf read line_fault.NoMemory = (change : Change) × (read ≡ Ok change)
+IsFaultOf read fault = read ≡ Err fault
+
+-- of a change that isn't taken
+abbrev pub of_state : StateFault → ReplayFault
+of_state state_fault.Exhausted = Read
+of_state state_fault.NoMemory = NoMemory
 
 -- ---- commands
 

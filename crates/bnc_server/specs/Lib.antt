@@ -1,5 +1,5 @@
--- what a reader must believe: what lines ask for, what a node does with them, what a script prints, that it is lines, and
--- what the nodes are in a cluster
+-- what a reader must believe: what lines ask for, what a node does with them, what a script prints, that it is lines, where
+-- it ends with which fault, and what the nodes are in a cluster
 pub mod Command
 pub mod Request
 pub mod Node
@@ -8,8 +8,9 @@ pub mod World
 pub mod Script
 pub mod ChangeLines
 pub mod Printed
+pub mod Faults
+pub mod Ending
 pub mod Schedule
 -- what only the proofs use: what the code's values stand for, and how far a script has come
 pub mod HeldNode
-pub mod Faults
 pub mod Progress

@@ -1,14 +1,18 @@
--- How far a script has come: what is still to be printed, as a function of the bytes that are still to come.
-use Rattle.std.specs.Prelude.{◌≡◌, ℕ, List, [], ◌++◌, Option, None, Some, Result, MatchResult}
+-- How far a script has come: which of its items were answered, whatever bytes are still to come.
+use Rattle.std.specs.Prelude.{◌≡◌, ◌⊎◌, ℕ, List, [], ◌++◌, Option, None, Some, Result, MatchResult}
 use Rattle.std.specs.Io.KnownBytes.{Appends}
-use Rattle.byte_text.specs.Writes.{AppendsPrefix}
 use Rattle.irc_line.specs.Stream.{Item, Held, items_from, next_item}
+use Rattle.bnc_server.specs.declared.fault.ReplayFault.{ReplayFault}
+use Rattle.bnc_server.specs.declared.fault.ReplayFault.TheVariants.{Write}
 use Rattle.bnc_server.specs.Request.{request_of}
 use Rattle.bnc_server.specs.World.{World}
 use Rattle.bnc_server.specs.Script.{outcome, text_of}
+use Rattle.bnc_server.specs.ChangeLines.{world_after}
+use Rattle.bnc_server.specs.Faults.{MayEnd}
+use Rattle.bnc_server.specs.Ending.{EndsInItem}
 use Rattle.bnc_server.specs.HeldNode.{HeldWorld, held_world}
 
--- what is printed of an item, if there is one, and the world after it
+-- what is printed of an item, if there is one, the world after it, and which fault it may end with
 abbrev pub text_of_next : Option Item → World → List ℕ
 text_of_next None world = []
 text_of_next (Some item) world = (outcome world (request_of item)).text
@@ -17,36 +21,56 @@ abbrev pub world_after_next : Option Item → World → World
 world_after_next None world = world
 world_after_next (Some item) world = (outcome world (request_of item)).world
 
--- what a world prints of the bytes that its feeder holds and of those that follow
-abbrev pub to_come : World → Held → List ℕ → List ℕ
-to_come world held more = text_of world (items_from held more)
+abbrev pub MayEndNext : World → Option Item → ReplayFault → Type 0
+MayEndNext world None fault = ⊥
+MayEndNext world (Some item) fault = MayEnd world (request_of item) fault
 
 -- no whole line is held
 abbrev pub IsDrained : Held → Type 0
 IsDrained held = next_item held ≡ None
 
--- A text was written. Whatever bytes follow, it is the prefix of what was to come, and what a world that holds this has
--- still to print, of the bytes that are left and those that follow, is the rest.
-pub record Goes (old new : Option (List ℕ)) (before : List ℕ → List ℕ) (self : HeldWorld)
-    (feeder : Held) (left : List ℕ) : Type 0 where
-  pub world : World
-  pub is_held : self ≡ held_world world
-  pub text : List ℕ
-  pub written : Appends old new text
-  pub rest : (more : List ℕ) → before more ≡ text ++ to_come world feeder (left ++ more)
+-- Items were answered, and what they print was written. Whatever bytes follow, they are a prefix of what was to come of a
+-- world, and the rest is to come of what the feeder holds, the bytes that are left and those that follow.
+pub record Goes (old new : Option (List ℕ)) (world : World) (before : List ℕ → List Item)
+    (self : HeldWorld) (feeder : Held) (left : List ℕ) : Type 0 where
+  pub done : List Item
+  pub is_held : self ≡ held_world (world_after world done)
+  pub written : Appends old new (text_of world done)
+  pub rest : (more : List ℕ) → before more ≡ done ++ items_from feeder (left ++ more)
 
--- at `Ok` it went so; at `Err` a prefix of what was to come was written
-abbrev pub Advances : {E : Type 0} → Option (List ℕ) → Option (List ℕ) → Result (Unit {0}) E
-    → (List ℕ → List ℕ) → HeldWorld → Held → Type 0
-Advances old new result before self feeder =
-    MatchResult result
-    (λ _. Goes old new before self feeder [])
-    (λ _. (more : List ℕ) → AppendsPrefix old new (before more))
+-- one of the items that were to come ended it
+abbrev pub StopsInItem : Option (List ℕ) → Option (List ℕ) → World → (List ℕ → List Item)
+    → ReplayFault → Type 0
+StopsInItem old new world before fault =
+    (more : List ℕ) → EndsInItem old new world (before more) fault
+
+-- all items that had come were answered, but the answers couldn't be sent on their way
+pub record StopsSending (old new : Option (List ℕ)) (world : World) (before : List ℕ → List Item)
+    (self : HeldWorld) (feeder : Held) (fault : ReplayFault) : Type 0 where
+  pub fault_is : fault ≡ Write
+  pub drained : IsDrained feeder
+  pub goes : Goes old new world before self feeder []
+
+-- what is to come of a piece of a script, behind what the feeder holds
+abbrev pub items_with : Held → List ℕ → List ℕ → List Item
+items_with held piece more = items_from held (piece ++ more)
 
 -- a call serves a piece of a script, and leaves this
-abbrev pub Serves : {W E : Type 0} → (W → Option (List ℕ)) → W → W → Result (Unit {0}) E
+abbrev pub Serves : {W : Type 0} → (W → Option (List ℕ)) → W → W → Result (Unit {0}) ReplayFault
     → HeldWorld → Held → List ℕ → HeldWorld → Held → Type 0
 Serves contents old new result before held piece self feeder =
-    (world : World) → before ≡ held_world world
-    → Advances (contents old) (contents new) result
-    (λ more. to_come world held (piece ++ more)) self feeder
+    (world : World) → before ≡ held_world world →
+    MatchResult result
+    (λ _. Goes (contents old) (contents new) world (items_with held piece) self feeder [])
+    (StopsInItem (contents old) (contents new) world (items_with held piece))
+
+-- a call does so, and then sends the answers on their way
+abbrev pub ServesAndSends : {W : Type 0} → (W → Option (List ℕ)) → W → W
+    → Result (Unit {0}) ReplayFault → HeldWorld → Held → List ℕ → HeldWorld → Held → Type 0
+ServesAndSends contents old new result before held piece self feeder =
+    (world : World) → before ≡ held_world world →
+    MatchResult result
+    (λ _. Goes (contents old) (contents new) world (items_with held piece) self feeder [])
+    (λ fault.
+    StopsInItem (contents old) (contents new) world (items_with held piece) fault
+    ⊎ StopsSending (contents old) (contents new) world (items_with held piece) self feeder fault)

@@ -8,7 +8,7 @@ pub enum ReplayFault {
     /// There was no memory.
     #[error("no memory")]
     NoMemory,
-    /// The reader failed, the most reads were made, or a node can take no further change.
+    /// The reader failed, the most reads were made, or a node can take no further change or begin no further life.
     #[error("reading failed")]
     Read,
     /// The writer failed.

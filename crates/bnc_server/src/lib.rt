@@ -3,8 +3,9 @@
 //! A script plays nine nodes. A line posts a change on the selected node, carries packets and acknowledgements between two
 //! nodes, loses them or holds them back, restarts a node, or is a line of a client. Contracts say the whole output: at `Ok`
 //! exactly what the script's definition gives, which knows sets of changes and schedules and no state; after a fault a
-//! prefix of it. [`laws`] relates that definition to the cluster of `gossip_link`. A node is a `chat_state::State` with the
-//! session, the links and the facts of the crates below. The configuration is read by `node_config`. Read [`replay`] first.
+//! prefix of it, and in which item the fault came, or between which. [`laws`] relates that definition to the cluster of
+//! `gossip_link`. A node is a `chat_state::State` with the session, the links and the facts of the crates below. The
+//! configuration is read by `node_config`. Read [`replay`] first.
 #![tactic(auto)]
 
 mod command;

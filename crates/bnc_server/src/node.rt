@@ -1,6 +1,7 @@
 //! A node with its session: what it holds, and what it does for the session.
 ghost use Rattle.std.specs.Prelude.{◌≡◌, ◌≢◌, ◌<◌, List, [], ◌∷◌, ◌++◌, length, map};
 ghost use Rattle.std.specs.Prelude.{Ok, IfOk, IfErr, option_map};
+ghost use Rattle.chat_history.specs.StateValue.{greatest_number};
 ghost use Rattle.client_session.specs.declared.stage.Stage.TheVariants.{Registered};
 ghost use Rattle.client_session.specs.Session.{too_long, facts_in};
 ghost use Rattle.bnc_server.specs.Node as spec;
@@ -10,8 +11,9 @@ ghost use Rattle.bnc_server.specs.Links.{ack_answer, after_ack_of, late_ack, wit
 ghost use Rattle.bnc_server.specs.Script.{none_late};
 ghost use Rattle.bnc_server.specs.Schedule.{node_count};
 ghost use Rattle.bnc_server.specs.HeldNode.{HeldNode, held_node, after_late};
-ghost use Rattle.bnc_server.specs.HeldNode.{WritesTextOf, Becomes, EndsBy};
-ghost use Rattle.bnc_server.specs.Faults.{of_state, MayRefuse, MayStop, MayStopIn, MayEndStep};
+ghost use Rattle.bnc_server.specs.HeldNode.{WritesTextOf, Becomes, EndsBy, of_state};
+ghost use Rattle.bnc_server.specs.Faults.{MayLack, MayRefuse, MayCutShort};
+ghost use Rattle.bnc_server.specs.Faults.{MayStop, MayStopIn, MayEndStep};
 
 use crate::fault::ReplayFault;
 use crate::reply::put_text;
@@ -191,7 +193,7 @@ impl Node {
 
     // Why changes weren't all taken: no number is left, or there was no memory.
     fn cause(&self) -> ReplayFault
-        ensures { result ≢ ReplayFault.Write }
+        ensures { MayLack self.now.state.front greatest_number result }
     {
         if self.state.front() == u64::MAX {
             ReplayFault::Read
@@ -212,7 +214,8 @@ impl Node {
             → ack ≡ ack_for node place packet.now) }
         ensures node { Becomes result held_node self.old
             (λ node. after_packet node place packet.now) self.new }
-        ensures fault { IfErr result (λ fault. fault ≢ ReplayFault.Write) }
+        ensures fault { EndsBy result held_node self.old
+            (λ node. MayCutShort node packet.now.changes) }
     {
         let link = &self.links[place];
         match link.take_packet(alloc, packet, &mut self.state) {

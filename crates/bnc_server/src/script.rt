@@ -1,11 +1,14 @@
 //! A script: its lines are read, and answered in turn.
-ghost use Rattle.std.specs.Prelude.{◌≡◌, [], None, IfSome, OnOk, IfOk, is_some};
+ghost use Rattle.std.specs.Prelude.{◌≡◌, [], None, IfSome, OnOk, IfOk, IfErr, is_some};
+ghost use Rattle.std.specs.Io.KnownBytes.{IsAtEnd};
 ghost use Rattle.byte_text.specs.Writes.{Writes};
 ghost use Rattle.irc_line.specs.Stream.{next_item, held_without};
 ghost use Rattle.chat_change.specs.Faults.{buffer_fault};
-ghost use Rattle.bnc_server.specs.Script.{script};
-ghost use Rattle.bnc_server.specs.HeldNode.{held_world, WritesTextOf, Becomes};
-ghost use Rattle.bnc_server.specs.Progress.{text_of_next, world_after_next, IsDrained, Serves};
+ghost use Rattle.bnc_server.specs.Script.{start, script};
+ghost use Rattle.bnc_server.specs.Ending.{Ends};
+ghost use Rattle.bnc_server.specs.HeldNode.{held_world, WritesTextOf, Becomes, EndsBy};
+ghost use Rattle.bnc_server.specs.Progress.{text_of_next, world_after_next, MayEndNext};
+ghost use Rattle.bnc_server.specs.Progress.{IsDrained, Serves, ServesAndSends};
 
 use crate::fault::ReplayFault;
 use crate::world::World;
@@ -27,6 +30,8 @@ fn serve_next<W: Write>(
         (text_of_next (next_item feeder.old)) }
     ensures world { Becomes result held_world world.old
         (world_after_next (next_item feeder.old)) world.new }
+    ensures fault { EndsBy result held_world world.old
+        (λ w. MayEndNext w (next_item feeder.old)) }
     ensures feeder { feeder.new ≡ held_without (next_item feeder.old) feeder.old }
     ensures some { IfOk result (λ more. more ≡ is_some (next_item feeder.old)) }
 {
@@ -90,7 +95,7 @@ fn serve_piece<W: Write>(
     writer: &mut W,
 ) -> Result<(), ReplayFault>
     requires drained { IsDrained feeder.old }
-    ensures serves { Serves W.contents writer.old writer.new result
+    ensures serves { ServesAndSends W.contents writer.old writer.new result
         world.old feeder.old piece.now world.new feeder.new }
     ensures drained { OnOk result (IsDrained feeder.new) }
 {
@@ -111,9 +116,13 @@ pub(crate) fn replay_within<In: Read, Out: Write>(
     nick: &[u8],
     most_reads: u64,
 ) -> Result<(), ReplayFault>
-    ensures { IfSome (In.remaining reader.old) (λ input.
+    ensures script { IfSome (In.remaining reader.old) (λ input.
         Writes Out.contents writer.old writer.new result
         (script input account.now network.now nick.now)) }
+    ensures end { OnOk result (IsAtEnd (In.remaining reader.new)) }
+    ensures fault { IfErr result (Ends (In.remaining reader.old) (In.remaining reader.new)
+        (Out.contents writer.old) (Out.contents writer.new)
+        (start account.now network.now nick.now)) }
 {
     let Ok(mut feeder) = Feeder::new(alloc) else {
         return Err(ReplayFault::NoMemory);
@@ -162,6 +171,8 @@ pub(crate) fn replay_within<In: Read, Out: Write>(
 ///
 /// Fails with `NoMemory` for want of memory, with `Read` where the reader fails or has more after the most reads, or a
 /// node can take no further change or begin no further life, and with `Write` where the writer fails.
+/// The contract says in which item the script ended, or that all that was read was answered. That the reader or the writer
+/// failed it can't say, since nothing in `Read` and `Write` tells that one has.
 pub fn replay<In: Read, Out: Write>(
     alloc: Global,
     reader: &mut In,
@@ -174,6 +185,10 @@ pub fn replay<In: Read, Out: Write>(
     ensures script { IfSome (In.remaining reader.old) (λ input.
         Writes Out.contents writer.old writer.new result
         (script input account.now network.now nick.now)) }
+    ensures end { OnOk result (IsAtEnd (In.remaining reader.new)) }
+    ensures fault { IfErr result (Ends (In.remaining reader.old) (In.remaining reader.new)
+        (Out.contents writer.old) (Out.contents writer.new)
+        (start account.now network.now nick.now)) }
 {
     replay_within(alloc, reader, writer, account, network, nick, MOST_READS)
 }

@@ -12,8 +12,9 @@ ghost use Rattle.bnc_server.specs.World as worlds;
 ghost use Rattle.bnc_server.specs.Script as spec;
 ghost use Rattle.bnc_server.specs.Schedule.{node_count, ArePlaces};
 ghost use Rattle.bnc_server.specs.HeldNode.{held_node, held_world, value_of, HasNodes};
-ghost use Rattle.bnc_server.specs.HeldNode.{WritesTextOf, Becomes, EndsBy};
-ghost use Rattle.bnc_server.specs.Faults.{IsFaultOf, MayRefuse, MayEnd, MayEndCommand};
+ghost use Rattle.bnc_server.specs.HeldNode.{WritesTextOf, Becomes, EndsBy, IsFaultOf};
+ghost use Rattle.bnc_server.specs.Faults.{MayRefuse, MayStopSending};
+ghost use Rattle.bnc_server.specs.Faults.{MayEnd, MayEndCommand, greatest_incarnation};
 
 use crate::command::{Command, command_of};
 use crate::fault::ReplayFault;
@@ -170,7 +171,8 @@ fn begins_with(byte: u8, text: &[u8]) -> bool
 // Tells how an acknowledgement was refused, if it was.
 fn put_answer<W: Write>(answer: Result<(), LinkFault>, writer: &mut W) -> Result<(), ReplayFault>
     ensures text { Writes W.contents writer.old writer.new result (worlds.ack_text answer) }
-    ensures fault { IfErr result (λ fault. fault ≡ ReplayFault.Write) }
+    ensures fault { IfErr result
+        (λ fault. (fault ≡ ReplayFault.Write) × (worlds.ack_text answer ≢ [])) }
 {
     match answer {
         Ok(()) => Ok(()),
@@ -285,7 +287,8 @@ impl World {
             → ack ≡ worlds.ack_of w sender receiver) }
         ensures world { Becomes result held_world self.old
             (λ w. worlds.after_packet_of w sender receiver) self.new }
-        ensures fault { IfErr result (λ fault. fault ≢ ReplayFault.Write) }
+        ensures fault { EndsBy result held_world self.old
+            (λ w. MayStopSending w sender receiver) }
     {
         match self.nodes[sender].make_for(alloc, receiver)? {
             None => Ok(None),
@@ -305,6 +308,8 @@ impl World {
             (λ w. (worlds.after_command w (commands.exchange sender receiver)).text) }
         ensures world { Becomes result held_world self.old
             (λ w. (worlds.after_command w (commands.exchange sender receiver)).world) self.new }
+        ensures fault { EndsBy result held_world self.old
+            (λ w. MayEndCommand w (commands.exchange sender receiver)) }
     {
         match self.send(alloc, sender, receiver)? {
             None => Ok(()),
@@ -331,7 +336,8 @@ impl World {
         requires { ArePlaces sender receiver }
         ensures world { Becomes result held_world self.old
             (λ w. (worlds.after_command w (commands.hold_back sender receiver)).world) self.new }
-        ensures fault { IfErr result (λ fault. fault ≢ ReplayFault.Write) }
+        ensures fault { EndsBy result held_world self.old
+            (λ w. MayEndCommand w (commands.hold_back sender receiver)) }
     {
         if let Some(ack) = self.send(alloc, sender, receiver)? {
             self.nodes[sender].hold_back(receiver, ack);
@@ -350,7 +356,8 @@ impl World {
             (λ w. (worlds.after_command w (commands.hand_over sender receiver)).text) }
         ensures world { Becomes result held_world self.old
             (λ w. (worlds.after_command w (commands.hand_over sender receiver)).world) self.new }
-        ensures fault { IfErr result (λ fault. fault ≡ ReplayFault.Write) }
+        ensures fault { EndsBy result held_world self.old
+            (λ w. MayEndCommand w (commands.hand_over sender receiver)) }
     {
         match self.nodes[sender].take_late(receiver) {
             None => Ok(()),
@@ -370,12 +377,15 @@ impl World {
         Ok(lives)
     }
 
-    // The next life of the node at a place: None where there is no further incarnation.
+    // The next life of the node at a place. Where there is no further incarnation the fault is Read.
     fn next_life(&self, alloc: Global, place: usize) -> Result<Life, ReplayFault>
         requires { place < node_count }
         ensures life { IfOk result (λ life. (w : worlds.World) → self.now ≡ held_world w
             → life ≡ worlds.next_life (worlds.life_of (worlds.node_at w place))) }
-        ensures fault { IfErr result (λ fault. fault ≢ ReplayFault.Write) }
+        ensures next { OnOk result ((w : worlds.World) → self.now ≡ held_world w
+            → (worlds.life_of (worlds.node_at w place)).incarnation ≢ greatest_incarnation) }
+        ensures fault { EndsBy result held_world self.now
+            (λ w. MayEndCommand w (commands.restart place)) }
     {
         let life = self.nodes[place].life();
         let Some(incarnation) = life.incarnation().checked_add(1) else {
@@ -402,7 +412,8 @@ impl World {
         requires { place < node_count }
         ensures world { Becomes result held_world self.old
             (λ w. (worlds.after_command w (commands.restart place)).world) self.new }
-        ensures fault { IfErr result (λ fault. fault ≢ ReplayFault.Write) }
+        ensures fault { EndsBy result held_world self.old
+            (λ w. MayEndCommand w (commands.restart place)) }
     {
         let life = self.next_life(alloc, place)?;
         match self.begin(alloc, place, &life) {
@@ -422,7 +433,8 @@ impl World {
             (λ w. (worlds.after_command w (value_of command)).text) }
         ensures world { Becomes result held_world self.old
             (λ w. (worlds.after_command w (value_of command)).world) self.new }
-        ensures fault { IfErr result (MayEndCommand (value_of command)) }
+        ensures fault { EndsBy result held_world self.old
+            (λ w. MayEndCommand w (value_of command)) }
     {
         match command {
             Command::Select(node) => {

@@ -1,17 +1,17 @@
 use Rattle.std.proofs.Common.{◌-◌, ◌<◌, length, drop, arith, rules, length-drop}
 use Rattle.std.proofs.lemmas.List.{take_rest, length-take}
-use Rattle.bnc_server.proofs.ProgressLemmas.{goes-nothing, goes-on, goes-stops, goes-fed, stops-fed, advances_failed, drained_room}
+use Rattle.bnc_server.proofs.ProgressLemmas.{err_is, goes-nothing, goes-on, goes-stops, goes-fed, stops-fed, drained_room}
 use Rattle.bnc_server.proofs.script.feed_piece.Goals as goal
 
 pub feeds-init : goal.feeds-init
-feeds-init g c = record { drained = c.requires.drained; written = λ world is. goes-nothing _ _ _ _ world is }
+feeds-init g c = record { drained = c.requires.drained; goes = λ world is. goes-nothing _ _ _ _ world is }
 
 pub feeds-preserved : goal.feeds-preserved
 feeds-preserved g c = record {
   drained = c.in_ok-drain.ensures.drained;
-  written = λ world is.
-      goes-on _ _ _ _ c.feeds.world c.feeds.feeder c.feeds.rest.now (c.feeds.invariant.written world is) _ _ _ (λ now held.
-      goes-fed _ _ _ c.feeds.feeder c.feed-n.new.self _ c.feeds.rest.now _ c.feed-n.result c.feed-n.ensures.taken (take_rest c.feeds.rest.now c.feed-n.result) now
+  goes = λ world is.
+      goes-on _ _ _ world _ c.feeds.world c.feeds.feeder c.feeds.rest.now (c.feeds.invariant.goes world is) _ _ _ (λ now held.
+      goes-fed _ _ c.feeds.feeder c.feed-n.new.self c.feeds.rest.now _ c.feed-n.result c.feed-n.ensures.taken (take_rest c.feeds.rest.now c.feed-n.result) now _ _
       (c.in_ok-drain.ensures.serves now held));
 }
 
@@ -24,7 +24,7 @@ feeds-smaller g c =
 
 pub returns-in_err-drain-clause-serves : goal.returns-in_err-drain-clause-serves
 returns-in_err-drain-clause-serves g c world is =
-    advances_failed _ _ _ c.from_residual.result _ _ _ c.from_residual.ensures.1
-    (goes-stops _ _ _ _ c.feeds.world c.feeds.feeder c.feeds.rest.now (c.feeds.invariant.written world is) (λ now held.
-    stops-fed _ _ c.drain.new.world c.feeds.feeder c.feed-n.new.self c.drain.new.feeder c.feeds.rest.now _ c.feed-n.result c.feed-n.ensures.taken (take_rest c.feeds.rest.now c.feed-n.result) now
+    err_is _ _ _ c.from_residual.result c.from_residual.ensures.1
+    (goes-stops _ _ _ world _ c.feeds.world c.feeds.feeder c.feeds.rest.now (c.feeds.invariant.goes world is) _ (λ now held.
+    stops-fed _ _ c.feeds.feeder c.feed-n.new.self c.feeds.rest.now _ c.feed-n.result c.feed-n.ensures.taken (take_rest c.feeds.rest.now c.feed-n.result) now _
     (c.in_err-drain.ensures.serves now held)))
