@@ -622,12 +622,14 @@ def floors_among_posts():
         account_floor(900), message("#a", "m1", 899, "hi"), message("#a", "m1", 900, "hi"), message("#a", "m2", 1500, "hi"),
         message("#b", "m1", 1499, "hi"), message("#b", "m2", 2000, "hi"), message("#c", "m3", 1000, "hi"),
         redact("#b", "m9", 1200), redact("#a", "m2", 1700), mark("#a", 100), mark("#c", 0), floor("#d", 1400),
-        elsewhere("demo", "two", "m1", 1499), elsewhere("demo", "two", "m2", 1500), elsewhere("dem", "net", "m1", 1000),
+        elsewhere("demo", "-", "m1", 1499), elsewhere("demo", "-", "m2", 1500), elsewhere("demo", "two", "m1", 1499),
+        elsewhere("demo", "two", "m2", 1500), elsewhere("dem", "net", "m1", 1000),
         elsewhere("demos", "net", "m1", 1000), elsewhere("demos", "net", "m2", 2000), account_floor(1500),
         message("#a", "m3", 1499, "late"), message("#b", "m3", 1500, "late"), message("#d", "m1", 1499, "late"),
         redact("#c", "m9", 1499), redact("#c", "m9", 1500), account_floor(1001, "demos"), account_floor(1, "none"),
         account_floor(1499), account_floor(1700), account_floor(1701), floor("#d", 1702), mark("#d", 1)])
-    for account, network in [("demo", "net"), ("demo", "two"), ("dem", "net"), ("demos", "net"), ("none", "net")]:
+    networks = [("demo", "-"), ("demo", "net"), ("demo", "two"), ("dem", "net"), ("demos", "net"), ("none", "net")]
+    for account, network in networks:
         case.latest(account, network)
     for start in range(6, 24, 4):
         case.delta(start)
