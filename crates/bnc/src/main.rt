@@ -6,7 +6,8 @@
 //! a refusal stands on standard error. Read `main` first; `exit` says which status each end has.
 #![tactic(auto)]
 
-ghost use Rattle.std.specs.Prelude.{◌≡◌, ◌≢◌, ◌↔◌, ◌⊎◌, None, Ok, Err, IfOk, IfErr, IsTrue};
+ghost use Rattle.std.specs.Prelude.{◌≡◌, ◌≢◌, ◌↔◌, ◌⊎◌, None, Ok, Err, IfOk, OnOk, IfErr, IsTrue};
+ghost use Rattle.std.specs.Io.KnownBytes.{IsAtEnd};
 ghost use Rattle.chat_change.specs.Faults.{buffer_fault};
 ghost use Rattle.std.specs.Process.{exit_status};
 ghost use Rattle.bnc.specs.Status.{status_of};
@@ -146,7 +147,7 @@ fn chosen<'a>(alloc: Global, words: &'a [String]) -> Result<Names<'a>, End<'a>>
     }
 }
 
-/// Answers a script.
+/// Answers a script, which is read to its end where all is done.
 fn answer<In: Read, Out: Write + Drop>(
     alloc: Global,
     reader: &mut In,
@@ -154,6 +155,7 @@ fn answer<In: Read, Out: Write + Drop>(
     names: Names<'_>,
 ) -> Result<(), End<'static>>
     requires { buffer_fault names.account.now names.network.now names.nick.now ≡ None }
+    ensures { OnOk result (IsAtEnd (In.remaining reader.new)) }
 {
     let Ok(mut writer) = BufWriter::new(alloc, writer) else {
         return Err(End::NoMemory);
