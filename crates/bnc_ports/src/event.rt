@@ -23,6 +23,8 @@ pub enum Reason {
     UnknownNode,
     /// It acknowledged nothing for too long.
     Unacknowledged,
+    /// Nothing came from a peer for five minutes.
+    Unheard,
     /// A newer connection took its place.
     Replaced,
     /// It didn't read what was owed to it.
@@ -46,6 +48,7 @@ impl fmt::Display for Reason {
             Reason::WrongWord => "it sent another word than the shared one",
             Reason::UnknownNode => "it is no configured peer",
             Reason::Unacknowledged => "it acknowledged nothing for too long",
+            Reason::Unheard => "nothing came from it for five minutes, so it is taken for gone",
             Reason::Replaced => "a newer connection took its place",
             Reason::Overrun => "it did not read what was owed to it",
             Reason::NoPlace => "each place is taken",
@@ -106,6 +109,20 @@ pub enum Event<'a> {
         node: &'a [u8],
         incarnation: u64,
     },
+    /// A peer said hello as an earlier life than the one of that incarnation, which is known of it: it is sent nothing.
+    PeerBehind {
+        node: &'a [u8],
+        incarnation: u64,
+    },
+    /// A peer knows a later life of this node, of that incarnation, and sends this one nothing.
+    NodeBehind {
+        node: &'a [u8],
+        incarnation: u64,
+    },
+    /// There has been no connection for two minutes with a peer to which this node opens them.
+    PeerAbsent {
+        node: &'a [u8],
+    },
     /// The connection with a peer that was greeted ended.
     PeerDown {
         node: &'a [u8],
@@ -131,6 +148,9 @@ impl<'a> Event<'a> {
             Event::UpstreamUp { .. } => "upstream up",
             Event::UpstreamDown { .. } => "upstream down",
             Event::PeerGreeted { .. } => "peer greeted",
+            Event::PeerBehind { .. } => "peer behind",
+            Event::NodeBehind { .. } => "node behind",
+            Event::PeerAbsent { .. } => "peer absent",
             Event::PeerDown { .. } => "peer down",
             Event::PeerRefused { .. } => "peer refused",
         }
@@ -219,10 +239,35 @@ impl<'a, 'b> fmt::Display for Detail<'a, 'b> {
             }
             Event::UpstreamUp { nick, .. } => write!(f, " as {}", BStr::new(nick)),
             Event::UpstreamDown { .. } => Ok(()),
-            Event::PeerGreeted { node, incarnation } => {
-                write!(f, "{} (incarnation {incarnation})", BStr::new(node))
+            Event::PeerGreeted { node, .. }
+            | Event::PeerBehind { node, .. }
+            | Event::NodeBehind { node, .. }
+            | Event::PeerAbsent { node }
+            | Event::PeerDown { node, .. } => {
+                write!(f, "{}{}", BStr::new(node), Standing(self.0))
             }
-            Event::PeerDown { node, .. } => write!(f, "{}", BStr::new(node)),
+        }
+    }
+}
+
+// What stands behind the name of a peer.
+#[derive(Clone, Copy)]
+struct Standing<'a, 'b>(&'b Event<'a>);
+
+impl<'a, 'b> fmt::Display for Standing<'a, 'b> {
+    fn fmt<W: fmt::Write>(&self, f: &mut fmt::Formatter<W>) -> fmt::Result {
+        match *self.0 {
+            Event::PeerGreeted { incarnation, .. } => write!(f, " (incarnation {incarnation})"),
+            Event::PeerBehind { incarnation, .. } => write!(
+                f,
+                ": its clock is behind its last life (incarnation {incarnation})"
+            ),
+            Event::NodeBehind { incarnation, .. } => write!(
+                f,
+                " knows a later life of this node (incarnation {incarnation}): set the clock right and start again"
+            ),
+            Event::PeerAbsent { .. } => f.write_str(": no connection for two minutes"),
+            _ => Ok(()),
         }
     }
 }
