@@ -34,13 +34,12 @@ pub struct Desk<P> {
     lines: Lines,
 }
 
-// So many timers must not be lost: two of each network, as its server is tried again or is silent; two of each peer, as it is
-// tried again or acknowledges nothing; that of the floors, and that of what waits.
+// So many timers must not be lost: two of each network, as its server is tried again or is silent; four of each peer, as it is
+// tried again, has no connection, is silent or acknowledges nothing; that of the floors, and that of what waits.
 fn room_of(networks: usize, peers: usize) -> usize {
-    networks
-        .saturating_add(peers)
-        .saturating_mul(2)
-        .saturating_add(2)
+    let of_networks = networks.saturating_mul(2);
+    let of_peers = peers.saturating_mul(4);
+    of_networks.saturating_add(of_peers).saturating_add(2)
 }
 
 impl<P: Port> Desk<P> {
