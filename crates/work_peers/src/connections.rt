@@ -3,7 +3,7 @@ use crate::peer::Peer;
 use crate::peers::Peers;
 use bnc_ports::{Event, Port, Reason};
 use byte_text::NoMemory;
-use gossip_link::{Arrived, Side};
+use gossip_link::Side;
 use peer_session::PeerSession;
 use work_desk::{Desk, PATIENCE, Site};
 use work_lines::Pipe;
@@ -41,7 +41,8 @@ impl Peers {
             None => Side::Acceptor,
         };
         self.make_room()?;
-        let mut peer = Peer::new(Pipe::new(site.alloc, line), PeerSession::new(side), dialed);
+        let pipe = Pipe::new(site.alloc, line);
+        let mut peer = Peer::new(pipe, PeerSession::new(side), dialed, site.now);
         peer.open(&site.terms, &mut self.out)?;
         self.add(line, peer)
     }
@@ -58,15 +59,8 @@ impl Peers {
     }
 
     /// A message of the peer at that place came over that connection. Where it is the first one, the peer's older
-    /// connection is closed, and the operator is told that the peer said hello. A connection that was opened to
-    /// another peer is closed.
-    pub fn greet<P: Port>(
-        &mut self,
-        desk: &mut Desk<P>,
-        line: usize,
-        place: usize,
-        arrived: &Arrived,
-    ) {
+    /// connection is closed. A connection that was opened to another peer is closed.
+    pub fn greet<P: Port>(&mut self, desk: &mut Desk<P>, line: usize, place: usize) {
         let Some(peer) = self.all.get(&line) else {
             return;
         };
@@ -79,13 +73,11 @@ impl Peers {
         }
         desk.timers.clear(Timer::Unregistered(line));
         desk.timers.clear(Timer::RetryPeer(place));
+        desk.timers.clear(Timer::AbsentPeer(place));
         if let Some(older) = self.settle(line, place) {
             self.close(desk, older, Reason::Replaced);
         }
-        if let (Some(node), Arrived::Hello(life, _)) = (self.name(Some(place)), arrived) {
-            let incarnation = life.incarnation();
-            desk.port.report(&Event::PeerGreeted { node, incarnation });
-        }
+        self.check_quiet(desk, line);
     }
 
     /// Closes a connection, and tells the operator why. Where this node opens the connections with its peer, it dials
@@ -96,11 +88,15 @@ impl Peers {
         };
         desk.timers.clear(Timer::Unregistered(line));
         desk.timers.clear(Timer::UnansweredPacket(line));
+        desk.timers.clear(Timer::QuietPeer(line));
         let address = desk.port.address(line);
         desk.port.close(line);
         match self.name(place) {
             Some(node) => desk.port.report(&Event::PeerDown { node, reason }),
             None => desk.port.report(&Event::PeerRefused { address, reason }),
+        }
+        if let Some(place) = place {
+            self.miss(desk, place);
         }
         if let Some(place) = place.or(dialed) {
             self.dial_later(desk, place);

@@ -8,6 +8,7 @@ impl Peers {
     /// Begins a connection with each peer to which this node is to open one.
     pub fn dial_all<P: Port>(&mut self, desk: &mut Desk<P>) {
         for place in 0..self.neighbours.len() {
+            self.miss(desk, place);
             self.dial(desk, place);
         }
     }

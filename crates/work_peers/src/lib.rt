@@ -3,17 +3,20 @@
 //! [`Peers`] holds the connections by the numbers that the port gave them, and what is kept of each peer over its
 //! connections. Its methods work at the worker's desk. A connection [`begins`](Peers::begin), is
 //! [`greeted`](Peers::greet) by its peer, and is [`closed`](Peers::close); one that this node opened is
-//! [`dialed`](Peers::dial) again later. Whoever calls [`step`](Peers::step) carries out the message that it gives by
-//! [`greet`](Peers::greet), [`arrive`](Peers::arrive), and then [`publish`](Peers::publish) or
+//! [`dialed`](Peers::dial) again later. Where nothing goes over one, each side says hello again, so that neither waits for a
+//! peer that is gone ([`check_quiet`](Peers::check_quiet)). Whoever calls [`step`](Peers::step) carries out the message that
+//! it gives by [`greet`](Peers::greet), [`arrive`](Peers::arrive), and then [`publish`](Peers::publish) or
 //! [`advance`](Peers::advance), which make the next packets.
 #![tactic(auto)]
 
 mod connections;
 mod dialing;
+mod lives;
 mod neighbour;
 mod packets;
 mod peer;
 mod peers;
+mod quiet;
 mod turns;
 
 pub use peers::Peers;

@@ -10,6 +10,8 @@ pub(crate) struct Neighbour {
     pub(crate) link: Link,
     /// The connection over which it said hello.
     pub(crate) line: Option<usize>,
+    /// The incarnation of the life that the link knows; 0 where it knows none.
+    pub(crate) incarnation: u64,
     // Whether this node opens the connections: of two nodes, the one whose name is less.
     is_dialed: bool,
 }
@@ -24,6 +26,7 @@ impl Neighbour {
             name,
             link: Link::new(me, copy),
             line: None,
+            incarnation: 0,
             is_dialed,
         })
     }

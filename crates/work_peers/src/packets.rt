@@ -23,7 +23,7 @@ impl Peer {
             .session
             .send_next(site.alloc, link, source, site.now, out);
         match sent {
-            Ok(_) => self.owe(out.as_slice()),
+            Ok(_) => self.owe(out.as_slice(), site.now),
             Err(LinkFault::NoEntry) => self.lost = Some(Reason::NoEntry),
             Err(_) => self.lost = Some(Reason::NoMemory),
         }
@@ -32,7 +32,8 @@ impl Peer {
 
 impl Peers {
     /// Carries out a message of the peer at that place, which came over that connection: the taker takes the changes of a
-    /// packet, and the acknowledgement waits for the peer. After `Taken` and `TakenInPart` it is time to
+    /// packet, and the acknowledgement waits for the peer. The operator is told once a connection what the peer's hello came
+    /// to, and where the peer knows a later life of this node. After `Taken` and `TakenInPart` it is time to
     /// [`publish`](Peers::publish), and after the other outcomes to [`advance`](Peers::advance). For want of memory the
     /// connection is to be closed.
     pub fn arrive<P: Port, T: Taker>(
@@ -60,7 +61,8 @@ impl Peers {
         let outcome = peer
             .session
             .arrive(desk.site.alloc, link, arrived, taker, out)?;
-        peer.owe(out.as_slice());
+        peer.owe(out.as_slice(), desk.site.now);
+        self.note_lives(desk, line, place, arrived, outcome);
         Ok(outcome)
     }
 

@@ -66,6 +66,7 @@ impl Peer {
             pipe,
             session,
             place,
+            heard_at,
             ..
         } = self;
         match pipe.next_line() {
@@ -78,7 +79,13 @@ impl Peer {
                 let heard = session.hear(site.alloc, &site.terms, None, out);
                 step_of(heard, Reason::BadLine)
             }
-            Next::More => step_of_fill(pipe.fill(port, chunk.as_mut_slice(), feeders)),
+            Next::More => {
+                let filled = pipe.fill(port, chunk.as_mut_slice(), feeders);
+                if filled == Filled::More {
+                    *heard_at = site.now;
+                }
+                step_of_fill(filled)
+            }
         }
     }
 }
@@ -93,7 +100,7 @@ impl Peers {
         };
         out.clear();
         let step = peer.step(desk, out);
-        peer.owe(out.as_slice());
+        peer.owe(out.as_slice(), desk.site.now);
         step
     }
 

@@ -1,0 +1,124 @@
+//! Lives that are behind: a peer that says hello as an earlier life than the one that is known of it, and this node, where a
+//! peer knows a later life of it. That is so where a clock was set back before a start.
+use crate::peer::Peer;
+use crate::peers::Peers;
+use bnc_ports::{Event, Port, Reason};
+use byte_text::NoMemory;
+use gossip_link::{Ack, Arrived, Life, NodeName, Terms, write_ack};
+use peer_session::Outcome;
+use work_desk::{Desk, Site};
+
+// Whether a life is one of this node that is later than its present one.
+fn is_later(terms: &Terms, life: &Life) -> bool {
+    let me = terms.me();
+    life.is_of(me.node()) && me.incarnation() < life.incarnation()
+}
+
+// Appends an acknowledgement of nothing to that life of the peer of that name.
+fn acknowledge_nothing(
+    site: &Site,
+    name: &NodeName,
+    incarnation: u64,
+    out: &mut Vec<u8>,
+) -> Result<(), NoMemory> {
+    let me = site.terms.me().try_clone(site.alloc)?;
+    let life = Life::new(name.try_clone(site.alloc)?, incarnation);
+    match write_ack(&Ack::new(me, life, 0), out) {
+        Ok(()) => Ok(()),
+        Err(_) => Err(NoMemory),
+    }
+}
+
+impl Peer {
+    // The peer is to see that it is behind its life of that incarnation: by an acknowledgement of nothing to that life.
+    fn owe_last_life(&mut self, site: &Site, name: &NodeName, incarnation: u64, out: &mut Vec<u8>) {
+        out.clear();
+        match acknowledge_nothing(site, name, incarnation, out) {
+            Ok(()) => self.owe(out.as_slice(), site.now),
+            Err(NoMemory) => self.lost = Some(Reason::NoMemory),
+        }
+    }
+}
+
+impl Peers {
+    /// Notes what a message of the peer at that place, which came to that, says of lives.
+    pub(crate) fn note_lives<P: Port>(
+        &mut self,
+        desk: &mut Desk<P>,
+        line: usize,
+        place: usize,
+        arrived: &Arrived,
+        outcome: Outcome,
+    ) {
+        match arrived {
+            Arrived::Hello(life, _) => {
+                let is_known = outcome == Outcome::Known;
+                self.judge(desk, line, place, life.incarnation(), is_known);
+            }
+            Arrived::Packet(packet) => self.note_receiver(desk, line, place, packet.receiver()),
+            Arrived::Ack(ack) => self.note_receiver(desk, line, place, ack.receiver()),
+            Arrived::Word(_) => {}
+        }
+    }
+
+    // The peer at that place said hello in that incarnation. The operator is told once a connection whether the link knows
+    // that life now, or knows a later one; then the peer is told so too.
+    fn judge<P: Port>(
+        &mut self,
+        desk: &mut Desk<P>,
+        line: usize,
+        place: usize,
+        incarnation: u64,
+        is_known: bool,
+    ) {
+        let Peers {
+            all,
+            neighbours,
+            out,
+            ..
+        } = self;
+        let (Some(peer), Some(neighbour)) = (all.get_mut(&line), neighbours.get_mut(place)) else {
+            return;
+        };
+        if is_known {
+            neighbour.incarnation = incarnation;
+        }
+        if peer.is_judged {
+            return;
+        }
+        peer.is_judged = true;
+        let node = neighbour.name.as_bytes();
+        let incarnation = neighbour.incarnation;
+        if is_known {
+            desk.port.report(&Event::PeerGreeted { node, incarnation });
+        } else {
+            desk.port.report(&Event::PeerBehind { node, incarnation });
+            peer.owe_last_life(&desk.site, &neighbour.name, incarnation, out);
+        }
+    }
+
+    // The peer at that place sent something for that life. The operator is told once a connection where it is a later one of
+    // this node.
+    fn note_receiver<P: Port>(
+        &mut self,
+        desk: &mut Desk<P>,
+        line: usize,
+        place: usize,
+        receiver: &Life,
+    ) {
+        if !is_later(&desk.site.terms, receiver) {
+            return;
+        }
+        let Some(peer) = self.all.get_mut(&line) else {
+            return;
+        };
+        if peer.is_behind {
+            return;
+        }
+        peer.is_behind = true;
+        if let Some(node) = self.name(Some(place)) {
+            let incarnation = receiver.incarnation();
+            desk.port.report(&Event::NodeBehind { node, incarnation });
+        }
+    }
+}

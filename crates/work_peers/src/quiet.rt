@@ -1,0 +1,81 @@
+//! Connections over which nothing goes, and peers with which there is none.
+use crate::peer::Peer;
+use crate::peers::Peers;
+use bnc_ports::{Event, Port, Reason};
+use byte_text::NoMemory;
+use peer_session::say_hello_again;
+use work_desk::{Desk, Site};
+use work_timers::Timer;
+
+/// The hello is said again to a peer that was owed nothing for so many milliseconds.
+const HELLO_AGAIN: u64 = 60_000;
+
+/// A peer from which nothing came for so many milliseconds is taken for gone.
+const GONE: u64 = 300_000;
+
+/// The operator is told of a peer with which there was no connection for so many milliseconds.
+const ABSENT: u64 = 120_000;
+
+impl Peer {
+    // When the hello is to be said again, where nothing else is sent until then.
+    fn hello_due(&self) -> u64 {
+        self.said_at.saturating_add(HELLO_AGAIN)
+    }
+
+    // When the peer is taken for gone, where nothing comes until then.
+    fn gone_at(&self) -> u64 {
+        self.heard_at.saturating_add(GONE)
+    }
+
+    // Says the own hello again to the peer at that place, where it is due.
+    fn repeat_hello(&mut self, site: &Site, place: usize, out: &mut Vec<u8>) {
+        if site.now < self.hello_due() {
+            return;
+        }
+        out.clear();
+        match say_hello_again(&site.terms, place, out) {
+            Ok(()) => self.owe(out.as_slice(), site.now),
+            Err(NoMemory) => self.lost = Some(Reason::NoMemory),
+        }
+    }
+}
+
+impl Peers {
+    /// Looks at a connection that is greeted: where nothing came over it for five minutes it is closed, and where the peer was
+    /// owed nothing for 60 seconds the own hello waits for it again. It is looked at again once one of the two is due.
+    pub fn check_quiet<P: Port>(&mut self, desk: &mut Desk<P>, line: usize) {
+        let Peers { all, out, .. } = self;
+        let Some(peer) = all.get_mut(&line) else {
+            return;
+        };
+        let Some(place) = peer.place else {
+            return;
+        };
+        if peer.gone_at() <= desk.site.now {
+            self.close(desk, line, Reason::Unheard);
+            return;
+        }
+        peer.repeat_hello(&desk.site, place, out);
+        let next = peer.hello_due().min(peer.gone_at());
+        desk.timers.set(Timer::QuietPeer(line), next);
+        self.wake(line);
+    }
+
+    /// There is no connection with the peer at that place from now on. Where this node is to open one, the operator is told if
+    /// there is still none after two minutes.
+    pub(crate) fn miss<P: Port>(&self, desk: &mut Desk<P>, place: usize) {
+        if self.is_wanted(place) {
+            desk.set_timer(Timer::AbsentPeer(place), ABSENT);
+        }
+    }
+
+    /// Tells the operator of the peer at that place, where this node is to open a connection with it and there is none.
+    pub fn check_absent<P: Port>(&self, desk: &mut Desk<P>, place: usize) {
+        if !self.is_wanted(place) {
+            return;
+        }
+        if let Some(node) = self.name(Some(place)) {
+            desk.port.report(&Event::PeerAbsent { node });
+        }
+    }
+}
