@@ -1,4 +1,5 @@
 //! What the operator is told.
+use crate::clocks::Leap;
 use bstr::BStr;
 use irc_time::{Moment, write_time};
 use std::fmt;
@@ -72,6 +73,13 @@ pub enum Event<'a> {
         at: Moment,
         is_ahead: bool,
     },
+    /// Floors of retention were put, so many: those conversations keep nothing before that moment.
+    FloorsPut {
+        count: usize,
+        at: Moment,
+    },
+    /// The clock leapt since it was looked at last, so no floor of retention is put this time.
+    ClockLeapt(Leap),
     /// The system gave no further connection, as where no descriptor is left. It is tried again.
     AcceptFailed,
     /// A client registered.
@@ -141,6 +149,8 @@ impl<'a> Event<'a> {
         match self {
             Event::Listening { .. } => "listening",
             Event::FloorPut { .. } => "floor put",
+            Event::FloorsPut { .. } => "floors put",
+            Event::ClockLeapt(_) => "clock leapt",
             Event::AcceptFailed => "accept failed",
             Event::ClientIn { .. } => "client in",
             Event::ClientOut { .. } => "client out",
@@ -229,6 +239,15 @@ impl<'a, 'b> fmt::Display for Detail<'a, 'b> {
                 "{}{}",
                 KeptFrom(account, at),
                 if is_ahead { ", which lies ahead" } else { "" }
+            ),
+            Event::FloorsPut { count, at } => {
+                let time = write_time(at);
+                let time = BStr::new(&time);
+                write!(f, "{count}, and what is older than {time} is let go")
+            }
+            Event::ClockLeapt(leap) => write!(
+                f,
+                "{leap}, so no floor is put before it has kept time for an hour"
             ),
             Event::AcceptFailed => f.write_str("tried again in a second"),
             Event::ClientIn { address, .. } | Event::ClientOut { address, .. } => {

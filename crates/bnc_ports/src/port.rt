@@ -1,6 +1,7 @@
 //! The connections of a worker, and what else comes to it.
 ghost use Rattle.std.specs.Prelude.{◌≤◌, length, IfOk};
 
+use crate::clocks::Clocks;
 use crate::event::Event;
 use crate::mail::Mail;
 use std::net::SocketAddr;
@@ -90,8 +91,8 @@ pub trait Port: Drop {
     /// How many workers there are.
     fn workers(&self) -> usize;
 
-    /// Milliseconds since 1970 began.
-    fn now_ms(&mut self) -> Result<u64, PortFault>;
+    /// What the clocks read now.
+    fn clocks(&mut self) -> Result<Clocks, PortFault>;
 
     /// Tells the operator.
     fn report(&mut self, event: &Event<'_>);
