@@ -1,7 +1,7 @@
 //! The port and the timers of a worker.
 use crate::schedule::Schedule;
 use crate::site::Site;
-use bnc_ports::Port;
+use bnc_ports::{Clocks, Port};
 use byte_text::NoMemory;
 use chat_change::Moment;
 use shared_lines::{Lines, SharedLine};
@@ -11,14 +11,14 @@ use work_timers::Timer;
 /// So many bytes come in, or go out, at once.
 const CHUNK: usize = 16_384;
 
-/// The port's clock, in milliseconds since 1970 began, and as a moment. None where it isn't read, or lies beyond the moments
-/// that there are.
+/// The port's clocks: the monotonic one in milliseconds, and the wall clock as a moment. None where they aren't read, or the
+/// wall clock lies beyond the moments that there are.
 pub fn clock<P: Port>(port: &mut P) -> Option<(u64, Moment)> {
-    let Ok(now) = port.now_ms() else {
+    let Ok(Clocks { wall, monotonic }) = port.clocks() else {
         return None;
     };
-    let moment = Moment::from_ms(now)?;
-    Some((now, moment))
+    let moment = Moment::from_ms(wall)?;
+    Some((monotonic, moment))
 }
 
 /// What all parts of a worker share.
@@ -66,7 +66,7 @@ impl<P: Port> Desk<P> {
         self.lines.share(self.site.alloc, bytes)
     }
 
-    /// Reads the port's clock anew. False where [`clock`] tells nothing.
+    /// Reads the port's clocks anew. False where [`clock`] tells nothing.
     pub fn read_clock(&mut self) -> bool {
         match clock(&mut self.port) {
             Some((now, moment)) => {

@@ -2,16 +2,19 @@
 //!
 //! A [`Desk`] is lent to the part that has its turn: the servers, the clients or the peers. Its [`Site`] is what the node's
 //! configuration and directory say; its [`Schedule`] rings when a connection is to be tried again, is silent, or a floor is
-//! due; its lines are shared with other workers. [`Fate`] says whether a connection stays. It stands on `bnc_ports`,
-//! `work_lines` and `work_timers`. Read [`Desk`] first.
+//! due; its lines are shared with other workers. [`Fate`] says whether a connection stays, and a [`ClockWatch`] whether the
+//! wall clock keeps time. It stands on `bnc_ports`, `work_lines` and `work_timers`. Read [`Desk`] first.
 #![tactic(auto)]
 
+mod clock_watch;
 mod desk;
 mod fate;
+pub mod laws;
 mod schedule;
 mod site;
 mod waits;
 
+pub use clock_watch::{BETWEEN_LOOKS, ClockWatch};
 pub use desk::{Desk, clock};
 pub use fate::Fate;
 pub use schedule::Schedule;

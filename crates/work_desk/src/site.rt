@@ -2,6 +2,7 @@
 ghost use Rattle.std.specs.Prelude.{◌≡◌, ◌<◌, ◌%◌, position};
 ghost use Rattle.work_desk.specs.Networks as spec;
 
+use bnc_ports::Clocks;
 use byte_text::{NoMemory, Text};
 use chat_change::Moment;
 use client_directory::{Directory, Entry};
@@ -16,8 +17,9 @@ pub struct Site {
     /// Which worker this is of how many.
     pub worker: usize,
     pub workers: usize,
-    /// The time, in milliseconds since 1970 began.
+    /// Now, by the monotonic clock in milliseconds: what is due is due by it.
     pub now: u64,
+    /// Now, by the wall clock: the moment of what comes.
     pub moment: Moment,
     /// The name of the cluster.
     pub cluster: Text,
@@ -34,6 +36,16 @@ pub struct Site {
 }
 
 impl Site {
+    /// What the clocks read.
+    pub fn clocks(&self) -> Clocks
+        ensures { result ≡ record { wall = self.entry.now.moment; monotonic = self.entry.now.now } }
+    {
+        Clocks {
+            wall: self.moment.ms(),
+            monotonic: self.now,
+        }
+    }
+
     /// Which worker serves the network.
     pub fn server_of(&self, network: usize) -> usize
         ensures remainder { 0 < self.entry.now.workers → result ≡ network % self.entry.now.workers }
