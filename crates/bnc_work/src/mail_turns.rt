@@ -113,11 +113,16 @@ impl<N: Node, X: Attachment, P: Port> Worker<N, X, P> {
             Ok(_) => Ok(()),
             Err(fault) => {
                 if fault == PutFault::Waiting {
-                    self.desk.set_timer(Timer::Publish, SECOND);
+                    self.publish_later();
                 }
                 Err(fault)
             }
         }
+    }
+
+    /// Tries a second later to publish what waits.
+    pub(crate) fn publish_later(&mut self) {
+        self.desk.set_timer(Timer::Publish, SECOND);
     }
 
     /// Publishes what waits, or tries that again a second later.

@@ -57,7 +57,7 @@ impl<N: Node, X: Attachment, P: Port> Worker<N, X, P> {
         place: usize,
         arrived: &Arrived,
     ) -> Result<(), WorkEnd> {
-        self.peers.greet(&mut self.desk, line, place, arrived);
+        self.peers.greet(&mut self.desk, line, place);
         let has_marks = has_marks(changes_of(arrived));
         if has_marks {
             self.catch_up(false)?;
@@ -66,16 +66,25 @@ impl<N: Node, X: Attachment, P: Port> Worker<N, X, P> {
             .peers
             .arrive(&mut self.desk, line, place, arrived, &mut self.node);
         match outcome {
-            Ok(Outcome::Taken | Outcome::TakenInPart) => {
-                self.publish();
-                if has_marks {
-                    self.catch_up(true)?;
-                }
+            Ok(Outcome::Taken) => self.tell_taken(has_marks)?,
+            // What waits of it is published a second later, as of any put.
+            Ok(Outcome::TakenInPart) => {
+                self.publish_later();
+                self.tell_taken(has_marks)?;
             }
             Ok(Outcome::Known | Outcome::Ignored) => {
                 self.peers.advance(&mut self.desk, line, self.node.pass());
             }
             Err(NoMemory) => self.peers.close(&mut self.desk, line, Reason::NoMemory),
+        }
+        Ok(())
+    }
+
+    // Peers are to have what was taken of a packet. Where it brought markers, sessions are told of them.
+    fn tell_taken(&mut self, has_marks: bool) -> Result<(), WorkEnd> {
+        self.publish();
+        if has_marks {
+            self.catch_up(true)?;
         }
         Ok(())
     }

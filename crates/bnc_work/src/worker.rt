@@ -308,6 +308,8 @@ impl<N: Node, X: Attachment, P: Port> Worker<N, X, P> {
             }
             Timer::RetryPeer(place) => peers.dial(desk, place),
             Timer::UnansweredPacket(line) => peers.check_answered(desk, line, node.pass()),
+            Timer::QuietPeer(line) => peers.check_quiet(desk, line),
+            Timer::AbsentPeer(place) => peers.check_absent(desk, place),
             Timer::Floors => self.put_floors(),
             Timer::Publish => self.publish_waiting(),
         }
