@@ -5,6 +5,7 @@
 #![tactic(auto)]
 
 mod client_turns;
+mod floor_turns;
 mod mail_turns;
 mod marker_turns;
 mod node;

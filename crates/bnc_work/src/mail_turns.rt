@@ -11,9 +11,6 @@ use upstream_session::Recipients;
 use work_servers::Standing;
 use work_timers::Timer;
 
-/// Floors are put once in so many milliseconds.
-const HOUR: u64 = 3_600_000;
-
 /// What waits to be published is tried again after so many milliseconds.
 const SECOND: u64 = 1000;
 
@@ -88,23 +85,6 @@ impl<N: Node, X: Attachment, P: Port> Worker<N, X, P> {
             is_passed_on,
         };
         let _ = self.desk.port.post(worker, mail);
-    }
-
-    /// Puts the floors that are due, and does so again in an hour.
-    pub(crate) fn put_floors(&mut self) {
-        let Worker { node, desk, .. } = self;
-        desk.set_timer(Timer::Floors, HOUR);
-        let site = &desk.site;
-        let Ok(floors) = node
-            .pass()
-            .due_floors(site.alloc, site.moment, site.retain_days)
-        else {
-            return;
-        };
-        if !floors.is_empty() {
-            let _ = self.put(floors.as_slice());
-            self.publish();
-        }
     }
 
     /// Puts changes. Where they only wait to be published, that is tried again a second later.

@@ -10,7 +10,7 @@ use shared_node::{Naming, NodeTaker, Pass, SharedNode};
 use std::alloc::Global;
 use std::sync::Wait;
 use work_clients::Clients;
-use work_desk::{Desk, Site, clock};
+use work_desk::{ClockWatch, Desk, Site, clock};
 use work_peers::Peers;
 use work_servers::Servers;
 use work_timers::Timer;
@@ -26,6 +26,8 @@ const TIMERS: usize = 64;
 pub(crate) struct Worker<N: Node, X, P: Port> {
     pub(crate) node: N,
     pub(crate) desk: Desk<P>,
+    // looks at the clocks before floors are put
+    pub(crate) watch: ClockWatch,
     pub(crate) clients: Clients<X>,
     pub(crate) servers: Servers,
     pub(crate) peers: Peers,
@@ -34,7 +36,7 @@ pub(crate) struct Worker<N: Node, X, P: Port> {
 }
 
 /// Serves the connections of the port as worker `worker` of those that the port counts, until the gate shuts or the port
-/// ends or fails. Where there is no memory to begin, or the clock isn't read, that is a failure too.
+/// ends or fails. Where there is no memory to begin, or the clocks aren't read, that is a failure too.
 ///
 /// It serves clients that connect, in sessions of their own; the servers of its networks, to which it connects; worker 0,
 /// the node's peers; and what other workers tell it. Only what `pass` is asked, the sessions' lines and the messages of
@@ -140,9 +142,11 @@ impl<N: Node, X: Attachment, P: Port> Worker<N, X, P> {
             terms,
             retain_days,
         };
+        let watch = ClockWatch::new(site.clocks());
         Ok(Worker {
             node,
             desk: Desk::new(site, port, count)?,
+            watch,
             clients: Clients::new(alloc, lobby),
             servers,
             peers,
@@ -196,7 +200,7 @@ impl<N: Node, X: Attachment, P: Port> Worker<N, X, P> {
         }
     }
 
-    // What happens next. The clock is read then.
+    // What happens next. The clocks are read then.
     fn next(&mut self) -> Result<Happening, WorkEnd> {
         let patience = self.patience();
         let Ok(happening) = self.desk.port.next(patience) else {
@@ -310,7 +314,7 @@ impl<N: Node, X: Attachment, P: Port> Worker<N, X, P> {
             Timer::UnansweredPacket(line) => peers.check_answered(desk, line, node.pass()),
             Timer::QuietPeer(line) => peers.check_quiet(desk, line),
             Timer::AbsentPeer(place) => peers.check_absent(desk, place),
-            Timer::Floors => self.put_floors(),
+            Timer::Floors => self.look_after_floors(),
             Timer::Publish => self.publish_waiting(),
         }
     }
