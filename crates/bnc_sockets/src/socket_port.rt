@@ -3,7 +3,7 @@ ghost use Rattle.std.specs.Prelude.{◌≤◌, length, IfOk};
 
 use crate::handing::{Mailbox, Parcel};
 use crate::line::{Line, Outcome, Stage};
-use bnc_ports::{Dial, Event, Halt, Happening, Mail, Port, PortFault};
+use bnc_ports::{Clocks, Dial, Event, Halt, Happening, Mail, Port, PortFault};
 use bstr::BStr;
 use crossbeam_channel::Receiver;
 use irc_time::{Moment, write_time};
@@ -331,10 +331,10 @@ impl<R: Net + Wait + Clock + Eprint + AllocGlobal + Drop> Port for SocketPort<R>
         self.mailboxes.len()
     }
 
-    fn now_ms(&mut self) -> Result<u64, PortFault> {
-        match now_ms(&self.rt) {
-            Some(now) => Ok(now),
-            None => Err(PortFault),
+    fn clocks(&mut self) -> Result<Clocks, PortFault> {
+        match (now_ms(&self.rt), monotonic_ms(&self.rt)) {
+            (Some(wall), Some(monotonic)) => Ok(Clocks { wall, monotonic }),
+            _ => Err(PortFault),
         }
     }
 
@@ -343,9 +343,15 @@ impl<R: Net + Wait + Clock + Eprint + AllocGlobal + Drop> Port for SocketPort<R>
     }
 }
 
-/// Milliseconds since 1970 began. None where the system has no such clock.
+/// Milliseconds since 1970 began, by the wall clock. None where the system has no such clock.
 pub fn now_ms<R: Clock>(rt: &R) -> Option<u64> {
     let now = rt.since_1970().ok()?;
+    u64::try_from(now.as_millis()).ok()
+}
+
+// Milliseconds by the system's monotonic clock. None where it has none.
+fn monotonic_ms<R: Clock>(rt: &R) -> Option<u64> {
+    let now = rt.monotonic().ok()?;
     u64::try_from(now.as_millis()).ok()
 }
 
