@@ -619,6 +619,8 @@ def the_greatest_numbers_between_nodes(fixture):
     other.hear_end()
     for head in (f"D n0 {most + 1} {peer.other} 0 1 1", f"D n0 5 {peer.other} {most} {most + 1} 1"):
         other = Peer.dial(node).greet()
+        # (it is behind the life of the greatest incarnation)
+        other.hear(f"A {other.other} n0 {most} 0")
         other.say(head)
         other.hear_end()
 

@@ -2,6 +2,7 @@
 
 from harness.client import page
 from harness.connection import Listener, connect
+from harness.failure import expect
 from harness.node import Node
 from harness.peer import Peer
 from harness.registry import add, test
@@ -248,6 +249,89 @@ def a_peer_that_started_again_gets_all_of_it(fixture):
     peer.close()
     node.wait_for("peer down: n0")
     Peer.dial(node, incarnation=6).greet().hear_packet(0, 1, POST_ONE)
+
+
+@test
+def a_hello_that_comes_again_changes_nothing(fixture):
+    """It is no news: it brings no packet where nothing is newer, and none while one is under way."""
+    node = begun(fixture)
+    peer = Peer.dial(node).greet()
+    peer.say(peer.hello())
+    peer.give(0, POST_ONE)
+    peer.hear_acknowledged(1)
+    peer.hear_packet(0, 1, POST_ONE)
+    peer.say(peer.hello())
+    peer.acknowledge(1)
+    peer.say(peer.hello())
+    peer.give(1, POST_TWO)
+    peer.hear_acknowledged(2)
+    peer.hear_packet(1, 2, POST_TWO)
+    expect("how often the peer was greeted", 1, sum("peer greeted: n0" in line for line in node.log()))
+
+
+@test
+def a_peer_that_is_behind_is_told(fixture):
+    """Its clock was set back: it says a smaller incarnation. It learns which one is known and is sent no packet; what it brings
+    is taken and acknowledged."""
+    node = begun(fixture)
+    first = Peer.dial(node, incarnation=9).greet()
+    first.give(0, POST_ONE)
+    first.hear_acknowledged(1)
+    first.hear_packet(0, 1, POST_ONE)
+    first.close()
+    node.wait_for("peer down: n0")
+    peer = Peer.dial(node, incarnation=8).greet()
+    peer.hear(f"A {peer.other} n0 9 0")
+    node.wait_for("peer behind: n0: its clock is behind its last life (incarnation 9)")
+    peer.say(peer.hello())
+    peer.give(0, POST_TWO)
+    peer.hear_acknowledged(1)
+    peer.give(1, POST_TWO)
+    peer.hear_acknowledged(2)
+    client = node.client().register(PAST)
+    client.say("CHATHISTORY LATEST #a * 10")
+    client.hear(*page(1, "#a", ONE, TWO))
+    for kind in ("peer greeted", "peer behind"):
+        expect(f"how often '{kind}' was told", 1, sum(f"{kind}: n0" in line for line in node.log()))
+
+
+MOST = 2**64 - 1
+LATER = f"knows a later life of this node (incarnation {MOST}): set the clock right and start again"
+
+
+@test
+def a_node_that_is_behind_is_told(fixture):
+    """By a packet or an acknowledgement to a greater incarnation of its own, once a connection. The packet is passed over."""
+    node = begun(fixture)
+    for number, lines in enumerate(([f"D n0 5 n1 {MOST} 0 1 1", POST_ONE], [f"A n0 5 n1 {MOST} 0"])):
+        peer = Peer.dial(node).greet()
+        peer.say(*lines, f"A n0 5 n1 {MOST} 1")
+        marker = f"C MARK demo net #a {number + 1}"
+        peer.give(number, marker)
+        peer.hear_acknowledged(number + 1)
+        peer.hear_packet(number, number + 1, marker)
+        peer.acknowledge(number + 1)
+        peer.close()
+        fixture.until("the peer is down", lambda: sum("peer down: n0" in it for it in node.log()) > number)
+        expect("how often it was told", number + 1, sum(f"node behind: n0 {LATER}" in it for it in node.log()))
+    client = node.client().register(PAST)
+    client.say("CHATHISTORY LATEST #a * 10")
+    client.hear(*page(1, "#a"))
+
+
+@test
+def both_nodes_tell_that_one_is_behind(fixture):
+    """The one learns it by the other's hello, and the other by what it is answered. What it brings reaches the first."""
+    second = Node(fixture, name="n2", peers=[("n1", NOBODY)], servers=[NOBODY]).begin()
+    Peer.dial(second, "n1", incarnation=MOST).greet().close()
+    second.wait_for("peer down: n1")
+    first = Node(fixture, name="n1", peers=[("n2", second.peers)], servers=[NOBODY]).begin()
+    second.wait_for(f"peer behind: n1: its clock is behind its last life (incarnation {MOST})")
+    first.wait_for("peer greeted: n2")
+    first.wait_for(f"node behind: n2 {LATER}")
+    client = second.client().register("draft/read-marker")
+    first.client().register("draft/read-marker").say("MARKREAD #a timestamp=1970-01-01T00:00:05.000Z")
+    client.hear(":bnc.example MARKREAD #a timestamp=1970-01-01T00:00:05.000Z")
 
 
 @test
