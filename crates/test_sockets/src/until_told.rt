@@ -1,7 +1,7 @@
 //! The port of a worker, which ends once it is told so.
 ghost use Rattle.std.specs.Prelude.{◌≤◌, length, IfOk};
 
-use bnc_ports::{Dial, Event, Halt, Happening, Mail, Port, PortFault};
+use bnc_ports::{Clocks, Dial, Event, Halt, Happening, Mail, Port, PortFault};
 use std::net::SocketAddr;
 use std::sync::Arc;
 use std::sync::atomic::{AtomicBool, Ordering};
@@ -56,8 +56,8 @@ impl<P: Port> Port for UntilTold<P> {
         self.port.workers()
     }
 
-    fn now_ms(&mut self) -> Result<u64, PortFault> {
-        self.port.now_ms()
+    fn clocks(&mut self) -> Result<Clocks, PortFault> {
+        self.port.clocks()
     }
 
     fn report(&mut self, event: &Event<'_>) {

@@ -5,11 +5,15 @@
 pub enum Act<'a> {
     /// So many milliseconds pass.
     Wait(u64),
+    /// The wall clock is set ahead by so many milliseconds.
+    Ahead(u64),
+    /// The wall clock is set back by so many milliseconds.
+    Back(u64),
     /// Another worker tells this.
     Mail(&'a str),
     /// The port fails.
     Fail,
-    /// The clock can't be read any more.
+    /// The clocks can't be read any more.
     Stop,
     /// Something happens to a connection.
     To(usize, Turn<'a>),
@@ -101,6 +105,8 @@ pub fn act_in(text: &str) -> Option<Act<'_>> {
     let (word, rest) = cut(text);
     match word {
         "wait" => Some(Act::Wait(rest.parse::<u64>().ok()?)),
+        "ahead" => Some(Act::Ahead(rest.parse::<u64>().ok()?)),
+        "back" => Some(Act::Back(rest.parse::<u64>().ok()?)),
         "mail" => Some(Act::Mail(rest)),
         "fail" => Some(Act::Fail),
         "stop" => Some(Act::Stop),

@@ -10,8 +10,8 @@
 //! The second line may be missing, and each of its parts. At first the node n1, in its incarnation 7, holds so many posts of
 //! `#a`, of the network `net` of the account `demo`: m0, m1 and so on, a second apart from the beginning of 1970. It has the
 //! first of the networks demo/net, demo/two and eve/net, the peer n0, four places for clients, one worker and an open gate,
-//! and the clock is 1,000 seconds after 1970 began. A peer of the name n9 is told version 1. `worker 1` is the second of two
-//! workers. With `shut` the gate lets nothing through, and with `alone` no connection can be begun.
+//! and the wall clock is 1,000 seconds after 1970 began. A peer of the name n9 is told version 1. `worker 1` is the second of
+//! two workers. With `shut` the gate lets nothing through, and with `alone` no connection can be begun.
 //!
 //! Acts begin a line:
 //!
@@ -29,10 +29,12 @@
 //!     1 gone              the other end is gone
 //!     1 takes 100         the other end takes 100 bytes at once
 //!     1 takes 100 of 450  and no more than 450 in all
-//!     wait 60000          milliseconds pass
+//!     wait 60000          milliseconds pass, by the wall clock and by the monotonic one
+//!     ahead 60000         the wall clock alone is set ahead by so many milliseconds
+//!     back 60000          it is set back by so many
 //!     mail ..             another worker tells something
 //!     fail                the port fails
-//!     stop                the clock can't be read any more
+//!     stop                the clocks can't be read any more
 //!
 //! Where an act begins with `20-89` it happens to each of these connections, one after another.
 //!

@@ -4,7 +4,7 @@ use crate::line::Line;
 use crate::mail::{mail_in, tell_mail};
 use crate::setting::Setting;
 use attach::{Clerk, Hall, Places, RingClient};
-use bnc_ports::{Arrival, Dial, Event, Halt, Happening, Lobby, Mail, Port, PortFault};
+use bnc_ports::{Arrival, Clocks, Dial, Event, Halt, Happening, Lobby, Mail, Port, PortFault};
 use crossbeam_channel::Sender;
 use std::alloc::{AllocError, Global};
 use std::collections::VecDeque;
@@ -16,6 +16,9 @@ const DIALED: usize = 10;
 
 /// So many connections a port has at most.
 const LINES: usize = 128;
+
+/// What the monotonic clock reads at first, in milliseconds.
+const UPTIME: u64 = 500_000;
 
 /// A worker that asks more often than this what comes next does so for ever.
 const TURNS: u64 = 1_000_000;
@@ -29,7 +32,7 @@ pub struct MemoryPort<R: Wait + Drop> {
     // the rest of an act that happens to several connections
     parts: VecDeque<String>,
     turns: u64,
-    clock: u64,
+    clocks: Clocks,
     // so many milliseconds of an act are still to pass
     to_pass: u64,
     is_stopped: bool,
@@ -110,7 +113,10 @@ impl<R: Wait + Drop> MemoryPort<R> {
             acts,
             parts: VecDeque::new(alloc),
             turns: 0,
-            clock: setting.clock,
+            clocks: Clocks {
+                wall: setting.clock,
+                monotonic: UPTIME,
+            },
             to_pass: 0,
             is_stopped: false,
             lines,
@@ -173,7 +179,7 @@ impl<R: Wait + Drop> MemoryPort<R> {
         if self.to_pass != 0 {
             let time = self.to_pass.min(patience);
             self.to_pass = self.to_pass.saturating_sub(time);
-            self.clock = self.clock.saturating_add(time);
+            self.pass(time);
             return Some(Happening::Nothing);
         }
         if let Some(part) = self.parts.pop_front() {
@@ -181,6 +187,15 @@ impl<R: Wait + Drop> MemoryPort<R> {
         }
         self.tell_lines().ok()?;
         self.next_act()
+    }
+
+    // So many milliseconds pass, by both clocks.
+    fn pass(&mut self, time: u64) {
+        let Clocks { wall, monotonic } = self.clocks;
+        self.clocks = Clocks {
+            wall: wall.saturating_add(time),
+            monotonic: monotonic.saturating_add(time),
+        };
     }
 
     // The next act, which is told.
@@ -202,6 +217,8 @@ impl<R: Wait + Drop> MemoryPort<R> {
     fn play_text(&mut self, text: &str) -> Option<Happening> {
         match act_in(text)? {
             Act::Wait(time) => self.to_pass = time,
+            Act::Ahead(time) => self.clocks.wall = self.clocks.wall.saturating_add(time),
+            Act::Back(time) => self.clocks.wall = self.clocks.wall.saturating_sub(time),
             Act::Mail(text) => return Some(Happening::Mail(mail_in(self.alloc, text)?)),
             Act::Fail => return None,
             Act::Stop => self.is_stopped = true,
@@ -389,11 +406,11 @@ impl<R: Wait + Drop> Port for &mut MemoryPort<R> {
         self.workers
     }
 
-    fn now_ms(&mut self) -> Result<u64, PortFault> {
+    fn clocks(&mut self) -> Result<Clocks, PortFault> {
         if self.is_stopped {
             Err(PortFault)
         } else {
-            Ok(self.clock)
+            Ok(self.clocks)
         }
     }
 

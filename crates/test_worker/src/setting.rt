@@ -6,7 +6,7 @@ use crate::act::{cut, number_in};
 pub struct Setting<'a> {
     /// So many posts are there.
     pub posts: u64,
-    /// The clock, in milliseconds after 1970 began.
+    /// The wall clock, in milliseconds after 1970 began.
     pub clock: u64,
     /// So many of the networks demo/net, demo/two and eve/net are configured.
     pub networks: usize,
