@@ -1,6 +1,6 @@
 //! The faults of the crates in words, and what the operator reads: each event as a line, and each reason.
 use anyhow::Error;
-use bnc_ports::{Event, Reason};
+use bnc_ports::{Event, Leap, Reason};
 use bnc_server::ReplayFault;
 use chat_batch::AnswerFault;
 use chat_change::{ChangeFault, Moment};
@@ -100,7 +100,7 @@ fn tell_faults_of_nodes(out: &mut Vec<u8>) -> io::Result<()> {
     tell_faults(out, "shared_node", &puts)
 }
 
-const REASONS: [Reason; 13] = [
+const REASONS: [Reason; 14] = [
     Reason::Closed,
     Reason::Unreachable,
     Reason::Ended,
@@ -109,6 +109,7 @@ const REASONS: [Reason; 13] = [
     Reason::WrongWord,
     Reason::UnknownNode,
     Reason::Unacknowledged,
+    Reason::Unheard,
     Reason::Replaced,
     Reason::Overrun,
     Reason::NoPlace,
@@ -161,6 +162,9 @@ fn tell_floors(out: &mut Vec<u8>) -> io::Result<()> {
                 at,
                 is_ahead: true,
             },
+            Event::FloorsPut { count: 3, at },
+            Event::ClockLeapt(Leap::Ahead(3_456_000_000)),
+            Event::ClockLeapt(Leap::Back(3_600_999)),
         ],
     )
 }
@@ -207,10 +211,28 @@ fn tell_servers(out: &mut Vec<u8>) -> io::Result<()> {
                 network: NETWORK,
                 reason: Reason::Unreachable,
             },
+        ],
+    )
+}
+
+fn tell_peers(out: &mut Vec<u8>) -> io::Result<()> {
+    let incarnation = 1_763_865_600_000;
+    tell_events(
+        out,
+        &[
             Event::PeerGreeted {
                 node: b"n2",
-                incarnation: 1_763_865_600_000,
+                incarnation,
             },
+            Event::PeerBehind {
+                node: b"n2",
+                incarnation,
+            },
+            Event::NodeBehind {
+                node: b"n2",
+                incarnation,
+            },
+            Event::PeerAbsent { node: b"n2" },
             Event::PeerDown {
                 node: b"n2",
                 reason: Reason::Unacknowledged,
@@ -234,6 +256,7 @@ pub fn told(alloc: Global) -> Result<Vec<u8>, Error> {
     tell_floors(&mut out)?;
     tell_clients(&mut out)?;
     tell_servers(&mut out)?;
+    tell_peers(&mut out)?;
     for reason in REASONS {
         write!(out, "{reason}\n")?;
     }
