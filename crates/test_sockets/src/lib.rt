@@ -1,6 +1,6 @@
 //! What has to be shown in one process over sockets of this machine: a node whose worker ends when it is told to serves one
-//! client after another word for word, and the ports of two workers (`bnc_sockets`) pass on connections, bytes, mail and ends, and hand
-//! in the system's clocks.
+//! client after another word for word, and the ports of two workers (`bnc_sockets`) pass on connections, bytes, mail and
+//! ends, and hand in the system's clocks.
 //!
 //! It stands on `bnc_serve` and `bnc_sockets`, whose sockets no contract reaches. What the built program shows from outside
 //! is tested there. Read `clients` first.
