@@ -1,8 +1,7 @@
 -- Two texts in one block, of which the second is folded where it lies.
 use Rattle.std.proofs.Common.{◌≡◌, ◌≤◌, ℕ, ◌+◌, ◌-◌, List, [], ◌++◌, length, take, drop, map, sym, ◌∙◌, ap, arith}
 use Rattle.std.specs.Char.{to_ascii_lowercase}
-use Rattle.std.specs.List.{slice_range}
-use Rattle.std.proofs.lemmas.List.{length-append, length-map, take-append-drop, append-nil, take_rest, drop_all, length-drop, length-take-le, take-append-le, take-take, drop-take, drop_at}
+use Rattle.std.proofs.lemmas.List.{length-append, length-map, take-append-drop, append-nil, take_rest, drop_all, length-drop, length-take-le, take-append-le, take-take, drop_at}
 use Rattle.chat_change.specs.Words.{lower_case_of}
 use Rattle.chat_change.specs.Texts.{Texts}
 

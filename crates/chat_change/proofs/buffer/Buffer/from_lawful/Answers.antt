@@ -1,4 +1,4 @@
-use Rattle.std.proofs.Common.{sym, ap, ◌∙◌, ◌≡◌}
+use Rattle.std.proofs.Common.{sym, ap, ◌∙◌}
 use Rattle.chat_change.specs.Words.{is_name, is_target, lower_case_of}
 use Rattle.chat_change.specs.Texts.{Texts}
 use Rattle.chat_change.specs.declared.buffer.Names.{Names}
