@@ -6,6 +6,7 @@ mod StoreLemmas
 mod HeldLemmas
 mod SettleLemmas
 mod LookupLemmas
+mod FindingLemmas
 mod KeptLemmas
 mod CursorLemmas
 mod SoughtLemmas

@@ -12,6 +12,7 @@
 mod accounts;
 mod buffers;
 mod cursor;
+mod finding;
 mod held;
 mod held_message;
 mod messages;
