@@ -3,6 +3,7 @@
 ghost use Rattle.std.specs.Prelude.{◌≡◌, IfSome, reverse};
 ghost use Rattle.std.specs.Map.Iter.{deref};
 ghost use Rattle.std.specs.Option.{option_map};
+ghost use Rattle.chat_change.specs.Buffer.{buffer_of};
 ghost use Rattle.chat_change.specs.Extent.{value_of};
 ghost use Rattle.chat_change.specs.Key as key;
 ghost use Rattle.chat_change.specs.Order.{buffer_cmp};
@@ -67,6 +68,22 @@ impl Store {
         ensures bears { IfSome result (IsMessageOf buffer.now id.now) }
     {
         self.buffers.message(buffer, id)
+    }
+
+    /// What is held of the message of that id in the buffer of these names, if anything. It takes no memory, and goes
+    /// through the buffers and the ids of that buffer one by one.
+    pub fn find_message(
+        &self,
+        account: &[u8],
+        network: &[u8],
+        target: &[u8],
+        id: &[u8],
+    ) -> Option<MessageRef<'_>>
+        ensures { spec.change_at self.now
+            (key.MessageOf (buffer_of account.now network.now target.now) id.now) ≡ option_map
+            (message_change (buffer_of account.now network.now target.now) id.now) result }
+    {
+        self.buffers.find_message(account, network, target, id)
     }
 
     /// The visible records of a buffer after a cut, by rising (moment, id). It takes no memory.
