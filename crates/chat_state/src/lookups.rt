@@ -1,6 +1,7 @@
 //! Look-ups: markers, floors, positions of messages, and which messages are shown or gone. They take no memory.
 
 ghost use Rattle.std.specs.Prelude.{◌≡◌, ◌↔◌, IsTrue, List};
+ghost use Rattle.chat_change.specs.Buffer as buffers;
 ghost use Rattle.chat_history.specs.History as spec;
 ghost use Rattle.chat_history.specs.Lookups.{IsShown};
 
@@ -76,6 +77,28 @@ impl State {
             result ≡ spec.position_of changes buffer.now id.now }
     {
         match self.store.message(buffer, id) {
+            Some(MessageRef::Kept(post)) => Some(post.at()),
+            Some(MessageRef::Gone(at)) => at,
+            None => None,
+        }
+    }
+
+    /// The same, by the names of the buffer and the bytes of the id. It goes through the buffers and the ids of that buffer
+    /// one by one, so it is for where there is no memory for a buffer and an id to look up by.
+    pub fn find_position(
+        &self,
+        account: &[u8],
+        network: &[u8],
+        target: &[u8],
+        id: &[u8],
+    ) -> Option<Moment>
+        ensures held { result ≡ spec.position_of (spec.changes_of self.now.history)
+            (buffers.buffer_of account.now network.now target.now) id.now }
+        ensures of_set { (changes : List value.Change) → self.now.history ≡ spec.norm changes →
+            result ≡ spec.position_of changes
+            (buffers.buffer_of account.now network.now target.now) id.now }
+    {
+        match self.store.find_message(account, network, target, id) {
             Some(MessageRef::Kept(post)) => Some(post.at()),
             Some(MessageRef::Gone(at)) => at,
             None => None,

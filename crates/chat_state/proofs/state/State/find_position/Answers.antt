@@ -1,0 +1,44 @@
+use Rattle.std.proofs.Common.{Some, sym, ◌∙◌, ap}
+use Rattle.std.specs.Option.{option_map, option_and_then}
+use Rattle.chat_change.specs.Buffer.{buffer_of}
+use Rattle.chat_change.specs.Key.{MessageOf}
+use Rattle.chat_store.specs.MessageRef.{message_change}
+use Rattle.chat_history.specs.History.{message_moment}
+use Rattle.chat_state.proofs.LookupLemmas.{state_keyed, state_found, state_normal, position_found, position_of_set}
+use Rattle.chat_state.proofs.state.State.find_position.Goals as goal
+
+pub returns-in-Some-Gone-clause-held : goal.returns-in-Some-Gone-clause-held
+returns-in-Some-Gone-clause-held c =
+    let b = buffer_of c.args.account.now c.args.network.now c.args.target.now in
+    let m = c.args.id.now in
+    let u = option_map (message_change b m) c.find_message.result in
+    let keyed = state_keyed c.self.inside.store c.self.inside.front c.self.invariant c.args.self.now c.self.view_is in
+    let found = state_found c.self.inside.store c.self.inside.front c.self.invariant c.args.self.now c.self.view_is (MessageOf b m) u c.find_message.ensures in
+    sym (ap (λ o. option_and_then message_moment (option_map (message_change b m) o)) (c.in-Some-Gone.is ∙ ap Some c.in-Some-Gone.field-0-is)) ∙ position_found c.args.self.now.history keyed b u m found (state_normal c.self.inside.store c.self.inside.front c.self.invariant c.args.self.now c.self.view_is)
+
+pub returns-in-Some-Gone-clause-of_set : goal.returns-in-Some-Gone-clause-of_set
+returns-in-Some-Gone-clause-of_set c = λ changes e. returns-in-Some-Gone-clause-held c ∙ position_of_set c.args.self.now.history (buffer_of c.args.account.now c.args.network.now c.args.target.now) changes e c.args.id.now
+
+pub returns-in-Some-Kept-clause-held : goal.returns-in-Some-Kept-clause-held
+returns-in-Some-Kept-clause-held c =
+    let b = buffer_of c.args.account.now c.args.network.now c.args.target.now in
+    let m = c.args.id.now in
+    let u = option_map (message_change b m) c.find_message.result in
+    let keyed = state_keyed c.self.inside.store c.self.inside.front c.self.invariant c.args.self.now c.self.view_is in
+    let found = state_found c.self.inside.store c.self.inside.front c.self.invariant c.args.self.now c.self.view_is (MessageOf b m) u c.find_message.ensures in
+    ap Some c.at.ensures ∙ sym (ap (λ o. option_and_then message_moment (option_map (message_change b m) o)) (c.in-Some-Kept.is ∙ ap Some c.in-Some-Kept.field-0-is)) ∙ position_found c.args.self.now.history keyed b u m found (state_normal c.self.inside.store c.self.inside.front c.self.invariant c.args.self.now c.self.view_is)
+
+pub returns-in-Some-Kept-clause-of_set : goal.returns-in-Some-Kept-clause-of_set
+returns-in-Some-Kept-clause-of_set c = λ changes e. returns-in-Some-Kept-clause-held c ∙ position_of_set c.args.self.now.history (buffer_of c.args.account.now c.args.network.now c.args.target.now) changes e c.args.id.now
+
+pub returns-in-None-clause-held : goal.returns-in-None-clause-held
+returns-in-None-clause-held c =
+    let b = buffer_of c.args.account.now c.args.network.now c.args.target.now in
+    let m = c.args.id.now in
+    let u = option_map (message_change b m) c.find_message.result in
+    let keyed = state_keyed c.self.inside.store c.self.inside.front c.self.invariant c.args.self.now c.self.view_is in
+    let found = state_found c.self.inside.store c.self.inside.front c.self.invariant c.args.self.now c.self.view_is (MessageOf b m) u c.find_message.ensures in
+    sym (ap (λ o. option_and_then message_moment (option_map (message_change b m) o)) c.in-None.is) ∙ position_found c.args.self.now.history keyed b u m found (state_normal c.self.inside.store c.self.inside.front c.self.invariant c.args.self.now c.self.view_is)
+
+pub returns-in-None-clause-of_set : goal.returns-in-None-clause-of_set
+returns-in-None-clause-of_set c = λ changes e. returns-in-None-clause-held c ∙ position_of_set c.args.self.now.history (buffer_of c.args.account.now c.args.network.now c.args.target.now) changes e c.args.id.now
