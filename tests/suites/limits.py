@@ -357,7 +357,9 @@ def the_longest_secret_and_names_let_a_client_in(fixture):
 
 # What differs from these in one byte, or has one more or one less.
 OTHERS = (
+    ("another first byte of the secret", {"secret": "x" + SECRET[1:]}),
     ("another last byte of the secret", {"secret": SECRET[:-1] + "x"}),
+    ("the secret without its first byte", {"secret": SECRET[1:]}),
     ("the secret without its last byte", {"secret": SECRET[:-1]}),
     ("another last byte of the account", {"account": ACCOUNT[:-1] + "b"}),
     ("another last byte of the network", {"network": NETWORK[:-1] + "b"}),
@@ -368,7 +370,7 @@ OTHERS = (
 
 @test
 def other_secrets_and_names_at_their_limits_let_nobody_in(fixture):
-    """One byte decides, be it the last."""
+    """One byte decides, be it the first or the last."""
     node = longest(fixture)
     for name, words in OTHERS:
         client = guest(node, name)

@@ -7,7 +7,7 @@ ghost use Rattle.client_directory.specs.Directory as spec;
 
 use crate::entry::Entry;
 use crate::network::Network;
-use crate::secret::is_same_secret;
+use crate::secret::Secret;
 use byte_text::{NoMemory, Text};
 use std::alloc::Global;
 use std::marker::Model;
@@ -16,7 +16,7 @@ use std::marker::Model;
 #[derive(Drop)]
 pub struct Account {
     name: Text,
-    secret: Text,
+    secret: Secret,
     networks: Vec<Network>,
 }
 
@@ -35,7 +35,7 @@ impl Account {
     {
         Account {
             name,
-            secret,
+            secret: Secret::of(secret),
             networks: Vec::new(alloc),
         }
     }
@@ -66,11 +66,11 @@ impl Account {
         &self.networks
     }
 
-    /// Whether this is the secret of the account. Every byte is compared, wherever they differ.
+    /// Whether this is the secret of the account.
     pub fn has_secret(&self, given: &[u8]) -> bool
         ensures { result ≡ bytes_eq self.now.secret given.now }
     {
-        is_same_secret(self.secret.as_bytes(), given)
+        self.secret.is_same(given)
     }
 
     pub(crate) fn has_name(&self, name: &[u8]) -> bool

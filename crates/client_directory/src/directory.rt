@@ -76,6 +76,9 @@ impl Directory {
     }
 
     /// The same, for whoever knows the account's secret. To others nothing tells which of the three was wrong.
+    ///
+    /// Before the secret is compared only the account is looked up, by its name, and the network only after that: so the
+    /// refusal of a wrong secret takes as long whatever network is named.
     pub fn entry_by_secret(&self, account: &[u8], network: &[u8], secret: &[u8]) -> Option<&Entry>
         ensures { option_copied result
             ≡ spec.entry_by_secret self.now account.now network.now secret.now }

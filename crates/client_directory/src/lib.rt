@@ -2,7 +2,8 @@
 //! stands at one moment.
 //!
 //! A [`Directory`] is handed to each step of a client's session. It says who is let in, by [`Directory::entry_by_secret`],
-//! and which nick and which channels the network gives. No type of this crate has a `Debug` text, so no secret stands in one.
+//! and which nick and which channels the network gives. No type of this crate has a `Debug` text, and no call gives out the
+//! bytes of a [`Secret`].
 #![tactic(auto)]
 
 mod account;
@@ -15,3 +16,4 @@ pub use account::Account;
 pub use directory::Directory;
 pub use entry::Entry;
 pub use network::Network;
+pub use secret::Secret;

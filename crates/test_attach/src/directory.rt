@@ -1,6 +1,6 @@
 //! Entries that change, and who is let in.
 use byte_text::Text;
-use client_directory::{Account, Directory, Entry, Network};
+use client_directory::{Account, Directory, Entry, Network, Secret};
 use std::alloc::Global;
 use std::process::Abort;
 
@@ -47,6 +47,30 @@ fn the_secret_lets_in(rt: HostRuntime) {
     let directory = directory_of(&rt, rt.alloc());
     assert!(rt; lets_in(&directory, b"demo", b"net", b"s3cret"));
     assert!(rt; !others_let_in(&directory) && !lets_in_elsewhere(&directory));
+}
+
+// The bytes of a secret as long as a line of PASS has room for, but for one byte.
+fn longest_but<R: Abort>(rt: &R, alloc: Global, at: usize, byte: u8) -> Vec<u8> {
+    let mut bytes = vec![in alloc; b'a'; 505].expect(rt, "memory");
+    if at < bytes.len() {
+        bytes[at] = byte;
+    }
+    bytes
+}
+
+#[test]
+fn a_secret_is_compared_to_its_end(rt: HostRuntime) {
+    let alloc = rt.alloc();
+    let bytes = longest_but(&rt, alloc, 0, b'a');
+    let secret = Secret::of(Text::of(longest_but(&rt, alloc, 0, b'a')));
+    assert!(rt; secret.differing(&bytes) == 0 && secret.is_same(&bytes));
+    assert!(rt; secret.differing(&bytes[1..]) == 1 && !secret.is_same(&bytes[1..]));
+    let first = longest_but(&rt, alloc, 0, b'b');
+    assert!(rt; secret.differing(&first) == 1 && !secret.is_same(&first));
+    let last = longest_but(&rt, alloc, 504, b'b');
+    assert!(rt; secret.differing(&last) == 1 && !secret.is_same(&last));
+    let shorter = Secret::of(Text::of(longest_but(&rt, alloc, 0, b'b')));
+    assert!(rt; shorter.differing(&bytes[..1]) == 505 && shorter.differing(b"") == 505);
 }
 
 fn has_channels(entry: &Entry, first: &[u8], second: &[u8]) -> bool {
