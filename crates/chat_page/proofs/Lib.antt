@@ -9,5 +9,6 @@ mod ParameterLemmas
 mod CutLemmas
 mod PlaceLemmas
 mod AnswerLemmas
+mod KnownLemmas
 mod BufferLemmas
 pub mod CallerLemmas

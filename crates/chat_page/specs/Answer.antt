@@ -1,5 +1,5 @@
 -- Whether a page, or a refusal, is the answer of the definition.
-use Rattle.std.specs.Prelude.{◌≡◌, ⊤, ℕ, Option, Some, None, List, map, filter, take, Vec, Result, Ok, Err}
+use Rattle.std.specs.Prelude.{◌≡◌, ⊤, ℕ, Option, Some, None, IsSome, List, map, filter, take, Vec, Result, Ok, Err}
 use Rattle.std.specs.Option.{option_map, option_and_then}
 use Rattle.std.specs.Borrow.{Bor}
 use Rattle.chat_change.specs.Record.{Record}
@@ -19,11 +19,21 @@ abbrev pub value_of : Page → spec.Page
 value_of (Records records) = spec.of_records (map (λ r. r.now) records.items)
 value_of (Buffers buffers) = spec.of_buffers buffers.items
 
--- the page is the one that is wanted; a message is unknown only where none is wanted
+-- a message is unknown exactly where no page is wanted, and only a page that is wanted finds no memory
+abbrev pub IsRefusal : Option spec.Page → PageFault → Type 0
+IsRefusal wanted UnknownMessage = wanted ≡ None
+IsRefusal wanted NoMemory = IsSome wanted
+
+-- the page is the one that is wanted, or the refusal is right
 abbrev pub IsAnswer : Option spec.Page → Result Page PageFault → Type 0
 IsAnswer wanted (Ok page) = wanted ≡ Some (value_of page)
-IsAnswer wanted (Err UnknownMessage) = wanted ≡ None
-IsAnswer wanted (Err NoMemory) = ⊤
+IsAnswer wanted (Err fault) = IsRefusal wanted fault
+
+-- where there is memory, the page is the one that is wanted, and a message is unknown only where none is
+abbrev pub IsAnswerIfMemory : Option spec.Page → Result Page PageFault → Type 0
+IsAnswerIfMemory wanted (Ok page) = wanted ≡ Some (value_of page)
+IsAnswerIfMemory wanted (Err UnknownMessage) = wanted ≡ None
+IsAnswerIfMemory wanted (Err NoMemory) = ⊤
 
 -- the same of the records of a page
 abbrev pub AreRecords : {Z : Type 0} → Option (List Record) → Result (Vec (Bor Record) Z) PageFault

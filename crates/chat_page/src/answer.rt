@@ -5,8 +5,9 @@ ghost use Rattle.chat_change.specs.declared.change.Change.{Change};
 ghost use Rattle.chat_history.specs.History.{norm};
 ghost use Rattle.chat_history.specs.Visible.{records_in};
 ghost use Rattle.chat_page.specs.Page as spec;
-ghost use Rattle.chat_page.specs.Answer.{IsAnswer, AreRecords, side_of, between_of};
+ghost use Rattle.chat_page.specs.Answer.{IsAnswer, IsRefusal, IsAnswerIfMemory, AreRecords, side_of, between_of};
 
+use crate::known::has_page;
 use crate::listed_buffer::listed_between;
 use crate::pages::{Page, PageFault};
 use crate::place::{SelectorPlace, over, place_of, under};
@@ -170,7 +171,7 @@ fn buffer_of(alloc: Global, scope: &Scope<'_>, target: &Target<'_>) -> Result<Bu
 
 /// The page of those records, if there are any.
 fn page_of<'a>(found: Result<Vec<&'a Record>, PageFault>) -> Result<Page<'a>, PageFault>
-    ensures { (wanted : Option (List Record)) → AreRecords wanted found.entry → IsAnswer
+    ensures { (wanted : Option (List Record)) → AreRecords wanted found.entry → IsAnswerIfMemory
         (option_map spec.of_records wanted) result }
 {
     match found {
@@ -190,7 +191,7 @@ fn selected_page<'a>(
     limit: usize,
 ) -> Result<Page<'a>, PageFault>
     ensures { (changes : List Change) → state.now.history ≡ norm changes
-        → IsAnswer (option_map spec.of_records (side_of (norm changes)
+        → IsAnswerIfMemory (option_map spec.of_records (side_of (norm changes)
         (spec.buffer_of scope.now target.now) selector.now side
         (min limit scope.now.maximum))) result }
 {
@@ -210,7 +211,7 @@ fn between_page<'a>(
     limit: usize,
 ) -> Result<Page<'a>, PageFault>
     ensures { (changes : List Change) → state.now.history ≡ norm changes
-        → IsAnswer (option_map spec.of_records (between_of (norm changes)
+        → IsAnswerIfMemory (option_map spec.of_records (between_of (norm changes)
         (spec.buffer_of scope.now target.now) one.now other.now
         (min limit scope.now.maximum))) result }
 {
@@ -227,7 +228,7 @@ fn latest_page<'a>(
     target: &Target<'_>,
     limit: usize,
 ) -> Result<Page<'a>, PageFault>
-    ensures { IsAnswer (Some (spec.of_records (spec.last (min limit scope.now.maximum)
+    ensures { IsAnswerIfMemory (Some (spec.of_records (spec.last (min limit scope.now.maximum)
         (records_in state.now.history (spec.buffer_of scope.now target.now))))) result }
 {
     let buffer = buffer_of(alloc, scope, target)?;
@@ -250,7 +251,7 @@ fn latest_or_after<'a>(
     limit: usize,
 ) -> Result<Page<'a>, PageFault>
     ensures { (changes : List Change) → state.now.history ≡ norm changes
-        → IsAnswer (spec.page changes scope.now (Query.Latest target.now after.now limit)) result }
+        → IsAnswerIfMemory (spec.page changes scope.now (Query.Latest target.now after.now limit)) result }
 {
     match after {
         None => latest_page(alloc, state, scope, target, limit),
@@ -275,7 +276,7 @@ fn targets_page<'a>(
     other: Moment,
     limit: usize,
 ) -> Result<Page<'a>, PageFault>
-    ensures { IsAnswer (Some (spec.of_buffers (spec.targets_cut
+    ensures { IsAnswerIfMemory (Some (spec.of_buffers (spec.targets_cut
         (min limit scope.now.maximum) one other
         (spec.buffers_in state.now.history scope.now)))) result }
 {
@@ -286,19 +287,15 @@ fn targets_page<'a>(
     }
 }
 
-/// The page that answers a query (IRCv3 draft/chathistory, "Subcommands"): at most as many records or buffers as the lower
-/// one of its limit and the scope's maximum. The page lends what the state holds and copies no record.
-///
-/// Refused with [`PageFault::UnknownMessage`] where a selector names a message for which the buffer has no position: a
-/// redacted one has its position still. Else with [`PageFault::NoMemory`] for want of memory.
-pub fn page<'a>(
+/// The page of a query. Want of memory is answered wherever some was refused.
+fn page_if_memory<'a>(
     alloc: Global,
     state: &'a State,
     scope: &Scope<'_>,
     query: &Query<'_>,
 ) -> Result<Page<'a>, PageFault>
     ensures { (changes : List Change) → state.now.history ≡ norm changes
-        → IsAnswer (spec.page changes scope.now query.now) result }
+        → IsAnswerIfMemory (spec.page changes scope.now query.now) result }
 {
     match query {
         Query::Latest {
@@ -330,5 +327,40 @@ pub fn page<'a>(
         Query::Targets { one, other, limit } => {
             targets_page(alloc, state, scope, *one, *other, *limit)
         }
+    }
+}
+
+/// Why a query for which there was no memory is refused.
+fn refusal_of(state: &State, scope: &Scope<'_>, query: &Query<'_>) -> PageFault
+    ensures { (changes : List Change) → state.now.history ≡ norm changes
+        → IsRefusal (spec.page changes scope.now query.now) result }
+{
+    if has_page(state, scope, query) {
+        PageFault::NoMemory
+    } else {
+        PageFault::UnknownMessage
+    }
+}
+
+/// The page that answers a query (IRCv3 draft/chathistory, "Subcommands"): at most as many records or buffers as the lower
+/// one of its limit and the scope's maximum. The page lends what the state holds and copies no record.
+///
+/// Refused with [`PageFault::UnknownMessage`] exactly where a selector names a message for which the buffer has no
+/// position: a redacted one has its position still. So [`PageFault::NoMemory`] comes only where each selector has its
+/// place. A message is looked up by a buffer and an id that own their memory. Where these find none, the buffers and the
+/// ids are gone through one by one, which takes longer.
+pub fn page<'a>(
+    alloc: Global,
+    state: &'a State,
+    scope: &Scope<'_>,
+    query: &Query<'_>,
+) -> Result<Page<'a>, PageFault>
+    ensures { (changes : List Change) → state.now.history ≡ norm changes
+        → IsAnswer (spec.page changes scope.now query.now) result }
+{
+    match page_if_memory(alloc, state, scope, query) {
+        Ok(page) => Ok(page),
+        Err(PageFault::UnknownMessage) => Err(PageFault::UnknownMessage),
+        Err(PageFault::NoMemory) => Err(refusal_of(state, scope, query)),
     }
 }

@@ -7,6 +7,7 @@
 #![tactic(auto)]
 
 mod answer;
+mod known;
 pub mod laws;
 mod limit;
 mod listed_buffer;

@@ -21,6 +21,23 @@ fn fate_of(is_gone: bool, is_shown: bool) -> &'static str {
     }
 }
 
+// Where a message stands, found by its buffer and its id, and found by their bytes.
+fn put_position(
+    state: &State,
+    buffer: &Buffer,
+    id: &MsgId,
+    out: &mut Vec<u8>,
+) -> Result<(), Error> {
+    let at = state.position(buffer, id);
+    let (account, network, target) = (buffer.account(), buffer.network(), buffer.target());
+    let found = state.find_position(account, network, target, id.as_bytes());
+    if found != at {
+        write!(out, " found elsewhere")?;
+    }
+    put_moment(out, at)?;
+    Ok(())
+}
+
 // Whether a message is shown or gone, and where it stands.
 fn put_found(
     state: &mut State,
@@ -31,8 +48,7 @@ fn put_found(
     let is_shown = state.shown(buffer, id)?;
     let fate = fate_of(state.is_gone(buffer, id), is_shown);
     write!(out, " {fate}")?;
-    put_moment(out, state.position(buffer, id))?;
-    Ok(())
+    put_position(state, buffer, id, out)
 }
 
 fn put_message(
