@@ -57,7 +57,7 @@ pub all_map : {P Q : UpEffect → Type 0} → ((e : UpEffect) → P e → Q e) �
 all_map f [] all = tt
 all_map f (e ∷ effects) all = (f e all.0, all_map f effects all.1)
 
-all_append : (P : UpEffect → Type 0) (xs ys : List UpEffect) → AllByRecursion P xs → AllByRecursion P ys → AllByRecursion P (xs ++ ys)
+pub all_append : (P : UpEffect → Type 0) (xs ys : List UpEffect) → AllByRecursion P xs → AllByRecursion P ys → AllByRecursion P (xs ++ ys)
 all_append P [] ys p q = q
 all_append P (x ∷ xs) ys p q = (p.0, all_append P xs ys p.1 q)
 

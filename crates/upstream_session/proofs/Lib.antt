@@ -1,3 +1,4 @@
 mod CourseLemmas
 mod EventLemmas
 mod SentLemmas
+mod LinesLemmas

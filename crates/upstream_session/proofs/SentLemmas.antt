@@ -69,7 +69,7 @@ tag_byte b space bad =
     or_from (b == 0) ((b == 13) || ((b == 10) || (b == 32))) two.0 (or_from (b == 13) ((b == 10) || (b == 32)) one.1 (or_from (b == 10) (b == 32) two.1 space))
 
 -- of bytes that stand in front of others
-tag_bytes : (tags rest : List ℕ) → HasNoSpace tags → list_any is_bad (tags ++ rest) ≡ false → AllByRecursion (λ b. ends_tag_data b ≡ false) tags
+pub tag_bytes : (tags rest : List ℕ) → HasNoSpace tags → list_any is_bad (tags ++ rest) ≡ false → AllByRecursion (λ b. ends_tag_data b ≡ false) tags
 tag_bytes [] rest spaces bad = tt
 tag_bytes (b ∷ tags) rest spaces bad =
     let both = or_parts (is_bad b) (list_any is_bad (tags ++ rest)) bad in

@@ -8,7 +8,7 @@ use Rattle.irc_reply.specs.Tagged.{tag_part}
 use Rattle.irc_reply.specs.ToServer.{passed_line}
 use Rattle.chat_change.specs.Buffer.{Buffer}
 use Rattle.chat_change.specs.declared.change.Change.{Change}
-use Rattle.chat_change.specs.declared.change.Change.TheVariants.{Post, Redact, Mark, Floor}
+use Rattle.chat_change.specs.declared.change.Change.TheVariants.{Post, Redact}
 use Rattle.upstream_session.specs.Command.{command_of}
 use Rattle.upstream_session.specs.declared.command.ServerCommand.TheVariants.{Welcome}
 use Rattle.upstream_session.specs.declared.connection.Home.{Home}

@@ -1,5 +1,6 @@
 -- what a reader must believe: the commands of a server, what a session keeps, what it makes of a
--- message, what each line and each saying comes to, and lists of these
+-- message, what each line and each saying comes to, lists of these, and under which conditions each
+-- text that is written is one line
 pub mod Command
 pub mod Step
 pub mod Messages
@@ -7,5 +8,6 @@ pub mod Rows
 pub mod Sayings
 pub mod Session
 pub mod Events
+pub mod Standing
 -- what only the proofs use of the code: how a session goes on
 pub mod MessageOutcome

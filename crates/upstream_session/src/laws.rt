@@ -7,6 +7,7 @@ ghost use Rattle.upstream_session.specs.Step.{new};
 ghost use Rattle.upstream_session.specs.Sayings.{without_ending};
 ghost use Rattle.upstream_session.specs.Session.{start, say};
 ghost use Rattle.upstream_session.specs.Events.{ServerEvent, after, effects_of, run, all_effects, IsOwnEffect, IsUnheard, IsWelcome, id_given, IsIdOf, HasPost, ids_made, tags_given, HasTags, IsSentAsKept, HasClose};
+ghost use Rattle.upstream_session.specs.Standing.{WritesOneLine, ConfigStands, EntryStands, EventStands};
 ghost use Rattle.upstream_session.specs.declared.config.Config.{Config};
 ghost use Rattle.upstream_session.specs.declared.connection.Connection.{Connection};
 ghost use Rattle.upstream_session.specs.declared.connection.TheConstants.{LAST_SERIAL};
@@ -63,4 +64,26 @@ pub fn nothing_follows_close()
     ensures silent { (u : Connection) (events : List ServerEvent)
         → u.is_closed ≡ true → all_effects u events ≡ [] }
     ensures start { (u : Connection) → u.is_closed ≡ true → start u ≡ [] }
+{}
+
+/// Each text that a session writes, to its server or to be passed on to clients, is one line: CR LF stands at its end, and no
+/// NUL, CR or LF before that. It is so where its nick, its user name and its channels are such as a node's configuration
+/// has, and what clients say through it is single lines. How long a line is isn't said: a server cuts what is longer than
+/// 512 bytes, as a PONG or a REDACT may be by one.
+pub fn each_text_is_one_line()
+    ensures start { (config : Config) (node : List ℕ) (incarnation first_serial : ℕ)
+        → ConfigStands config
+        → AllByRecursion WritesOneLine (start (new config node incarnation first_serial)) }
+    ensures later { (config : Config) (node : List ℕ) (incarnation first_serial : ℕ)
+        (events : List ServerEvent) → ConfigStands config → AllByRecursion EventStands events
+        → AllByRecursion WritesOneLine
+        (all_effects (new config node incarnation first_serial) events) }
+{}
+
+/// In each state of a session its present nick and its channels are such as may stand in a line, whatever its server and
+/// the clients say.
+pub fn entries_stand()
+    ensures { (config : Config) (node : List ℕ) (incarnation first_serial : ℕ)
+        (events : List ServerEvent) → ConfigStands config
+        → EntryStands (run (new config node incarnation first_serial) events).entry }
 {}
