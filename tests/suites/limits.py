@@ -500,6 +500,16 @@ def post(account=ACCOUNT, network=NETWORK, target=TARGET, id="i" * 255, ms="2534
     return f"C POST {account} {network} {target} {id} {ms} {kind} {to} {source} :{body}"
 
 
+# The most client-only tags of a record, and the line of a post with them (docs/PROTOCOL.md, "Changes").
+RECORD_TAGS = "+x=" + "x" * 4091
+
+
+def with_tags(post, tags=RECORD_TAGS):
+    """That change `C POST` with tags, as a `C TPOST`."""
+    head, kind, rest = re.fullmatch("C POST (.* [0-9]+) ([NP]) (.*)", post).groups()
+    return f"C TPOST {head} {kind} {tags} {rest}"
+
+
 def greeted(fixture, incarnation=5, **limits):
     """A node with the longest names, and its peer n0."""
     node = longest(fixture, peers=[("n0", NOBODY)], **limits)
@@ -537,6 +547,20 @@ def the_longest_posts_that_a_peer_brings(fixture):
 
 
 @test
+def the_longest_posts_with_tags_that_a_peer_brings(fixture):
+    """Each field at its limit, and 4,094 bytes of tags."""
+    node, peer = greeted(fixture)
+    plain = [post(kind=kind, id=kind + "i" * 254) for kind in "NP"]
+    posts = [with_tags(line) for line in plain]
+    peer.give(0, *posts)
+    peer.hear_acknowledged(2)
+    peer.hear_packet(0, 2, *posts)
+    client = reader(node)
+    client.say(f"CHATHISTORY LATEST {TARGET} * 5")
+    client.hear(*page(1, TARGET, *(line_of(line).replace(" ", f";{RECORD_TAGS} ", 1) for line in plain)))
+
+
+@test
 def a_packet_of_the_most_changes_and_pages_of_the_longest_messages(fixture):
     """256 posts, each of the longest. A client gets the last hundred of them at once, with the least bound."""
     node, peer = greeted(fixture, bound=1024)
@@ -560,6 +584,7 @@ BEYOND = (
     ("a source of 256 bytes", post(source="s" * 256)),
     ("a notice whose line has 511 bytes", post() + "b"),
     ("a message whose line has 511 bytes", post(kind="P") + "b"),
+    ("tags of 4,095 bytes", with_tags(post(), RECORD_TAGS + "x")),
     ("a redaction of an id of 256 bytes", f"C REDACT {ACCOUNT} {NETWORK} {TARGET} {'i' * 256} *"),
     ("a redaction after the last moment", f"C REDACT {ACCOUNT} {NETWORK} {TARGET} i 253402300800000"),
     ("a marker of a target of 201 bytes", f"C MARK {ACCOUNT} {NETWORK} {TARGET}t 0"),
