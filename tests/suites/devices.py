@@ -21,9 +21,10 @@ ONE_PAGE = (
     b":bnc.example BATCH -r1\r\n"
 )
 
-# One line of each kind that is answered.
+# One line of each kind that is answered. The last but one is an acknowledgement of an earlier life, which is refused.
 EACH_KIND = ONE_MESSAGE + (
     b"MARKREAD #a\nC MARK demo net #a 5000\nMARKREAD #a\nC X\nC MARK demo net #a x\n12 x\nPRIVMSG #a :hi\n"
+    b"%1>2-\n%2*\n%1<2\n%x\n"
 )
 EACH_ANSWER = ONE_PAGE + (
     b":bnc.example MARKREAD #a *\r\n"
@@ -31,6 +32,7 @@ EACH_ANSWER = ONE_PAGE + (
     b"% BadForm\r\n% BadField\r\n"
     b":bnc.example 421 al * :Unknown command\r\n"
     b":bnc.example NOTICE al :Not connected to net\r\n"
+    b"% WrongLife\r\n% BadForm\r\n"
 )
 TOO_LONG = b":bnc.example 417 al :Input line was too long\r\n"
 
