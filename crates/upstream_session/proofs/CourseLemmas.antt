@@ -72,10 +72,12 @@ IsPassed home (Put change) = IsOwnRedaction home change
 IsPassed home (Relay bytes to) = Unit {0}
 IsPassed home Close = ⊥
 
--- another session of the same home, with the same serial number, which is up only if it was, or was welcomed
+-- another session of the same home, with the same serial number, which is over just where it was, and is up only if it was, or
+-- was welcomed
 pub record Same (W : Type 0) (u v : Connection) : Type 0 where
   pub home : v.home ≡ u.home
   pub serial : v.serial ≡ u.serial
+  pub over : v.is_closed ≡ u.is_closed
   pub up : v.entry.is_up ≡ true → (u.entry.is_up ≡ true) ⊎ W
 
 -- lines to the server; lines that are passed on; a message with these tags, and an id of its own or one that is made; the
@@ -92,7 +94,7 @@ pub data Course (W : Type 0) (id_of : Option (List ℕ)) (borne : List ℕ) (u :
 
 module _ (W : Type 0) (id_of : Option (List ℕ)) (borne : List ℕ) (u : Connection) where
   pub itself : Same W u u
-  itself = record { home = refl; serial = refl; up = λ h. inl h }
+  itself = record { home = refl; serial = refl; over = refl; up = λ h. inl h }
 
   pub says : (effects : List UpEffect) → AllByRecursion IsSend effects → Course W id_of borne u (stays u effects)
   says effects all = quiet itself all
@@ -105,15 +107,15 @@ module _ (W : Type 0) (id_of : Option (List ℕ)) (borne : List ℕ) (u : Connec
   -- ---- CAP and registration
 
   ls_row : (ps : List (List ℕ)) → Course W id_of borne u (ls u ps)
-  ls_row [] = quiet (record { home = refl; serial = refl; up = λ h. inl h }) (tt, tt)
-  ls_row (a ∷ []) = quiet (record { home = refl; serial = refl; up = λ h. inl h }) (tt, tt)
+  ls_row [] = quiet (record { home = refl; serial = refl; over = refl; up = λ h. inl h }) (tt, tt)
+  ls_row (a ∷ []) = quiet (record { home = refl; serial = refl; over = refl; up = λ h. inl h }) (tt, tt)
   ls_row (a ∷ b ∷ more) =
       either (λ (s : ServerStep). Course W id_of borne u s) (bytes_eq a (codes "*"))
-      (quiet (record { home = refl; serial = refl; up = λ h. inl h }) tt)
-      (quiet (record { home = refl; serial = refl; up = λ h. inl h }) (tt, tt))
+      (quiet (record { home = refl; serial = refl; over = refl; up = λ h. inl h }) tt)
+      (quiet (record { home = refl; serial = refl; over = refl; up = λ h. inl h }) (tt, tt))
 
   ack_row : (list : List ℕ) → Course W id_of borne u (ack u list)
-  ack_row list = quiet (record { home = refl; serial = refl; up = λ h. inl h }) (tt, tt)
+  ack_row list = quiet (record { home = refl; serial = refl; over = refl; up = λ h. inl h }) (tt, tt)
 
   pub cap_row : (ps : List (List ℕ)) → Course W id_of borne u (cap u ps)
   cap_row [] = says [] tt
@@ -128,8 +130,8 @@ module _ (W : Type 0) (id_of : Option (List ℕ)) (borne : List ℕ) (u : Connec
   all_joins (channel ∷ channels) = (tt, all_joins channels)
 
   welcomed : W → (nick : Option (List ℕ)) → Same W u (record (with_nick u nick) { entry = record (with_nick u nick).entry { is_up = true } })
-  welcomed w None = record { home = refl; serial = refl; up = λ h. inr w }
-  welcomed w (Some nick) = record { home = refl; serial = refl; up = λ h. inr w }
+  welcomed w None = record { home = refl; serial = refl; over = refl; up = λ h. inr w }
+  welcomed w (Some nick) = record { home = refl; serial = refl; over = refl; up = λ h. inr w }
 
   pub welcome_row : W → (ps : List (List ℕ)) → Course W id_of borne u (welcome u ps)
   welcome_row w ps = quiet (welcomed w (first_target ps)) (all_joins u.home.channels)
@@ -138,7 +140,7 @@ module _ (W : Type 0) (id_of : Option (List ℕ)) (borne : List ℕ) (u : Connec
   in_use_row line bytes =
       either_by (λ (s : ServerStep). Course W id_of borne u s) u.entry.is_up (stays u (relay_to_all line bytes)) (try_again u)
       (λ h. passing h itself (tt, tt))
-      (λ h. either (λ (s : ServerStep). Course W id_of borne u s) _ (quiet (record { home = refl; serial = refl; up = λ k. inl k }) (tt, tt)) (closed refl refl))
+      (λ h. either (λ (s : ServerStep). Course W id_of borne u s) _ (quiet (record { home = refl; serial = refl; over = refl; up = λ k. inl k }) (tt, tt)) (closed refl refl))
 
   pub ping_row : (line : Reading) (bytes : List ℕ) (ps : List (List ℕ)) → Course W id_of borne u (ping u line bytes ps)
   ping_row line bytes [] = passes u itself line bytes
@@ -148,21 +150,21 @@ module _ (W : Type 0) (id_of : Option (List ℕ)) (borne : List ℕ) (u : Connec
 
   renamed : (nick : Option (List ℕ)) → Same W u (with_nick u nick)
   renamed None = itself
-  renamed (Some nick) = record { home = refl; serial = refl; up = λ h. inl h }
+  renamed (Some nick) = record { home = refl; serial = refl; over = refl; up = λ h. inl h }
 
   has_joined : (channel : Option (List ℕ)) → Same W u (join_if u channel)
   has_joined None = itself
-  has_joined (Some channel) = record { home = refl; serial = refl; up = λ h. inl h }
+  has_joined (Some channel) = record { home = refl; serial = refl; over = refl; up = λ h. inl h }
 
   has_parted : (ps : List (List ℕ)) → Same W u (leave u ps)
   has_parted [] = itself
-  has_parted (channel ∷ more) = record { home = refl; serial = refl; up = λ h. inl h }
+  has_parted (channel ∷ more) = record { home = refl; serial = refl; over = refl; up = λ h. inl h }
 
   is_kicked : (ps : List (List ℕ)) → Same W u (put_out u ps)
   is_kicked [] = itself
   is_kicked (channel ∷ []) = itself
   is_kicked (channel ∷ nick ∷ more) =
-      either (λ (v : Connection). Same W u v) (is_same_nick nick u.entry.nick) (record { home = refl; serial = refl; up = λ h. inl h }) itself
+      either (λ (v : Connection). Same W u v) (is_same_nick nick u.entry.nick) (record { home = refl; serial = refl; over = refl; up = λ h. inl h }) itself
 
   pub moves : (b : Bool) (v : Connection) → Same W u v → (line : Reading) (bytes : List ℕ)
       → Course W id_of borne u (stays (if b then v else u) (pass_on u line bytes))

@@ -23,7 +23,7 @@ use Rattle.upstream_session.specs.Step.{ServerStep, stays, new}
 use Rattle.upstream_session.specs.Messages.{made_text, post}
 use Rattle.upstream_session.specs.Sayings.{without_ending, say_line}
 use Rattle.upstream_session.specs.Session.{start, opening, reading_step, step, say}
-use Rattle.upstream_session.specs.Events.{ServerEvent, step_by, after, effects_of, run, all_effects, IsOwnChange, IsOwnEffect, IsUnheard, IsWelcome, id_given, tags_read, tags_given, HasTags, IsIdOf, HasPost, ids_made_by, ids_made, HasClose}
+use Rattle.upstream_session.specs.Events.{ServerEvent, step_by, after, effects_of, run, all_effects, IsOwnChange, IsOwnEffect, IsUnheard, IsWelcome, id_given, tags_read, tags_given, HasTags, IsIdOf, HasPost, ids_made_by, ids_made, HasClose, EndsAtClose}
 use Rattle.upstream_session.specs.Events as event
 use Rattle.upstream_session.proofs.CourseLemmas.{either, either_by, Course, IsSend, IsPassed, IsOwnRedaction, says, line_course, say_course}
 use Rattle.upstream_session.proofs.CourseLemmas as course
@@ -356,6 +356,40 @@ ends W id_of borne u s (course.closed session effects) h = ap (λ (v : Connectio
 
 pub closes : (u : Connection) (e : ServerEvent) → HasClose (effects_of u e) → (after u e).is_closed ≡ true
 closes u e h = ends (IsWelcome e) (id_given e) (tags_given u e) u (step_by u e) (course_of u e) h
+
+-- Close is the last effect
+open_ends : (effects : List UpEffect) → ¬ HasClose effects → EndsAtClose effects
+open_ends [] none = tt
+open_ends (Send bytes ∷ effects) none = open_ends effects none
+open_ends (Put change ∷ effects) none = open_ends effects none
+open_ends (Relay bytes to ∷ effects) none = open_ends effects none
+open_ends (Close ∷ effects) none = absurd (none tt)
+
+last_of : (W : Type 0) (id_of : Option (List ℕ)) (borne : List ℕ) (u : Connection) (s : ServerStep) → Course W id_of borne u s → EndsAtClose s.effects
+last_of W id_of borne u s (course.quiet same all) = open_ends s.effects (λ h. send_no_close s.effects all h)
+last_of W id_of borne u s (course.passing up same all) = open_ends s.effects (λ h. passed_no_close u.home s.effects all h)
+last_of W id_of borne u s (course.kept id at m up is session effects) =
+    open_ends s.effects (λ h. post_no_close [] u id at borne m tt (subst HasClose effects h))
+last_of W id_of borne u s (course.made before at m up session more all effects) =
+    open_ends s.effects (λ h. post_no_close before u (made_text u.home u.serial) at borne m all (subst HasClose effects h))
+last_of W id_of borne u s (course.closed session effects) = subst EndsAtClose (sym effects) refl
+
+pub close_is_last : (u : Connection) (e : ServerEvent) → EndsAtClose (effects_of u e)
+close_is_last u e = last_of (IsWelcome e) (id_given e) (tags_given u e) u (step_by u e) (course_of u e)
+
+-- and nothing else closes a session
+still_open : (W : Type 0) (id_of : Option (List ℕ)) (borne : List ℕ) (u : Connection) (s : ServerStep) → Course W id_of borne u s
+    → u.is_closed ≡ false → s.session.is_closed ≡ true → HasClose s.effects
+still_open W id_of borne u s (course.quiet same all) was is = absurd (not_up u.is_closed was (sym same.over ∙ is))
+still_open W id_of borne u s (course.passing up same all) was is = absurd (not_up u.is_closed was (sym same.over ∙ is))
+still_open W id_of borne u s (course.kept id at m up given session effects) was is =
+    absurd (not_up u.is_closed was (sym (ap (λ (v : Connection). v.is_closed) session) ∙ is))
+still_open W id_of borne u s (course.made before at m up session more all effects) was is =
+    absurd (not_up u.is_closed was (sym (ap (λ (v : Connection). v.is_closed) session) ∙ is))
+still_open W id_of borne u s (course.closed session effects) was is = subst HasClose (sym effects) tt
+
+pub only_close_closes : (u : Connection) (e : ServerEvent) → u.is_closed ≡ false → (after u e).is_closed ≡ true → HasClose (effects_of u e)
+only_close_closes u e was is = still_open (IsWelcome e) (id_given e) (tags_given u e) u (step_by u e) (course_of u e) was is
 
 pub closed_run : (u : Connection) (events : List ServerEvent) → u.is_closed ≡ true → run u events ≡ u
 closed_run u [] h = refl

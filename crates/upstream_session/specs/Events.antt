@@ -150,3 +150,9 @@ abbrev pub HasClose : List UpEffect → Type 0
 HasClose [] = ⊥
 HasClose (Close ∷ effects) = Unit {0}
 HasClose (_ ∷ effects) = HasClose effects
+
+-- nothing stands behind Close
+abbrev pub EndsAtClose : List UpEffect → Type 0
+EndsAtClose [] = Unit {0}
+EndsAtClose (Close ∷ effects) = effects ≡ []
+EndsAtClose (_ ∷ effects) = EndsAtClose effects

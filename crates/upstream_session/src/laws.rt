@@ -1,12 +1,12 @@
 //! What holds of every list of lines of a server and of lines for it, each with its moment.
-ghost use Rattle.std.specs.Prelude.{◌≡◌, ◌≤◌, ◌+◌, ◌⊎◌, [], List, ℕ, true};
+ghost use Rattle.std.specs.Prelude.{◌≡◌, ◌≤◌, ◌+◌, ◌⊎◌, [], List, ℕ, true, false};
 ghost use Rattle.std.specs.List.{AllByRecursion, IsDistinct};
 ghost use Rattle.std.specs.Str.{bytes_eq};
 ghost use Rattle.upstream_session.specs.Messages.{made_text};
 ghost use Rattle.upstream_session.specs.Step.{new};
 ghost use Rattle.upstream_session.specs.Sayings.{without_ending};
 ghost use Rattle.upstream_session.specs.Session.{start, say};
-ghost use Rattle.upstream_session.specs.Events.{ServerEvent, after, effects_of, run, all_effects, IsOwnEffect, IsUnheard, IsWelcome, id_given, IsIdOf, HasPost, ids_made, tags_given, HasTags, IsSentAsKept, HasClose};
+ghost use Rattle.upstream_session.specs.Events.{ServerEvent, after, effects_of, run, all_effects, IsOwnEffect, IsUnheard, IsWelcome, id_given, IsIdOf, HasPost, ids_made, tags_given, HasTags, IsSentAsKept, HasClose, EndsAtClose};
 ghost use Rattle.upstream_session.specs.Standing.{WritesOneLine, ConfigStands, EntryStands, EventStands};
 ghost use Rattle.upstream_session.specs.declared.config.Config.{Config};
 ghost use Rattle.upstream_session.specs.declared.connection.Connection.{Connection};
@@ -55,10 +55,14 @@ pub fn nothing_is_heard_before_the_welcome()
         → AllByRecursion IsUnheard (all_effects (new config node incarnation first_serial) events) }
 {}
 
-/// After Close there are no effects, and nothing changes.
+/// Close comes last among the effects of a line, and closes the session; nothing else does. After it there are no effects,
+/// and nothing changes.
 pub fn nothing_follows_close()
+    ensures last { (u : Connection) (event : ServerEvent) → EndsAtClose (effects_of u event) }
     ensures closed { (u : Connection) (event : ServerEvent)
         → HasClose (effects_of u event) → (after u event).is_closed ≡ true }
+    ensures only { (u : Connection) (event : ServerEvent) → u.is_closed ≡ false
+        → (after u event).is_closed ≡ true → HasClose (effects_of u event) }
     ensures stays { (u : Connection) (events : List ServerEvent)
         → u.is_closed ≡ true → run u events ≡ u }
     ensures silent { (u : Connection) (events : List ServerEvent)
