@@ -23,14 +23,15 @@ pub struct Pass<J: Naming> {
 }
 
 impl<J: Naming> Model for Pass<J> {
-    ghost use Rattle.std.specs.Prelude.{◌≡◌};
+    ghost use Rattle.std.specs.Prelude.{◌≡◌, true, is_some};
     ghost use Rattle.shared_node.specs.Passes.{PassValue, pass_value};
 
     ghost Value = { PassValue };
 
     ghost view = { λ p. pass_value p.number p.count p.list p.told };
 
-    ghost invariant = { λ p. (p.share.parts ≡ 1) × (p.share.amount ≡ p.count) };
+    ghost invariant = { λ p. (p.share.parts ≡ 1) × (p.share.amount ≡ p.count)
+        × (is_some p.entrance.home ≡ true) };
 }
 
 /// A list that was published. Contracts see it as its entries.

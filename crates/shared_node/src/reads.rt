@@ -1,5 +1,5 @@
 //! What a pass reads, without a lock.
-ghost use Rattle.std.specs.Prelude.{◌≡◌, ◌≢◌, ◌↔◌, Err, IsTrue, IfOk, IfSome, IfNone, OnErr};
+ghost use Rattle.std.specs.Prelude.{◌≡◌, ◌≢◌, ◌↔◌, Err, true, IsTrue, is_some, IfOk, IfSome, IfNone, OnErr};
 ghost use mathlib.Core.List.{IsPrefix};
 ghost use Rattle.byte_text.specs.Writes.{Writes};
 ghost use Rattle.chat_history.specs.History.{norm};
@@ -23,19 +23,22 @@ use std::alloc::Global;
 use std::io::Write;
 
 // Enters the published version, where its list follows what was seen and told. From then on it is what was seen.
-fn enter<'a, J: Naming>(
-    entrance: &'a mut Entrance<J>,
+fn enter<J: Naming>(
+    entrance: &mut Entrance<J>,
     seen: &mut Prefix<J>,
     told: &Prefix<J>,
-) -> Option<Visit<'a, J>>
+) -> Option<Visit<J>>
+    requires { is_some entrance.old.home ≡ true }
     ensures version { IfSome result (λ v. v.reading.part.value.state ≡ state_of seen.new) }
     ensures follows { IfSome result (λ _. IsPrefix seen.old seen.new
         × IsPrefix told.now seen.new) }
     ensures refused { IfNone result (seen.new ≡ seen.old) }
+    ensures stands { IfNone result (is_some entrance.new.home ≡ true) }
 {
     let visit = entrance.enter()?;
     let list = visit.list();
     if !list.follows(seen) || !list.follows(told) {
+        entrance.leave(visit);
         return None;
     }
     *seen = list;
@@ -67,7 +70,9 @@ impl<J: Naming> Pass<J> {
         let Some(visit) = enter(&mut self.entrance, &mut self.list, &self.told) else {
             return Err(AskFault::NoEntry);
         };
-        match answer(alloc, visit.state(), facts, line, writer) {
+        let answered = answer(alloc, visit.state(), facts, line, writer);
+        self.entrance.leave(visit);
+        match answered {
             Ok(answered) => Ok(answered),
             Err(AnswerFault::NoMemory) => Err(AskFault::NoMemory),
             Err(AnswerFault::Write) => Err(AskFault::Write),
@@ -90,7 +95,9 @@ impl<J: Naming> Pass<J> {
         let Some(visit) = enter(&mut self.entrance, &mut self.list, &self.told) else {
             return Err(DeltaFault::NoEntry);
         };
-        match visit.state().due_floors(alloc, now, days) {
+        let floors = visit.state().due_floors(alloc, now, days);
+        self.entrance.leave(visit);
+        match floors {
             Ok(floors) => Ok(floors),
             Err(_) => Err(DeltaFault::NoMemory),
         }
@@ -107,7 +114,9 @@ impl<J: Naming> Pass<J> {
         let Some(visit) = enter(&mut self.entrance, &mut self.list, &self.told) else {
             return Err(DeltaFault::NoEntry);
         };
-        match delta_since(alloc, visit.state(), from) {
+        let delta = delta_since(alloc, visit.state(), from);
+        self.entrance.leave(visit);
+        match delta {
             Ok(delta) => Ok(delta),
             Err(_) => Err(DeltaFault::NoMemory),
         }
@@ -124,7 +133,9 @@ impl<J: Naming> Pass<J> {
         let Some(visit) = enter(&mut self.entrance, &mut self.list, &self.told) else {
             return Err(NoEntry);
         };
-        Ok(visit.state().is_shown(buffer, id))
+        let shown = visit.state().is_shown(buffer, id);
+        self.entrance.leave(visit);
+        Ok(shown)
     }
 }
 
