@@ -13,7 +13,7 @@ TRIES = 5
 
 
 def configuration(top, peers=(), accounts=(), networks=()):
-    """The TOML text of a configuration (README.md and examples/one-node.toml show one)."""
+    """The TOML text of a configuration (examples/one-node.toml shows one)."""
 
     def values(table):
         return "".join(f"{key} = {json.dumps(value)}\n" for key, value in table.items())

@@ -1,4 +1,4 @@
-"""Which configurations are refused, and in which words (README.md, "Lines of a script"; docs/OPERATING.md, "Start and stop").
+"""Which configurations are refused, and in which words (docs/OPERATING.md, "Start and stop").
 
 The files of tests/configurations are of two kinds. `wholes` has the name of a file in each row, and what is to be told of it.
 The others have cases, each of which changes the file `example`, text for text, and says what is to be told then:

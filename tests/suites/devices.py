@@ -1,4 +1,4 @@
-"""Standard input and output of `bnc replay` that are cut, interrupted, or fail (README.md, the table of statuses; the first
+"""Standard input and output of `bnc replay` that are cut, interrupted, or fail (docs/OPERATING.md, the table of statuses; the first
 paragraph of docs/PROTOCOL.md; docs/DECISIONS.md says how many reads are made at most)."""
 
 import fcntl
@@ -44,7 +44,7 @@ def laid(fixture, **faults):
 
 @test
 def the_worked_script_of_the_readme(fixture):
-    """README.md shows what examples/hello.script prints."""
+    """docs/PROTOCOL.md shows what examples/hello.script prints ("A script")."""
     with open(os.path.join(os.path.dirname(TESTS), "examples", "hello.script"), "rb") as file:
         fixture.replay(file.read()).expect(0, ONE_PAGE)
 

@@ -1,5 +1,5 @@
 """Requests for memory that are refused, one in each run: the first, then the second, and so on, until a run asks for no more
-(README.md, the table of statuses). The C library that refuses them is harness/refuse.c."""
+(docs/OPERATING.md, the table of statuses). The C library that refuses them is harness/refuse.c."""
 
 import os
 import select

@@ -1,4 +1,4 @@
-"""The words of the program, and its status for wrong ones (README.md, the table of statuses)."""
+"""The words of the program, and its status for wrong ones (docs/OPERATING.md, the table of statuses)."""
 
 from harness.registry import add, test
 
@@ -43,7 +43,7 @@ def the_longest_names_are_accepted(fixture):
 
 @test
 def names_are_those_of_the_session(fixture):
-    """`./bnc replay demo net al` answers for that account, on that network, with that nick (README.md, "A script")."""
+    """`./bnc replay demo net al` answers for that account, on that network, with that nick (docs/PROTOCOL.md, "A script")."""
     script = b"C MARK demo net #a 5000\nC MARK eve net #a 7000\nC MARK demo two #a 8000\nMARKREAD #a\nCAP LIST\n"
     ran = fixture.run("replay", "eve", "net", "bob", given=script)
     ran.expect(0, (
