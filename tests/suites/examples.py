@@ -1,0 +1,245 @@
+"""The examples are started as they stand, but for their ports; and what `./bnc` and `./build` do before the program runs
+(README.md; docs/OPERATING.md, "Logins that people try")."""
+
+import os
+import re
+import shutil
+import subprocess
+
+from harness import processes
+from harness.client import Client
+from harness.connection import free_addresses, spelled
+from harness.failure import Failed, expect
+from harness.registry import add, test
+from harness.server import Server
+
+TOP = os.path.dirname(os.path.dirname(os.path.dirname(os.path.abspath(__file__))))
+
+
+def text_of_file(path):
+    with open(os.path.join(TOP, path), encoding="utf-8") as file:
+        return file.read()
+
+
+class Example:
+    """An example's configuration at addresses of its own, in a file of the test's folder."""
+
+    def __init__(self, fixture, path, known):
+        """`known` has the free address that stands for each of the example's."""
+        self.fixture, self.name = fixture, path
+        text = text_of_file(path)
+        for address, other in known.items():
+            text = text.replace(f'"{address}"', f'"{spelled(other)}"')
+        self.file = fixture.write(os.path.basename(path), text.encode())
+
+    def log(self):
+        with open(self.fixture.path("log"), encoding="utf-8") as file:
+            return file.read()
+
+    def serve(self):
+        with open(self.fixture.path("log"), "ab") as log:
+            self.process = self.fixture.start("serve", self.file, stdin=None, stdout=log, stderr=log)
+        self.wait_for("listening: ")
+        return self
+
+    def wait_for(self, words):
+        def is_told():
+            if self.process.poll() is not None:
+                raise Failed(f"{self.name} ended with status {self.process.returncode}: {self.log()}")
+            return words in self.log()
+
+        self.fixture.until(f"{self.name} tells '{words}'", is_told)
+
+
+def one_node(fixture, path="examples/one-node.toml"):
+    """A node with an example's configuration, its server, and the address for clients."""
+    server = Server(fixture)
+    clients, peers = free_addresses(2)
+    known = {"127.0.0.1:6670": clients, "127.0.0.1:7000": peers, "127.0.0.1:6667": server.address}
+    return Example(fixture, path, known).serve(), server, clients
+
+
+@test
+def one_node_serves(fixture):
+    """The first client of README.md: it is in the network's channel, and is shown the past for which it asks."""
+    node, server, clients = one_node(fixture)
+    session = server.register(channels=("#a",))
+    node.wait_for("upstream up: demo/net as al")
+    session.say("@msgid=m1;time=2026-01-02T03:04:05.678Z :bob!b@h PRIVMSG #a :hi")
+    server.settled(session)
+    client = Client(fixture, clients, "a client").register("batch draft/chathistory", channels=("#a",))
+    node.wait_for("client in: demo/net from ")
+    expect("the page", [":bob!b@h PRIVMSG #a :hi"], [it.partition(" ")[2] for it in client.ask("CHATHISTORY LATEST #a * 50")])
+
+
+@test
+def the_configuration_of_the_package_serves(fixture):
+    """packaging/bnc.toml is the configuration that the Debian package installs."""
+    node, server, clients = one_node(fixture, "packaging/bnc.toml")
+    server.register(channels=("#a",))
+    node.wait_for("upstream up: demo/net as al")
+    secret = re.search(r'^secret = "(.*)"$', text_of_file("packaging/bnc.toml"), re.M)[1]
+    client = Client(fixture, clients, "a client")
+    client.say(f"PASS {secret}", "NICK al", "USER demo/net 0 * :Al")
+    client.hear(":bnc.example 001 al :Welcome to net")
+
+
+def tree(fixture, files):
+    """Copies of files of the repository, where they stand below the test's folder."""
+    for path in files:
+        os.makedirs(os.path.dirname(fixture.path(path)), exist_ok=True)
+        shutil.copy(os.path.join(TOP, path), fixture.path(path))
+
+
+def script(fixture, path, text):
+    """A script of the shell in the test's folder."""
+    os.makedirs(os.path.dirname(fixture.path(path)), exist_ok=True)
+    fixture.write(path, b"#!/bin/sh\n" + text.encode())
+    os.chmod(fixture.path(path), 0o755)
+
+
+@test
+def three_nodes_run(fixture):
+    """examples/three-nodes/run: what one node hears, a client of another finds."""
+    server, addresses = Server(fixture), free_addresses(6)
+    names = ("n1", "n2", "n3")
+    tree(fixture, [f"examples/three-nodes/{it}" for it in ("run", "n1.toml", "n2.toml", "n3.toml")])
+    known = {"127.0.0.1:6667": server.address}
+    for number in range(3):
+        known |= {f"127.0.0.1:667{number + 1}": addresses[number], f"127.0.0.1:700{number + 1}": addresses[3 + number]}
+    for name in names:
+        example = Example(fixture, f"examples/three-nodes/{name}.toml", known)
+        os.replace(example.file, fixture.path(f"examples/three-nodes/{name}.toml"))
+    # The script calls ./bnc of its repository. The node with the greatest name begins first, so none waits a minute for it.
+    script(fixture, "bnc", f'case "$2" in *n1.toml) sleep 1 ;; *n2.toml) sleep 0.5 ;; esac\nexec "{fixture.program}" "$@"\n')
+    run = processes.start([fixture.path("examples/three-nodes/run")], cwd=fixture.folder, stdin=subprocess.DEVNULL,
+                          stdout=subprocess.PIPE, stderr=subprocess.PIPE)
+    fixture.at_end(lambda: processes.end(run))
+    sessions = {}
+    for _ in names:
+        session = server.accept("the server")
+        nick = session.line("CAP LS 302") and session.line("a nick").split(" ")[1]
+        session.hear("USER al 0 * :al")
+        session.say(":irc.example CAP * LS :", f":irc.example 001 {nick} :Welcome", f":{nick}!al@host JOIN #a")
+        session.hear("CAP END", "JOIN #a")
+        server.settled(session)
+        sessions[nick] = session
+    expect("nicks", ["al1", "al2", "al3"], sorted(sessions))
+    sessions["al1"].say("@msgid=m1;time=2026-01-02T03:04:05.678Z :bob!b@h PRIVMSG #a :hi")
+    client = Client(fixture, addresses[2], "a client of n3").register("batch draft/chathistory", nick="al3", channels=("#a",))
+    said = [":bob!b@h PRIVMSG #a :hi"]
+    fixture.until("n3 has what n1 heard",
+                  lambda: [it.partition(" ")[2] for it in client.ask("CHATHISTORY LATEST #a * 50")] == said)
+
+
+# What each login is answered, where PASS has come before USER and the account's secret is s3cret.
+REFUSED = (":bnc.example 464 * :Password incorrect", "ERROR :Closing link")
+LOGINS = (
+    ("the secret, and demo/net as the user name", "s3cret", "demo/net", (":bnc.example 001 al :Welcome to net",)),
+    ("all in the password, as for ZNC", "demo/net:s3cret", "demo", REFUSED),
+    ("the account and the secret in the password", "demo:s3cret", "demo/net", REFUSED),
+    ("an account without a network", "s3cret", "demo", REFUSED),
+    ("a network that the account hasn't", "s3cret", "demo/other", REFUSED),
+    ("an identity of a client behind an @, as for soju", "s3cret", "demo/net@phone", REFUSED),
+    ("upper case", "s3cret", "Demo/net", REFUSED),
+)
+
+
+def login(word, user, answer):
+    def call(fixture):
+        _node, server, clients = one_node(fixture)
+        server.register(channels=("#a",))
+        client = Client(fixture, clients, "a client")
+        client.say(f"PASS {word}", "NICK al", f"USER {user} 0 * :Al")
+        client.hear(*answer)
+
+    return call
+
+
+for what, word, user, answer in LOGINS:
+    add(f"examples: a login by {what}", login(word, user, answer))
+
+
+@test
+def sasl_is_not_offered(fixture):
+    """A client that asks for SASL all the same is told that there is none, and may go on by PASS."""
+    _node, server, clients = one_node(fixture)
+    server.register(channels=("#a",))
+    client = Client(fixture, clients, "a client")
+    client.say("CAP LS 302", "CAP REQ :sasl", "AUTHENTICATE PLAIN", "PASS s3cret", "NICK al", "USER demo/net 0 * :Al", "CAP END")
+    client.hear(
+        ":bnc.example CAP * LS :batch draft/chathistory draft/message-redaction draft/read-marker echo-message message-tags "
+        "server-time",
+        ":bnc.example CAP * NAK :sasl", ":bnc.example 451 * :You have not registered", ":bnc.example 001 al :Welcome to net",
+    )
+
+
+def run_bnc(fixture, *words):
+    """Runs a copy of `./bnc` in the test's folder."""
+    tree(fixture, ["bnc"])
+    ran = subprocess.run([fixture.path("bnc"), *words], stdin=subprocess.DEVNULL, capture_output=True, check=False,
+                         timeout=fixture.patience())
+    return ran.returncode, ran.stdout.decode(), ran.stderr.decode()
+
+
+UNPROVED = "bnc: this program is NOT PROVED: it was built without a proof, with the sanitizer, and is slow\n"
+
+
+@test
+def the_first_line_says_that_it_is_not_proved(fixture):
+    """At each start, before it is built and once it is there."""
+    made = 'mkdir -p crates/bnc/out/unproved\nprintf "#!/bin/sh\\necho it runs: \\"\\$@\\"\\n" >crates/bnc/out/unproved/bnc\n'
+    script(fixture, "build", f'cd "$(dirname "$0")"\necho "build: $*" >&2\n{made}chmod +x crates/bnc/out/unproved/bnc\n')
+    for _ in range(2):
+        status, output, errors = run_bnc(fixture, "--unproved", "serve", "bnc.toml")
+        expect("the run", (0, "it runs: serve bnc.toml\n"), (status, output))
+        expect("standard error", UNPROVED + "build: --unproved\n", errors)
+
+
+@test
+def a_program_that_cannot_be_built_is_status_70(fixture):
+    script(fixture, "build", "exit 1\n")
+    expect("the run", (70, "", ""), run_bnc(fixture, "serve", "bnc.toml"))
+
+
+@test
+def the_command_of_the_kit_is_needed_to_build(fixture):
+    """Without `rt` on the path nothing is built, which is told."""
+    tree(fixture, ["build", "crates.txt", "HANDLES", "docs/GATE.md"])
+    ran = subprocess.run(["python3", fixture.path("build")], env={**os.environ, "PATH": "/usr/bin:/bin"}, capture_output=True,
+                         check=False, timeout=fixture.patience())
+    if shutil.which("rt", path="/usr/bin:/bin"):
+        return
+    wanted = b"bnc: the program isn't built, and the kit's command rt, which builds it, isn't on the path\n"
+    expect("the run", (70, b"", wanted), (ran.returncode, ran.stdout, ran.stderr))
+
+
+@test
+def the_plan_proves_each_crate_after_those_below(fixture):
+    """`./build --plan`: each crate that the program stands on, and no crate of tests, begins once those that it names have
+    ended; and never are more proved at once than there are processors."""
+    ran = subprocess.run([os.path.join(TOP, "build"), "--plan"], capture_output=True, text=True, check=True,
+                         timeout=fixture.patience())
+    *rows, last = ran.stdout.splitlines()
+    runs = [re.fullmatch(r" *([0-9.]+) to +([0-9.]+)  (\w+)  on ([0-9]+)", row).groups() for row in rows]
+    named = dict(re.findall(r"^(\w+)(?: may_wait=\d+)?: *(.*)$", text_of_file("crates.txt"), re.M))
+    ends = {name: float(end) for _, end, name, _ in runs}
+    reached = set()
+
+    def reach(name):
+        if name in named and name not in reached:
+            reached.add(name)
+            for below in named[name].split():
+                reach(below)
+
+    reach("bnc")
+    expect("the crates", sorted(reached), sorted(ends))
+    for begin, _, name, _ in runs:
+        for below in named[name].split():
+            if ends.get(below, 0) > float(begin) + 0.1:
+                raise Failed(f"{name} begins at {begin}, and {below} ends at {ends[below]}")
+    lanes = int(re.fullmatch(r"[0-9]+ minutes on ([0-9]+) processors of the table's machine", last)[1])
+    for at, _, _, _ in runs:
+        most = sum(int(jobs) for begin, end, _, jobs in runs if float(begin) <= float(at) < float(end))
+        if most > lanes:
+            raise Failed(f"at {at} there are {most} at work on {lanes} processors")
