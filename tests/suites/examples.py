@@ -174,6 +174,42 @@ def sasl_is_not_offered(fixture):
     )
 
 
+@test
+def a_client_made_for_soju_asks_for_what_it_missed(fixture):
+    """The requests of such clients, as the IRCv3 specifications have them: history and markers of a channel, conversations since
+    a moment, further back until a page is empty. What is read on one device, the other hears of."""
+    _node, server, clients = one_node(fixture)
+    session = server.register(channels=("#a",))
+    session.say("@msgid=m1;time=2026-01-02T03:04:05.678Z :bob!b@h PRIVMSG #a :hi",
+                "@msgid=m2;time=2026-01-02T03:04:06.000Z :bob!b@h PRIVMSG al :psst")
+    server.settled(session)
+    capabilities = "batch draft/chathistory draft/read-marker echo-message message-tags server-time"
+    phone = Client(fixture, clients, "a phone").register(capabilities, channels=("#a",))
+    desk = Client(fixture, clients, "a desk").register(capabilities, channels=("#a",))
+    hi = "msgid=m1;time=2026-01-02T03:04:05.678Z :bob!b@h PRIVMSG #a :hi"
+    psst = "msgid=m2;time=2026-01-02T03:04:06.000Z :bob!b@h PRIVMSG al :psst"
+    bare = lambda question: [it.partition(";")[2] or it.partition(" ")[2] for it in phone.ask(question)]
+    expect("the channel", [hi], bare("CHATHISTORY LATEST #a * 100"))
+    expect("before it", [], bare("CHATHISTORY BEFORE #a timestamp=2026-01-02T03:04:05.678Z 100"))
+    since = "timestamp=2026-01-01T00:00:00.000Z"
+    targets = ["CHATHISTORY TARGETS #a 2026-01-02T03:04:05.678Z", "CHATHISTORY TARGETS bob 2026-01-02T03:04:06.000Z"]
+    expect("the conversations", [f":bnc.example {it}" for it in targets],
+           bare(f"CHATHISTORY TARGETS {since} timestamp=2030-01-01T00:00:00.000Z 100"))
+    expect("the private one", [psst], bare(f"CHATHISTORY LATEST bob {since} 100"))
+    for client in (phone, desk):
+        if client is phone:
+            client.say("MARKREAD #a timestamp=2026-01-02T03:04:05.678Z")
+        client.hear(":bnc.example MARKREAD #a timestamp=2026-01-02T03:04:05.678Z")
+
+
+@test
+def the_picture_of_the_layers_is_true(fixture):
+    """docs/ARCHITECTURE.md is as `./layers` makes it of crates.txt."""
+    ran = subprocess.run([os.path.join(TOP, "layers"), "--check"], capture_output=True, text=True, check=False,
+                         timeout=fixture.patience())
+    expect("./layers --check", (0, "", ""), (ran.returncode, ran.stdout, ran.stderr))
+
+
 def run_bnc(fixture, *words):
     """Runs a copy of `./bnc` in the test's folder."""
     tree(fixture, ["bnc"])

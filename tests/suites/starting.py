@@ -1,4 +1,4 @@
-"""How `bnc serve` begins and ends (docs/OPERATING.md, "Start and stop" and "What it tells")."""
+"""How `bnc serve` begins and ends (docs/OPERATING.md, "Start and stop" and "What it logs")."""
 
 import re
 import signal
