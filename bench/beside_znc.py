@@ -9,7 +9,7 @@ what a message and an idle client cost in memory. It plays the network's server 
     bench/beside_znc.py turns PROGRAM ROUNDS   both at once: relays lines by one and then by the other, so many times, and
                                                tells the median of the ratios
 
-It prints one line a measure. Figures are of use beside those of the other bouncer in the same run of the machine alone. Where
+`both` and `turns` print the tables of docs/PERFORMANCE.md, the other two a line for each measure. Figures are of use beside those of the other bouncer in the same run of the machine alone. Where
 the machine is now faster and now slower, `turns` compares what was measured one right after the other. On a machine with
 other work let root run it at real-time priority, which the bouncers inherit:
 
@@ -23,6 +23,8 @@ import subprocess
 import sys
 import tempfile
 import time
+
+from machine import name_of_run, table
 
 SECRET = "s3cret"
 # where the network's server listens for each bouncer, and where the bouncer does
@@ -414,16 +416,19 @@ def summary(figures, digits=0):
 
 
 def measure_both(program, rounds):
+    head = name_of_run(program)
     runs = [(measure("bnc", program), measure("znc", None)) for _ in range(rounds)]
+    rows = []
     for name in runs[0][0]:
         ours, our_text = summary(bnc[name] for bnc, _ in runs)
         theirs, their_text = summary(znc[name] for _, znc in runs)
-        ratio = ours / theirs if theirs else float("inf")
-        print(f"{name}: bnc {our_text}, znc {their_text}, ratio of the medians {ratio:.2f}", flush=True)
+        rows.append((name, our_text, their_text, f"{ours / theirs:.2f}" if theirs else ""))
+    print(f"{head} Medians and ranges of {rounds} rounds.\n")
+    print(table(("what", "bnc", "ZNC", "ratio of the medians"), rows), flush=True)
 
 
 def relay_by_turns(ours, theirs, attached, lines, rounds):
-    """Floods both in turns, so many rounds after two that warm up, and tells what a line takes."""
+    """Floods both in turns, so many rounds after two that warm up, and gives what a line takes."""
     clients = [Clients(bouncer, attached) for bouncer, _ in (ours, theirs)]
     for each in clients:
         each.settle()
@@ -440,17 +445,18 @@ def relay_by_turns(ours, theirs, attached, lines, rounds):
         summary([it[1] for it in counted])[1],
         summary([it[1] / it[0] for it in counted], 2)[1],
     )
-    print(f"relay to {attached} clients, ns a line: bnc {bnc}, znc {znc}, znc / bnc {ratio}", flush=True)
+    return attached, bnc, znc, ratio
 
 
 def measure_by_turns(program, rounds):
     """Relay to 1, 10 and 100 clients by both bouncers, in turns."""
-    pairs = []
+    head, pairs = name_of_run(program), []
     try:
         for kind in ("bnc", "znc"):
             pairs.append(begin(kind, program))
-        for attached, lines in ((1, 2000), (10, 200), (100, 200)):
-            relay_by_turns(*pairs, attached, lines, rounds)
+        rows = [relay_by_turns(*pairs, *it, rounds) for it in ((1, 2000), (10, 200), (100, 200))]
+        print(f"{head} Medians and ranges of {rounds} rounds by turns.\n")
+        print(table(("clients", "ns a line, bnc", "ns a line, ZNC", "ZNC : bnc"), rows), flush=True)
     finally:
         for bouncer, server in pairs:
             bouncer.stop()

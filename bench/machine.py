@@ -1,0 +1,34 @@
+"""The one line that stands above a table of figures."""
+
+import os
+import re
+import subprocess
+import time
+
+
+def said(*words):
+    """What a command says, or a question mark."""
+    try:
+        return subprocess.run(words, capture_output=True, text=True, check=True).stdout.strip()
+    except (OSError, subprocess.CalledProcessError):
+        return "?"
+
+
+def name_of_run(program):
+    """The day, the commit, the program, the machine and how busy it is."""
+    here = os.path.dirname(os.path.realpath(__file__))
+    commit = said("git", "-C", here, "rev-parse", "--short", "HEAD")
+    if said("git", "-C", here, "status", "--porcelain"):
+        commit += " with changes"
+    with open("/proc/cpuinfo", encoding="utf-8", errors="replace") as it:
+        model = re.search(r"model name\s*: (.*)", it.read())
+    processor = " ".join(model[1].split()) if model else "unknown"
+    busy, processors = os.getloadavg()[0], len(os.sched_getaffinity(0))
+    return (f"Run: {time.strftime('%Y-%m-%d')}, {commit}, {os.path.basename(program)}, {processors} processors ({processor}), "
+            f"of which {busy:.1f} were at work before.")
+
+
+def table(heads, rows):
+    """A table of Markdown."""
+    lines = [heads, ["---"] * len(heads), *rows]
+    return "\n".join("| " + " | ".join(str(it) for it in line) + " |" for line in lines)
