@@ -12,6 +12,7 @@ from harness.connection import free_addresses, spelled
 from harness.failure import Failed, expect
 from harness.registry import add, test
 from harness.server import Server
+from harness.weechat import WeeChat
 
 TOP = os.path.dirname(os.path.dirname(os.path.dirname(os.path.abspath(__file__))))
 
@@ -200,6 +201,58 @@ def a_client_made_for_soju_asks_for_what_it_missed(fixture):
         if client is phone:
             client.say("MARKREAD #a timestamp=2026-01-02T03:04:05.678Z")
         client.hear(":bnc.example MARKREAD #a timestamp=2026-01-02T03:04:05.678Z")
+
+
+def messages(lines):
+    """The messages among lines, without their tags."""
+    return [it.partition(" ")[2] for it in lines if " PRIVMSG " in it]
+
+
+@test
+def the_script_for_weechat_asks_for_what_was_missed(fixture):
+    """examples/clients/bnc_history.py: it asks as it connects, and the next time for what came since; and it sets markers."""
+    _node, server, clients = one_node(fixture)
+    session = server.register(channels=("#a",))
+    said = lambda number, target, body: (f"@msgid=m{number};time=2026-01-02T03:04:0{number}.000Z "
+                                         f":bob!b@h PRIVMSG {target} :{body}")
+    script = os.path.join(TOP, "examples/clients/bnc_history.py")
+
+    def attached(name):
+        """WeeChat, once it was shown what it missed."""
+        client = Client(fixture, clients, name)
+        client.say("CAP REQ :message-tags server-time", "PASS s3cret", "NICK al", "USER demo/net 0 * :al", "CAP END")
+        weechat = WeeChat(script, fixture.folder, client)
+        weechat.hear_until(":al JOIN #a")
+        # (each PING is answered behind what the script asked before it)
+        for word in ("asked", "read", "heard"):
+            client.say(f"PING {word}")
+            weechat.hear_until(f":bnc.example PONG bnc.example :{word}")
+        return weechat
+
+    session.say(said(1, "#a", "hi"), said(2, "al", "psst"))
+    server.settled(session)
+    first = attached("WeeChat")
+    expect("what is shown at first", [":bob!b@h PRIVMSG al :psst"], messages(first.shown))
+    first.hear(":al JOIN #a")
+    first.client.say("PING more")
+    first.hear_until(":bnc.example PONG bnc.example :more")
+    expect("with the channel", [":bob!b@h PRIVMSG al :psst", ":bob!b@h PRIVMSG #a :hi"], messages(first.shown))
+    other = Client(fixture, clients, "a phone").register("draft/read-marker message-tags", channels=("#a",))
+    first.switch("#a")
+    first.switch("bob")
+    other.hear(":bnc.example MARKREAD #a timestamp=2026-01-02T03:04:01.000Z")
+    first.disconnected()
+    first.client.close()
+    session.say(said(3, "#a", "lunch?"), said(4, "al", "did you see it?"))
+    server.settled(session)
+    second = attached("WeeChat again")
+    second.hear(":al JOIN #a")
+    second.client.say("PING more")
+    second.hear_until(":bnc.example PONG bnc.example :more")
+    expect("what is shown then", [":bob!b@h PRIVMSG al :did you see it?", ":bob!b@h PRIVMSG #a :lunch?"],
+           messages(second.shown))
+    taken = [it for it in second.shown if re.match(r":\S+ (CHATHISTORY|MARKREAD) ", it)]
+    expect("what the script takes and yet is shown", [], taken)
 
 
 @test
