@@ -20,7 +20,7 @@ our $VERSION = '1';
 our %IRSSI = (
     name => 'bnc_history',
     description => 'asks a bnc for what was missed, and sets read markers',
-    license => 'MIT',
+    license => 'as the repository',
 );
 
 my $wanted = 'draft/chathistory draft/read-marker message-tags server-time';

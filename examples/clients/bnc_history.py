@@ -182,7 +182,7 @@ def on_minute(_, left):
     return save()
 
 
-if weechat.register("bnc_history", "bnc", "1", "MIT", "asks a bnc for what was missed, and sets read markers", "save", ""):
+if weechat.register("bnc_history", "bnc", "1", "as the repository", "asks a bnc for what was missed, and sets read markers", "save", ""):
     load()
     weechat.hook_signal("*,irc_in2_005", "on_welcome", "")
     weechat.hook_signal("*,irc_raw_in2_cap", "on_cap", "")
