@@ -112,6 +112,7 @@ def three_nodes_run(fixture):
         example = Example(fixture, f"examples/three-nodes/{name}.toml", known)
         os.replace(example.file, fixture.path(f"examples/three-nodes/{name}.toml"))
     # The script calls ./bnc of its repository. The node with the greatest name begins first, so none waits a minute for it.
+    script(fixture, "build", "exit 0\n")
     script(fixture, "bnc", f'case "$2" in *n1.toml) sleep 1 ;; *n2.toml) sleep 0.5 ;; esac\nexec "{fixture.program}" "$@"\n')
     run = processes.start([fixture.path("examples/three-nodes/run")], cwd=fixture.folder, stdin=subprocess.DEVNULL,
                           stdout=subprocess.PIPE, stderr=subprocess.PIPE)
