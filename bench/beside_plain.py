@@ -43,7 +43,7 @@ def run(program, words):
     begun = subprocess.Popen([program, *map(str, words)], stdout=subprocess.PIPE, text=True)
     said = begun.stdout.read()
     _, status, use = os.wait4(begun.pid, 0)
-    begun.returncode = os.waitstatus_to_exitcode(status)
+    begun.returncode = status
     found = re.search(r": (\d+) ns each", said)
     if begun.returncode or not found:
         sys.exit(f"{program} {words}: {said!r}")

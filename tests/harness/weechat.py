@@ -68,7 +68,7 @@ class WeeChat:
         return {"localvar_type": "channel", "localvar_server": "bnc", "localvar_channel": buffer}[name]
 
     def command(self, _, text):
-        self.client.say(text.removeprefix("/quote -server bnc "))
+        self.client.say(text.replace("/quote -server bnc ", "", 1))
 
     # -- what the program does
 

@@ -107,7 +107,8 @@ def three_nodes_run(fixture):
     tree(fixture, [f"examples/three-nodes/{it}" for it in ("run", "n1.toml", "n2.toml", "n3.toml")])
     known = {"127.0.0.1:6667": server.address}
     for number in range(3):
-        known |= {f"127.0.0.1:667{number + 1}": addresses[number], f"127.0.0.1:700{number + 1}": addresses[3 + number]}
+        known[f"127.0.0.1:667{number + 1}"] = addresses[number]
+        known[f"127.0.0.1:700{number + 1}"] = addresses[3 + number]
     for name in names:
         example = Example(fixture, f"examples/three-nodes/{name}.toml", known)
         os.replace(example.file, fixture.path(f"examples/three-nodes/{name}.toml"))
