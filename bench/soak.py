@@ -5,7 +5,7 @@ client still gets in.
     bench/soak.py PROGRAM [SECONDS [CLIENTS]]      600 seconds and 1,000 clients, where nothing else is said
 
 Some clients register and ask for pages, some leave in the middle of a page, some send garbage, some say nothing, and some
-never read. The network's server talks all the while. PROGRAM has the environment that examples/bnc.service gives it: the
+never read. The network's server talks all the while. It prints the table of docs/PERFORMANCE.md. PROGRAM has the environment that examples/bnc.service gives it: the
 memory of a client's ring goes back to the system as the client leaves, so what is resident afterwards is what it holds.
 """
 import os
@@ -16,6 +16,7 @@ import threading
 import time
 
 from beside_znc import Clients, begin, line
+from machine import name_of_run, table
 
 
 def descriptors(process):
@@ -68,20 +69,36 @@ def visitor(bouncer, until, counts):
         time.sleep(random.random())
 
 
-def state(bouncer, name):
-    print(f"{name}: {descriptors(bouncer.process)} descriptors, {bouncer.resident() / 1e6:.1f} MB", flush=True)
+def state(bouncer):
+    """The descriptors and the megabytes that a bouncer has."""
+    return descriptors(bouncer.process), bouncer.resident() / 1e6
+
+
+def tell(head, counts, before, meanwhile, after):
+    """Prints what came of it."""
+    visits = sum(counts.values())
+    answered = sum(count for (_, end), count in counts.items() if end == "answered")
+    held = [megabytes for _, megabytes in meanwhile] or [before[1]]
+    rows = (
+        ("visits", f"{visits:,}, of which {answered:,} were answered whole"),
+        ("descriptors before and after", f"{before[0]} and {after[0]}"),
+        ("resident memory before, at work and after",
+         f"{before[1]:.1f} MB, {min(held):.0f} to {max(held):.0f} MB, {after[1]:.1f} MB"),
+        ("after it", "a client got in, and got its page of 100"),
+    )
+    print(f"{head}\n\n{table(('', ''), rows)}")
 
 
 def main():
     program = sys.argv[1]
     seconds = int(sys.argv[2]) if len(sys.argv) > 2 else 600
     count = int(sys.argv[3]) if len(sys.argv) > 3 else 1000
-    bouncer, server = begin("bnc", program)
+    head, (bouncer, server) = name_of_run(program), begin("bnc", program)
     try:
         for number in range(300):
             server.send(line(number, b"x" * 40))
         time.sleep(2)
-        state(bouncer, "before")
+        before, meanwhile = state(bouncer), []
         until = time.monotonic() + seconds
         counts = {}
         threads = [threading.Thread(target=visitor, args=(bouncer, until, counts)) for _ in range(count)]
@@ -94,19 +111,18 @@ def main():
             number += 1
             time.sleep(0.05)
             if time.monotonic() > shown + 60:
-                state(bouncer, "meanwhile")
+                meanwhile.append(state(bouncer))
                 shown = time.monotonic()
         for thread in threads:
             thread.join()
         time.sleep(65)
-        state(bouncer, "after")
-        print(dict(sorted(counts.items())))
+        after = state(bouncer)
         clients = Clients(bouncer, 1)
         clients.settle()
         clients.reset()
         clients.sockets[0].sendall(b"CHATHISTORY LATEST #a * 100\r\n")
         clients.wait_for(100, 10)
-        print("a client still gets a page of 100")
+        tell(head, counts, before, meanwhile, after)
         if bouncer.process.poll() is not None:
             raise SystemExit(f"the bouncer ended with {bouncer.process.returncode}")
     finally:
