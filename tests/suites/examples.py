@@ -294,6 +294,15 @@ def a_program_that_cannot_be_built_is_status_70(fixture):
 
 
 @test
+def nothing_is_built_for_wrong_words(fixture):
+    """Somebody who tries `./bnc --help` first is told the usage, by status 2, and waits for no proof."""
+    script(fixture, "build", "exit 1\n")
+    usage = "usage: bnc replay <account> <network> <nick> | bnc serve <config>\n"
+    for words in ([], ["--help"], ["serve"], ["replay", "demo"]):
+        expect(f"./bnc {' '.join(words)}", (2, "", usage), run_bnc(fixture, *words))
+
+
+@test
 def the_command_of_the_kit_is_needed_to_build(fixture):
     """Without `rt` on the path nothing is built, which is told."""
     tree(fixture, ["build", "crates.txt", "HANDLES", "docs/GATE.md"])
