@@ -164,6 +164,16 @@ for what, word, user, answer in LOGINS:
 
 
 @test
+def a_password_that_comes_last_is_too_late(fixture):
+    """Registration is complete with NICK and USER, and then the password is the empty one."""
+    _node, server, clients = one_node(fixture)
+    server.register(channels=("#a",))
+    client = Client(fixture, clients, "a client")
+    client.say("NICK al", "USER demo/net 0 * :Al", "PASS s3cret")
+    client.hear(*REFUSED)
+
+
+@test
 def sasl_is_not_offered(fixture):
     """A client that asks for SASL all the same is told that there is none, and may go on by PASS."""
     _node, server, clients = one_node(fixture)
