@@ -134,6 +134,7 @@ PACKET = [
     b"C AFLOOR demo 999",
     b"A n2 3 n1 12 5",
     b"H 3 n1 1",
+    b"H 2 n1 1",
 ]
 PUT = [0, 10, 13, 32, 255] + [ord(c) for c in "07zZ:*"]
 
@@ -280,6 +281,32 @@ for word, line in (("word", WORD), ("hello", HELLO), ("head", head(1)), ("acknow
         [head(2), MARK, line, head(2), MARK, MARK]
 
 
+# ---- packets of which a byte is replaced, or that are cut off; behind each comes a word, and then the packet as it is
+
+PACKETS = (
+    ["D n2 1 n1 7 0 2 2", "C MARK demo net #a 1", "C MARK demo net #b 1"],
+    ["D n2 1 n1 7 0 2 2", "C TPOST demo net #a m1 1 P +x #a b :hi", "C AFLOOR demo 1"],
+)
+REPLACED = "\0\r\n "
+
+
+def broken_packets():
+    for lines in PACKETS:
+        text = "\n".join(lines)
+        for at in range(len(text)):
+            for front in [text[:at]] + [text[:at] + byte + text[at + 1:] for byte in REPLACED]:
+                # (a CR at the end of a line is its ending)
+                if "\r\n" not in front and not front.endswith("\r"):
+                    yield [*front.split("\n"), WORD, *lines]
+    for version in "123":
+        hello = f"H {version} n1 1"
+        for at in range(len(hello)):
+            for byte in ["", *REPLACED]:
+                front = hello[:at] + byte + hello[at + 1:] if byte else hello[:at]
+                if not front.endswith("\r"):
+                    yield [*front.split("\n"), WORD, *PACKETS[0]]
+
+
 def arrivals(lines):
     """What arrives with each line, where a line that can't be read doesn't come to the gather."""
     missing = 0
@@ -301,6 +328,13 @@ def gathers_table():
     for name, lines in CONNECTIONS.items():
         yield f"== {name}".encode()
         for letter, line in zip(arrivals(lines), lines):
+            yield f"{letter} {line}".encode()
+    # (a case ends with a whole packet, so the next one begins with a gather that is empty)
+    yield b"== broken packets, each with a whole one behind it"
+    for lines in broken_packets():
+        letters = list(arrivals(lines))
+        assert letters[-len(PACKETS[0]):] == [".", ".", "P"]
+        for letter, line in zip(letters, lines):
             yield f"{letter} {line}".encode()
 
 
