@@ -12,6 +12,13 @@ LINE = rb"@msgid=a\:b\;time=1970-01-01T00:00:01.000Z :bob!b@h PRIVMSG #a :hi"
 REPLACEMENTS = [0, 13, 10, 32, 255]
 
 
+# Lines between nodes, which come over a stream of the same kind.
+PEER_LINES = [
+    b"D n2 1 n1 7 0 2 2", b"C MARK demo net #a 1", b"A n1 7 n2 1 2", b"H 1 n2 1", b"H 2 n2 1", b"H 3 n2 1",
+    b"C TPOST demo net #a m1 1000 P +x=1 #a bob!b@h :hi", b"C AFLOOR demo 1500",
+]
+
+
 # ---- lines (RFC 1459 and RFC 2812, section 2.3, with the tags of IRCv3 in front); all of them are short
 
 HEAD = re.compile(rb"(?:@([^ ]*)(?: |$))? *(?::([^ ]*)(?: +|$))?([^ ]*)", re.S)
@@ -73,8 +80,8 @@ def letters_of(stream):
 
 def broken_table():
     stream = LINE + b"\r\n"
-    for size in range(len(stream) + 1):
-        front = stream[:size]
+    for front in [stream[:size] for size in range(len(stream) + 1)] + PEER_LINES:
+        size = len(front)
         for byte in REPLACEMENTS:
             streams = [front[:at] + bytes([byte]) + front[at + 1:] for at in range(size)] + [front]
             yield f"broken {byte} {spelled(front)} => " + "".join(letters_of(s) + "." for s in streams)
