@@ -1,8 +1,12 @@
-/* Laid before the C library: refuses one request for memory, the one whose number REFUSE has. That it came is told by the file
-   that REFUSED names. */
+/* Laid before the C library: refuses requests for memory. Either those whose numbers are REFUSE and the next ones, TOGETHER of
+   them (1 where it is missing); that one was refused is told by the file that REFUSED names. Or each of which a file tells: RATE
+   names it, and it has three numbers of eight bytes. Of so many requests as the first one says one is refused, and none while
+   it is 0; the second one counts the requests meanwhile, and the third one those that were refused. */
 #include <errno.h>
 #include <fcntl.h>
+#include <stdint.h>
 #include <stdlib.h>
+#include <sys/mman.h>
 #include <unistd.h>
 
 extern void *__libc_malloc(size_t);
@@ -10,18 +14,44 @@ extern void *__libc_calloc(size_t, size_t);
 extern void *__libc_realloc(void *, size_t);
 extern void *__libc_memalign(size_t, size_t);
 
-static long left;
+static long first, together = 1, made;
+static uint64_t *rate;
 
-__attribute__((constructor)) static void begin(void) {
-    const char *number = getenv("REFUSE");
-    if (number) left = atol(number);
+static long number(const char *name, long otherwise) {
+    const char *text = getenv(name);
+    return text ? atol(text) : otherwise;
 }
 
-/* Whether this request is one that is refused. */
-static int refused(void) {
-    if (__atomic_load_n(&left, __ATOMIC_SEQ_CST) <= 0) return 0;
-    if (__atomic_fetch_sub(&left, 1, __ATOMIC_SEQ_CST) != 1) return 0;
+__attribute__((constructor)) static void begin(void) {
+    const char *name = getenv("RATE");
+    int file = name ? open(name, O_RDWR) : -1;
+    first = number("REFUSE", 0);
+    together = number("TOGETHER", 1);
+    if (file < 0) return;
+    void *it = mmap(NULL, 3 * sizeof *rate, PROT_READ | PROT_WRITE, MAP_SHARED, file, 0);
+    if (it != MAP_FAILED) rate = it;
+    close(file);
+}
+
+/* Whether this request is one of those that the file tells of. */
+static int is_at_rate(void) {
+    uint64_t one_of = rate ? __atomic_load_n(&rate[0], __ATOMIC_SEQ_CST) : 0;
+    if (!one_of || __atomic_add_fetch(&rate[1], 1, __ATOMIC_SEQ_CST) % one_of) return 0;
+    __atomic_add_fetch(&rate[2], 1, __ATOMIC_SEQ_CST);
+    return 1;
+}
+
+/* Whether this request is one of those with these numbers. */
+static int is_numbered(void) {
+    if (first <= 0) return 0;
+    long at = __atomic_add_fetch(&made, 1, __ATOMIC_SEQ_CST) - first;
+    if (at < 0 || at >= together) return 0;
     close(open(getenv("REFUSED"), O_CREAT | O_WRONLY, 0600));
+    return 1;
+}
+
+static int refused(void) {
+    if (!is_numbered() && !is_at_rate()) return 0;
     errno = ENOMEM;
     return 1;
 }

@@ -10,53 +10,18 @@ from harness import processes
 from harness.client import Client, greeting, page
 from harness.failure import Failed
 from harness.node import Node
+from harness.refusals import Refusals
 from harness.registry import add
 from harness.scripts import case_of
 
-# Up to this request each one is refused, and of the later ones each that lies a step further on.
-EACH, STEP = 600, 23
-
 NO_MEMORY = b"no memory\n"
-
-
-class Refusals:
-    """The runs of a program with one request refused in each, and what they came to."""
-
-    def __init__(self, fixture):
-        self.mark = fixture.path("refused")
-        self.shim = fixture.shims.path("refuse")
-        self.counts = {}
-
-    def environment(self, number):
-        """The environment in which the request of that number is refused."""
-        if os.path.exists(self.mark):
-            os.remove(self.mark)
-        return {"LD_PRELOAD": self.shim, "REFUSE": str(number), "REFUSED": self.mark}
-
-    def each(self, run):
-        """Calls for each number until nothing is refused. A call answers in a word what its run came to."""
-        number = 1
-        while True:
-            word = run(number, self.environment(number))
-            if not os.path.exists(self.mark):
-                return number - 1
-            self.counts[word] = self.counts.get(word, 0) + 1
-            number += 1 if number < EACH else STEP
-
-    def told(self, last):
-        """What is told of the runs."""
-        if not self.counts:
-            raise Failed("no request for memory was refused: is the program built with a sanitizer, which has its own malloc?")
-        sampled = f" (of those above {EACH} each {STEP}rd)" if last > EACH else ""
-        counts = ", ".join(f"{count} {word}" for word, count in sorted(self.counts.items()))
-        return f"{last} requests{sampled}, {sum(self.counts.values())} refused: {counts}"
 
 
 def answers(script, printed):
     """A test of `bnc replay`: each run answers all with status 0, or the beginning of it with status 3 and `no memory`."""
 
     def call(fixture):
-        refusals = Refusals(fixture)
+        refusals = Refusals.of(fixture)
 
         def run(number, environment):
             ran = fixture.replay(script, env=environment)
@@ -102,7 +67,7 @@ add_scripts()
 def starts(fixture):
     """A test of `bnc serve`: as a request is refused while the node begins, it ends with status 3 or 4 in the words of
     docs/OPERATING.md, or says that it listens."""
-    refusals = Refusals(fixture)
+    refusals = Refusals.of(fixture)
 
     def run(number, environment):
         begun = Begun(fixture, environment, peers=[("n2", ("127.0.0.1", 1))], channels=["#a"])
@@ -175,7 +140,7 @@ ANSWERS = (
 def serves(fixture):
     """A test of `bnc serve`: three clients come one after another. As a request is refused, at most one of them is closed, after
     the beginning of its answers, and the others are answered all. A worker that could not go on ends the node with status 4."""
-    refusals = Refusals(fixture)
+    refusals = Refusals.of(fixture)
 
     def run(number, environment):
         begun = Begun(fixture, environment, workers=1)
