@@ -33,6 +33,8 @@ class Fixture:
 
     def __init__(self, program, shims, end):
         self.program, self.shims = program, shims
+        # (where the crates were built)
+        self.crates = os.path.dirname(os.path.dirname(os.path.dirname(program)))
         self.folder = tempfile.mkdtemp(prefix="bnc-test-")
         self.deadline = min(time.monotonic() + LIMIT, end)
         self.notes, self.logs, self._ends = [], [], []
@@ -61,8 +63,8 @@ class Fixture:
         """Starts the program with these words."""
         how.setdefault("cwd", self.folder)
         how["env"] = {"LANG": "C.UTF-8", **how.get("env", {})}
-        front = how.pop("front", [])
-        process = processes.start([*front, self.program, *words], **how)
+        front, program = how.pop("front", []), how.pop("program", self.program)
+        process = processes.start([*front, program, *words], **how)
         self.at_end(lambda: processes.end(process))
         return process
 
@@ -83,6 +85,13 @@ class Fixture:
             raise Failed("the program had not ended in time") from None
         processes.end(process)
         return output
+
+    def play(self, crate, *words, tests=False, **how):
+        """Runs a crate's test program, or its tests, which lie beside the program that is tested."""
+        program = os.path.join(self.crates, crate, "out", f"{crate}_tests" if tests else crate)
+        if not os.access(program, os.X_OK):
+            raise Failed(f"there is no program {program}: rt ci builds it")
+        return self.run(*words, program=program, **how)
 
     def replay(self, script, **how):
         """Runs a script of the account demo on the network net with the nick al."""

@@ -3,6 +3,7 @@ paragraph of docs/PROTOCOL.md; docs/DECISIONS.md says how many reads are made at
 
 import fcntl
 import os
+import re
 import struct
 import subprocess
 import termios
@@ -34,6 +35,17 @@ EACH_ANSWER = ONE_PAGE + (
     b":bnc.example NOTICE al :Not connected to net\r\n"
     b"% WrongLife\r\n% BadForm\r\n"
 )
+
+# A redaction behind its post on one node, and before it on another.
+REDACTION = b"C REDACT demo net #a m2 *\n"
+POSTS = [b"C POST demo net #a m%d %d000 P #a bob!b@h :%c\n" % (n, n, 96 + n) for n in (1, 2)]
+QUESTIONS = b"CHATHISTORY BEFORE #a msgid=m2 5\nCHATHISTORY LATEST #a * 5\n"
+TWO_NODES = b"".join([*POSTS, REDACTION, QUESTIONS, b"%2\n", REDACTION, *reversed(POSTS), QUESTIONS])
+PAGES = 2 * [
+    b":bnc.example BATCH +r%d chathistory #a\r\n"
+    b"@batch=r%d;msgid=m1;time=1970-01-01T00:00:01.000Z :bob!b@h PRIVMSG #a :a\r\n:bnc.example BATCH -r%d\r\n" % (n, n, n)
+    for n in (1, 2)
+]
 TOO_LONG = b":bnc.example 417 al :Input line was too long\r\n"
 
 
@@ -195,6 +207,20 @@ def a_failing_input_is_told_at_each_byte(fixture):
     for count in range(len(ONE_MESSAGE) + 1):
         ran = fixture.replay(ONE_MESSAGE, env=laid(fixture, MOST=1, READS_END=count))
         ran.expect(4, ONE_PAGE if count == len(ONE_MESSAGE) else b"", FAILED)
+
+
+@test
+def a_failing_device_is_told_at_each_byte_of_a_script_of_two_nodes(fixture):
+    """What was asked before a read failed is answered; what could be written is the beginning of the answers; and a device that
+    moves one byte at a time gives and takes all."""
+    fixture.replay(TWO_NODES, env=laid(fixture, MOST=1)).expect(0, b"".join(PAGES))
+    asked = [found.end() for found in re.finditer(rb"CHATHISTORY.*\n", TWO_NODES)]
+    for count in range(len(TWO_NODES) + 1):
+        ran = fixture.replay(TWO_NODES, env=laid(fixture, MOST=1, READS_END=count))
+        ran.expect(4, b"".join(PAGES[:sum(end <= count for end in asked)]), FAILED)
+    for count in range(len(b"".join(PAGES))):
+        ran = fixture.replay(TWO_NODES, env=laid(fixture, WRITES_END=count))
+        ran.expect(4, b"".join(PAGES)[:count], FAILED)
 
 
 @test

@@ -1,0 +1,105 @@
+"""Calls of the crates with requests for memory refused, and what stands after each refusal. They are made by the crates' own
+test programs, which play the files of `tests/calls`. Of each file each request is refused: one alone, and two and three in a
+row."""
+
+import os
+import re
+import shutil
+
+from harness.failure import Failed, expect
+from harness.refusals import WANT, Refusals
+from harness.registry import add
+from harness.scripts import TESTS
+
+CALLS = os.path.join(TESTS, "calls")
+# So many requests are refused in a row. Of one alone each is refused, and of two and three those above 600 by each 23rd.
+ROWS = ((1, 1 << 30), (2, 600), (3, 600))
+
+
+def refuse(fixture, run):
+    """Calls for each number of a request from which on some are refused."""
+    for together, each in ROWS:
+        refusals = Refusals.of(fixture, together, each)
+        fixture.notes.append(refusals.told(refusals.each(run)))
+
+
+def ended_for_want(ran):
+    return ran.status != 0 and WANT.search(ran.errors + ran.output)
+
+
+def file_is_right(program, file, count, beside=()):
+    """A test of a program that says of how many cases of a file something else came. What it would play then isn't there, so it
+    ends."""
+
+    def call(fixture):
+        for it in (os.path.join(CALLS, file), *(os.path.join(fixture.crates, program, "data", it) for it in beside)):
+            shutil.copy(it, fixture.folder)
+        wanted = f"{file}: {count}, 0 wrong\n".encode()
+
+        def run(number, environment):
+            ran = fixture.play(program, file, "none", env=environment)
+            if ran.output == wanted:
+                return "answered all"
+            if ran.output == b"" and ended_for_want(ran):
+                return "ended for want of memory"
+            raise Failed(f"request {number} refused: status {ran.status}, {ran.errors!r}, {ran.output!r}")
+
+        expect("without a refusal", wanted, fixture.play(program, file, "none").output)
+        refuse(fixture, run)
+
+    add(f"calls: {file}", call)
+
+
+file_is_right("test_sessions", "client_refused", "2 cases", ["example"])
+file_is_right("test_sessions", "upstream_refused", "2 cases", ["example"])
+file_is_right("test_lines", "lines_refused", "5 rows")
+
+
+def passes(crate, name, may_say=rb"NoMemory|memory|NoRing"):
+    """A test of a crate's own, which passes or fails for want of memory. How it was refused is told."""
+
+    def call(fixture):
+        def run(number, environment):
+            ran = fixture.play(crate, name, tests=True, env=environment)
+            if ran.status == 0:
+                return "passed"
+            said = re.search(may_say, ran.errors + ran.output)
+            if said:
+                return f"said {said[0].decode()}"
+            raise Failed(f"request {number} refused: status {ran.status}, {ran.errors!r}, {ran.output!r}")
+
+        expect("without a refusal", 0, fixture.play(crate, name, tests=True).status)
+        refuse(fixture, run)
+
+    add(f"calls: {crate}, {name.rpartition('::')[2].replace('_', ' ')}", call)
+
+
+passes("test_attach", "memory::a_refused_ring_is_asked_for_again")
+passes("test_attach", "memory::a_refused_box_or_entry_is_asked_for_again")
+
+
+def workers_end(fixture):
+    """Two workers over ports that end at once: each of them ends so, or none of them is begun. The first one tells a server that
+    it couldn't reach."""
+    shutil.copy(os.path.join(CALLS, "workers_refused"), fixture.folder)
+    # (of what it tells, the program itself may have had no memory for a part)
+    told = rb"workers_refused: 1 cases, [01] wrong|two ports that end at once came to:|10 dials network 0|" \
+        rb"told upstream down: demo/net: it could not be reached|ended|--|\s"
+
+    def run(number, environment):
+        ran = fixture.play("test_worker", "workers_refused", env=environment)
+        lines = ran.output.decode().splitlines()
+        if ran.status == 0 and lines == ["workers_refused: 1 cases, 0 wrong"]:
+            return "ended"
+        if ran.status == 0 and lines[:1] == ["two ports that end at once can't be played"] and len(lines) == 2:
+            return "weren't begun"
+        if ended_for_want(ran) and not lines:
+            return "ended for want of memory"
+        if ran.status == 0 and not re.sub(told, b"", ran.output) and ran.output.count(b"    ended") == 2:
+            return "ended without the server"
+        raise Failed(f"request {number} refused: status {ran.status}, {ran.errors!r}, {ran.output!r}")
+
+    refuse(fixture, run)
+
+
+add("calls: two workers whose ports end at once", workers_end)
