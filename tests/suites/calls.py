@@ -12,19 +12,21 @@ from harness.registry import add
 from harness.scripts import TESTS
 
 CALLS = os.path.join(TESTS, "calls")
-# So many requests are refused in a row. Of one alone each is refused, and of two and three those above 600 by each 23rd.
-ROWS = ((1, 1 << 30), (2, 600), (3, 600))
+# So many requests are refused in a row, from each number up to this one on, and of those above from each 23rd.
+ALL = 1 << 30
+ROWS = ((1, ALL), (2, ALL), (3, ALL))
 
 
-def refuse(fixture, run):
+def refuse(fixture, run, rows=ROWS):
     """Calls for each number of a request from which on some are refused."""
-    for together, each in ROWS:
+    for together, each in rows:
         refusals = Refusals.of(fixture, together, each)
         fixture.notes.append(refusals.told(refusals.each(run)))
 
 
 def ended_for_want(ran):
-    return ran.status != 0 and WANT.search(ran.errors + ran.output)
+    """Whether a program said that it had no memory for its own part. One that a signal ended said nothing."""
+    return ran.status > 0 and WANT.search(ran.errors)
 
 
 def file_is_right(program, file, count, beside=()):
@@ -55,32 +57,36 @@ file_is_right("test_sessions", "upstream_refused", "2 cases", ["example"])
 file_is_right("test_lines", "lines_refused", "5 rows")
 
 
-def passes(crate, name, may_say=rb"NoMemory|memory|NoRing"):
-    """A test of a crate's own, which passes or fails for want of memory. How it was refused is told."""
+# How a test fails that says what it came to.
+CAME_TO = re.compile(rb"  left: Err\((?:Refused\()?(.*?)\)+\n right: Ok\(\d+\)\n")
+
+
+def passes(crate, name, rows, may_come_to=()):
+    """A test of a crate's own, which makes again what was refused. It passes, or it came to one of these."""
 
     def call(fixture):
         def run(number, environment):
             ran = fixture.play(crate, name, tests=True, env=environment)
-            if ran.status == 0:
-                return "passed"
-            said = re.search(may_say, ran.errors + ran.output)
-            if said:
-                return f"said {said[0].decode()}"
-            raise Failed(f"request {number} refused: status {ran.status}, {ran.errors!r}, {ran.output!r}")
+            came = CAME_TO.search(ran.errors + ran.output)
+            word = "passed" if ran.status == 0 else came[1].decode() if came else "something else"
+            if word != "passed" and word not in may_come_to:
+                raise Failed(f"request {number} refused: status {ran.status}, {ran.errors!r}, {ran.output!r}")
+            return word
 
         expect("without a refusal", 0, fixture.play(crate, name, tests=True).status)
-        refuse(fixture, run)
+        refuse(fixture, run, rows)
 
     add(f"calls: {crate}, {name.rpartition('::')[2].replace('_', ' ')}", call)
 
 
-passes("test_attach", "memory::a_refused_ring_is_asked_for_again")
-passes("test_attach", "memory::a_refused_box_or_entry_is_asked_for_again")
+# (each call is made twice at most)
+passes("test_attach", "memory::a_refused_ring_is_asked_for_again", ROWS[:1])
+passes("test_attach", "memory::a_refused_box_or_entry_is_asked_for_again", ROWS[:1])
 
 
 def workers_end(fixture):
-    """Two workers over ports that end at once: each of them ends so, or none of them is begun. The first one tells a server that
-    it couldn't reach."""
+    """Two workers over ports that end at once: each of them ends so, or none of them is begun. The first one may tell that a
+    server couldn't be reached."""
     shutil.copy(os.path.join(CALLS, "workers_refused"), fixture.folder)
     # (of what it tells, the program itself may have had no memory for a part)
     told = rb"workers_refused: 1 cases, [01] wrong|two ports that end at once came to:|10 dials network 0|" \

@@ -4,10 +4,12 @@ of docs/PROTOCOL.md or a refusal by name, and the next line is served. What is e
 import os
 import re
 import shutil
+import socket
+import subprocess
 
 from harness.connection import connect
 from harness.failure import Failed, expect, shortened
-from harness.mutations import BYTES, mutated, prefixes
+from harness.mutations import mutated, prefixes
 from harness.node import Node
 from harness.peer import Peer
 from harness.registry import add, test
@@ -189,35 +191,29 @@ def configurations_are_read_or_refused_by_name(fixture):
     that is read ends with status 4."""
     node = Node(fixture, peers=[("n0", ("127.0.0.1", 1))], servers=[("127.0.0.1", 1)], channels=["#a"])
     fixture.logs.pop()
-    taken = Peer(fixture, connect_listener(fixture, node.clients), "nobody")
     text, counts = node.text().encode(), {}
-    for other in [text, *mutated(text, (b"\0", b"\n", b"\xff"))]:
-        path = fixture.write("bnc.toml", other)
-        process = fixture.start("serve", path, stdin=None, stdout=-3, stderr=-1)
-        try:
-            _, errors = process.communicate(timeout=2)
-        except Exception:
-            # (another address was read)
-            process.kill()
-            _, errors = process.communicate()
-            word = "listens" if b" listening: " in errors else "neither ended nor listened"
-        else:
-            first = errors.splitlines()[:1]
-            word = f"status {process.returncode}, {b''.join(first).decode()}"
-        counts[word] = counts.get(word, 0) + 1
-        if word not in ("status 5, config refused", "status 4, read or write failed", "listens"):
-            raise Failed(f"{other!r}: {word}, {errors!r}")
-    taken.close()
+    with socket.socket() as taken:
+        taken.bind(node.clients)
+        taken.listen(1)
+        for other in [text, *mutated(text, (b"\0", b"\n", b"\xff"))]:
+            word = begun_with(fixture, fixture.write("bnc.toml", other))
+            counts[word] = counts.get(word, 0) + 1
+            if word not in ("status 5, config refused", "status 4, read or write failed", "listens"):
+                raise Failed(f"{other!r}: {word}")
     fixture.notes.append(", ".join(f"{count} {word}" for word, count in sorted(counts.items())))
 
 
-def connect_listener(fixture, address):
-    """A socket that listens at the address."""
-    import socket
-    it = socket.socket()
-    it.bind(address)
-    it.listen(1)
-    return it
+def begun_with(fixture, path):
+    """What a node comes to that begins with this configuration."""
+    process = fixture.start("serve", path, stdin=None, stdout=subprocess.DEVNULL, stderr=subprocess.PIPE)
+    try:
+        _, errors = process.communicate(timeout=3)
+    except subprocess.TimeoutExpired:
+        # (it read another address)
+        process.kill()
+        _, errors = process.communicate()
+        return "listens" if b" listening: " in errors else f"neither ended nor listened: {errors!r}"
+    return f"status {process.returncode}, {b''.join(errors.splitlines()[:1]).decode()}"
 
 
 PACKET = (b"D n0 5 %s 0 4 4", b"C MARK demo net #a 5000", b"C TPOST demo net #a m1 1000 P +x=1 #a bob!b@h :hi",

@@ -1,6 +1,6 @@
 """A node for which one request for memory in so many is refused, for 20 seconds, while clients of two accounts, the servers of
 their networks and a peer are at work (docs/OPERATING.md: a connection for which there is no memory is closed; a server is tried
-again after 60 seconds). The node lives; no line is torn, comes twice or is of another account; and afterwards all are served."""
+again after 60 seconds). The node lives; no line is torn, comes twice or is of another account; then all are served."""
 
 import mmap
 import os
@@ -154,11 +154,12 @@ def server(work, listener, letter):
         it.close()
 
 
-GREETING = {*greeting(), ":al JOIN #a", ":bnc.example CAP * ACK :batch draft/chathistory draft/read-marker message-tags server-time",
-            ":bnc.example PONG bnc.example :here", ":bnc.example PONG bnc.example :after"}
+GREETING = {*greeting(), ":al JOIN #a", ":bnc.example PONG bnc.example :here",
+            ":bnc.example CAP * ACK :batch draft/chathistory draft/read-marker message-tags server-time"}
 FORMS = re.compile(r":bnc\.example (BATCH [+-]r\d+( chathistory #a)?|MARKREAD #a (\*|timestamp=[0-9TZ:.-]{24})|"
                    r"NOTICE al :Not connected to net)|ERROR :Closing link")
-MESSAGE = re.compile(r"@(?:batch=(r\d+);)?(msgid=(\w)\d\d;time=2026-11-23T00:00:\d\d\.\d{3}Z) :(\w)!b@h PRIVMSG #a :(\w) (\d{8})")
+MESSAGE = re.compile(r"@(?:batch=(r\d+);)?(msgid=(\w)\d\d;time=2026-11-23T00:00:\d\d\.\d{3}Z) "
+                     r":(\w)!b@h PRIVMSG #a :(\w) (\d{8})")
 
 
 class Heard:
@@ -293,7 +294,7 @@ def scarce(one_of):
         if not refused:
             raise Failed("no request for memory was refused: is the program built with a sanitizer, which has its own malloc?")
         counts = ", ".join(f"{count} {what}" for what, count in sorted(work.counts.items()))
-        fixture.notes.append(f"{refused} of {made} requests refused; {counts}; kB and descriptors {before} before and {after} after")
+        fixture.notes.append(f"{refused} of {made} requests refused; {counts}; kB and descriptors {before} before, {after} after")
 
     add(f"scarce: one request in {one_of} is refused for {SECONDS} seconds", call)
 
