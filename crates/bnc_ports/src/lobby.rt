@@ -1,5 +1,7 @@
 //! Where a worker's clients come in.
-use attach::{Attachment, Boxed, Hall};
+ghost use Rattle.std.specs.Prelude.{◌≡◌, [], IfSome};
+
+use attach::{Attachment, Boxed};
 use crossbeam_channel::Receiver;
 use std::sync::Wait;
 
@@ -10,49 +12,42 @@ pub struct Arrival<X = Boxed> {
     pub attachment: X,
 }
 
-/// A client that came in: the key of its attachment in the hall, and how many bytes may be owed to it at once.
-#[derive(Clone, Copy, Debug, PartialEq, Eq)]
-pub struct Admitted {
-    pub key: usize,
-    pub bound: usize,
-}
-
-/// A worker's hall, and the attachments that are on their way to it.
+/// The attachments that are on their way to a worker.
 #[derive(Drop)]
 pub struct Lobby<X = Boxed> {
-    hall: Hall<X>,
     arrivals: Receiver<Arrival<X>>,
 }
 
 impl<X: Attachment> Lobby<X> {
-    /// A lobby of that hall, at the end of that channel.
-    pub fn new(hall: Hall<X>, arrivals: Receiver<Arrival<X>>) -> Lobby<X> {
-        Lobby { hall, arrivals }
+    /// A lobby at the end of that channel.
+    pub fn new(arrivals: Receiver<Arrival<X>>) -> Lobby<X> {
+        Lobby { arrivals }
     }
 
-    /// The hall.
-    pub fn hall(&mut self) -> &mut Hall<X> {
-        &mut self.hall
-    }
-
-    // Moves an attachment into the hall.
-    fn take_in(&mut self, attachment: X) -> Option<Admitted> {
-        let bound = attachment.bound();
-        let key = self.hall.add(attachment).ok()?;
-        Some(Admitted { key, bound })
-    }
-
-    /// Moves the attachment of that ticket into the hall. Those of lower tickets are dropped: their connections never came.
-    /// None where it isn't there, or there was no memory; the attachment is dropped then.
-    pub fn admit<R: Wait>(&mut self, rt: &R, ticket: u64) -> Option<Admitted> {
+    /// The attachment of that ticket. Those of lower tickets are dropped: their connections never came. None where it isn't
+    /// there; one to which something is owed already is dropped too.
+    pub fn admit<R: Wait>(&mut self, rt: &R, ticket: u64) -> Option<X>
+        ensures { IfSome result (λ attachment. (X.state attachment).owed ≡ []) }
+    {
         for _ in 0..usize::MAX {
             let Ok(arrival) = self.arrivals.try_recv(rt) else {
                 return None;
             };
             if arrival.ticket == ticket {
-                return self.take_in(arrival.attachment);
+                return empty(arrival.attachment);
             }
         }
+        None
+    }
+}
+
+// The attachment, where nothing is owed to it.
+fn empty<X: Attachment>(attachment: X) -> Option<X>
+    ensures { IfSome result (λ attachment. (X.state attachment).owed ≡ []) }
+{
+    if attachment.owed() == 0 {
+        Some(attachment)
+    } else {
         None
     }
 }

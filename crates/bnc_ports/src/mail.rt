@@ -2,7 +2,7 @@
 use byte_text::Text;
 use chat_change::Record;
 use client_directory::Entry;
-use irc_caps::Recipients;
+use passed_lines::PassedLine;
 use shared_lines::SharedLine;
 
 /// What a worker tells another. Networks are those of the configuration, counted from 0.
@@ -21,11 +21,10 @@ pub enum Mail {
         is_own: bool,
         message: Record,
     },
-    /// A line that is passed on to sessions of the network. It ends with CR LF.
+    /// A line that is passed on to sessions of the network.
     Relay {
         network: usize,
-        to: Recipients,
-        line: SharedLine,
+        line: PassedLine,
     },
     /// A client's line for the network's server, with its CR LF or without.
     Say {

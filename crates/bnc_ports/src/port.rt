@@ -1,6 +1,4 @@
 //! The connections of a worker, and what else comes to it.
-ghost use Rattle.std.specs.Prelude.{◌≤◌, length, IfOk};
-
 use crate::clocks::Clocks;
 use crate::event::Event;
 use crate::mail::Mail;
@@ -68,22 +66,11 @@ pub trait Port: Drop {
     /// less patience; with 0 it doesn't wait.
     fn next(&mut self, patience: u64) -> Result<Happening, PortFault>;
 
-    /// Moves bytes that came over a line to the start of the buffer, and answers how many. It doesn't wait.
-    fn receive(&mut self, line: usize, buffer: &mut [u8]) -> Result<usize, Halt>
-        ensures count { IfOk result (λ n. n ≤ length buffer.new) };
-
-    /// Sends the first of these bytes over a line, and answers how many. It doesn't wait.
-    fn send(&mut self, line: usize, bytes: &[u8]) -> Result<usize, Halt>
-        ensures count { IfOk result (λ n. n ≤ length bytes.now) };
-
-    /// Gives a line up. A line that isn't there is left so.
-    fn close(&mut self, line: usize);
+    /// Gives up a connection that was never opened. One that isn't there is left so.
+    fn give_up(&mut self, line: usize);
 
     /// Begins a connection: `Opened` or `Refused` of that line follows.
     fn dial(&mut self, what: Dial) -> Result<usize, PortFault>;
-
-    /// Who is at the other end of a line.
-    fn address(&self, line: usize) -> Option<SocketAddr>;
 
     /// Hands mail to another worker.
     fn post(&mut self, worker: usize, mail: Mail) -> Result<(), PortFault>;

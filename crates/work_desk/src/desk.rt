@@ -1,4 +1,6 @@
 //! The port and the timers of a worker.
+ghost use Rattle.std.specs.Prelude.{◌≡◌, IfOk};
+
 use crate::schedule::Schedule;
 use crate::site::Site;
 use bnc_ports::{Clocks, Port};
@@ -62,7 +64,9 @@ impl<P: Port> Desk<P> {
     }
 
     /// A line for other workers.
-    pub fn share(&mut self, bytes: &[u8]) -> Result<SharedLine, NoMemory> {
+    pub fn share(&mut self, bytes: &[u8]) -> Result<SharedLine, NoMemory>
+        ensures { IfOk result (λ line. line ≡ bytes.now) }
+    {
         self.lines.share(self.site.alloc, bytes)
     }
 
