@@ -1,144 +1,189 @@
 //! The connection of a client.
+ghost use Rattle.std.specs.Prelude.{◌≡◌, [], ◌++◌, IfOk, IfSome, OnErr, MatchBool, drop, length};
+ghost use Rattle.bnc_ports.specs.Outgoing.{BeginsOf};
+ghost use Rattle.work_lines.specs.Outgoing.{handed, Moves};
+
 use crate::feeders::Feeders;
-use crate::input::Filled;
+use crate::input::{Filled, Input};
 use crate::pending::Pending;
 use crate::pipe::{Pipe, Pumped};
-use attach::{Attachment, Hall};
-use bnc_ports::{Admitted, Port};
+use attach::Attachment;
+use bnc_ports::{Carries, Connection, Kind};
 use byte_text::{NoMemory, find_byte};
-use irc_line::Next;
 use std::alloc::Global;
+use std::marker::Model;
 
 /// So many lines are offered in one go.
 const LINES: usize = 256;
 
-/// The connection of a client whose attachment lies in a hall.
+// What came of offering the first of the lines that wait.
+enum Offered {
+    // It was handed to the attachment.
+    Line,
+    // None may be offered now.
+    Nothing,
+    // It doesn't fit into the bound.
+    Overrun,
+}
+
+/// The connection of a client, with its attachment. Contracts see what was sent over it, what is owed to it, and what waits.
 #[derive(Drop)]
-pub struct Guest {
-    pipe: Pipe,
-    admitted: Admitted,
-    // How many bytes the attachment is owed.
-    attached: usize,
+pub struct Guest<X: Attachment, C: Connection> {
+    pipe: Pipe<C>,
+    attachment: X,
     // Lines that the client's own line called for.
     waiting: Pending,
 }
 
-impl Guest {
-    /// A client's connection, by its number, and its attachment, to which nothing is owed yet. It takes no memory.
-    pub fn new(alloc: Global, line: usize, admitted: Admitted) -> Guest {
+impl<X: Attachment, C: Connection> Model for Guest<X, C> {
+    ghost use Rattle.std.specs.Prelude.{◌++◌};
+    ghost use Rattle.work_lines.specs.Outgoing.{Told};
+
+    ghost Value = { Told };
+
+    ghost view = { λ g. record {
+      outgoing = record {
+        sent = g.pipe.sent;
+        owed = g.pipe.owed ++ (X.state g.attachment).owed;
+      };
+      waiting = g.waiting;
+    } };
+}
+
+impl<X: Attachment, C: Connection> Guest<X, C> {
+    /// A client's connection, over which nothing was sent, and its attachment, to which nothing is owed. It takes no memory.
+    pub fn new(alloc: Global, connection: C, attachment: X) -> Guest<X, C>
+        requires sent { C.sent connection ≡ [] }
+        requires owed { (X.state attachment).owed ≡ [] }
+        ensures handed { handed result.outgoing ≡ [] }
+        ensures waiting { result.waiting ≡ [] }
+    {
         Guest {
-            pipe: Pipe::new(alloc, line),
-            admitted,
-            attached: 0,
+            pipe: Pipe::new(alloc, connection),
+            attachment,
             waiting: Pending::new(alloc),
         }
     }
 
+    /// The number by which the port tells of the connection.
+    pub fn number(&self) -> usize {
+        self.pipe.number()
+    }
+
     /// The connection.
-    pub fn pipe(&mut self) -> &mut Pipe {
-        &mut self.pipe
+    pub fn connection(&self) -> &C
+        ensures { C.sent result.now ≡ self.now.outgoing.sent }
+    {
+        self.pipe.connection()
     }
 
-    /// The key of its attachment.
-    pub fn key(&self) -> usize {
-        self.admitted.key
+    /// The connection alone. The attachment is let go, which frees its place.
+    pub fn into_connection(self) -> C
+        ensures { C.sent result ≡ self.outgoing.sent }
+    {
+        self.pipe.into_connection()
     }
 
-    /// The next line that came.
-    pub fn next_line(&mut self) -> Next<'_> {
-        self.pipe.next_line()
+    /// There may be room for bytes again.
+    pub fn mark_writable(&mut self)
+        ensures { self.new ≡ self.old }
+    {
+        self.pipe.mark_writable();
     }
 
-    /// Takes in more bytes.
-    pub fn fill<P: Port>(
+    /// Takes in more bytes that come over the connection.
+    pub fn fill<K: Kind, P: Carries<K, Connection = C>>(
         &mut self,
+        input: &mut Input,
         port: &mut P,
         chunk: &mut [u8],
         feeders: &mut Feeders,
-    ) -> Filled {
-        self.pipe.fill(port, chunk, feeders)
+    ) -> Filled
+        ensures { self.new ≡ self.old }
+    {
+        self.pipe.fill::<K, P>(input, port, chunk, feeders)
     }
 
     /// Lines that the client's own line called for wait, behind the others. Each goes out once what is owed and it are at
-    /// most half the bound, or nothing is owed.
-    pub fn owe(&mut self, lines: &[u8]) -> Result<(), NoMemory> {
+    /// most half the bound, or nothing is owed. For want of memory nothing changes.
+    pub fn owe(&mut self, lines: &[u8]) -> Result<(), NoMemory>
+        ensures ok { IfOk result (λ _. self.new.waiting ≡ self.old.waiting ++ lines.now) }
+        ensures err { OnErr result (self.new.waiting ≡ self.old.waiting) }
+        ensures same { self.new.outgoing ≡ self.old.outgoing }
+    {
         self.waiting.push(lines)
     }
 
     // How many bytes are owed, and weren't sent yet.
     fn owed(&self) -> usize {
-        self.attached.saturating_add(self.pipe.owed())
+        self.attachment.owed().saturating_add(self.pipe.owed())
     }
 
     // Hands a line to the attachment. False where it doesn't fit into the bound.
-    fn attach<X: Attachment>(&mut self, hall: &mut Hall<X>, line: &[u8]) -> bool {
-        if self.owed().saturating_add(line.len()) > self.admitted.bound {
+    fn attach(&mut self, line: &[u8]) -> bool
+        ensures handed { MatchBool result
+            (handed self.new.outgoing ≡ handed self.old.outgoing ++ line.now)
+            (handed self.new.outgoing ≡ handed self.old.outgoing) }
+        ensures waiting { self.new.waiting ≡ self.old.waiting }
+    {
+        if self.owed().saturating_add(line.len()) > self.attachment.bound() {
             return false;
         }
-        match hall.offer(self.admitted.key, line) {
-            Ok(()) => {
-                self.attached = self.attached.saturating_add(line.len());
-                true
-            }
-            Err(_) => false,
-        }
+        self.attachment.offer(line).is_ok()
     }
 
     /// Offers a line as it comes. Where it doesn't fit beside what is owed, the connection first takes what it can, by one
     /// write. False where it doesn't fit even then.
-    pub fn offer<X: Attachment, P: Port>(
+    pub fn offer<K: Kind, P: Carries<K, Connection = C>>(
         &mut self,
-        hall: &mut Hall<X>,
         port: &mut P,
-        chunk: &mut [u8],
         line: &[u8],
-    ) -> bool {
-        if self.attach(hall, line) {
+    ) -> bool
+        requires { ∥ BeginsOf K.may_be_told (handed self.old.outgoing) ∥₁ }
+        ensures handed { MatchBool result
+            (handed self.new.outgoing ≡ handed self.old.outgoing ++ line.now)
+            (handed self.new.outgoing ≡ handed self.old.outgoing) }
+        ensures waiting { self.new.waiting ≡ self.old.waiting }
+    {
+        if self.attach(line) {
             return true;
         }
-        match self.write(hall, port, chunk) {
-            Pumped::All | Pumped::Some | Pumped::Blocked => self.attach(hall, line),
+        match self.write::<K, P>(port) {
+            Pumped::All | Pumped::Some | Pumped::Blocked => self.attach(line),
             Pumped::Closed | Pumped::Overrun | Pumped::NoMemory => false,
         }
     }
 
-    // One write of what is owed.
-    fn write<X: Attachment, P: Port>(
-        &mut self,
-        hall: &mut Hall<X>,
-        port: &mut P,
-        chunk: &mut [u8],
-    ) -> Pumped {
+    // Has the connection owe what the attachment is owed, where it owes nothing. Answers what comes of a write where there is
+    // none to be made.
+    fn load(&mut self) -> Option<Pumped>
+        ensures handed { handed self.new.outgoing ≡ handed self.old.outgoing }
+        ensures waiting { self.new.waiting ≡ self.old.waiting }
+    {
         if self.pipe.owed() != 0 {
-            return self.pipe.pump(port);
+            return None;
         }
-        if self.attached == 0 {
-            return Pumped::All;
+        if self.attachment.owed() == 0 {
+            return Some(Pumped::All);
         }
         if !self.pipe.is_writable() {
-            return Pumped::Blocked;
+            return Some(Pumped::Blocked);
         }
-        let Some(count) = hall.flush_into(self.admitted.key, chunk) else {
-            return Pumped::Closed;
-        };
-        self.attached = self.attached.saturating_sub(count);
-        let count = count.min(chunk.len());
-        self.pipe.send(port, &chunk[..count])
+        match self.pipe.refill(&mut self.attachment) {
+            Ok(()) => None,
+            Err(NoMemory) => Some(Pumped::NoMemory),
+        }
     }
 
-    // The next line that waits, where it may be offered now.
-    fn next_waiting(&self) -> Option<&[u8]> {
-        let bytes = self.waiting.as_bytes();
-        let line = match find_byte(bytes, b'\n') {
-            Some(at) => &bytes[..at + 1],
-            None => bytes,
-        };
-        let owed = self.owed();
-        let fits = owed.saturating_add(line.len()) <= self.admitted.bound / 2;
-        if !line.is_empty() && (owed == 0 || fits) {
-            Some(line)
-        } else {
-            None
+    // One write of what is owed.
+    fn write<K: Kind, P: Carries<K, Connection = C>>(&mut self, port: &mut P) -> Pumped
+        requires { ∥ BeginsOf K.may_be_told (handed self.old.outgoing) ∥₁ }
+        ensures handed { handed self.new.outgoing ≡ handed self.old.outgoing }
+        ensures waiting { self.new.waiting ≡ self.old.waiting }
+    {
+        match self.load() {
+            Some(pumped) => pumped,
+            None => self.pipe.pump::<K, P>(port),
         }
     }
 
@@ -147,37 +192,67 @@ impl Guest {
         !self.waiting.is_empty()
     }
 
+    // Offers the first of the lines that wait, where there is room.
+    fn offer_first(&mut self) -> Offered
+        ensures { Moves self.old self.new }
+    {
+        let owed = self.owed();
+        let bound = self.attachment.bound();
+        let Some(line) = next_of(self.waiting.as_bytes(), owed, bound) else {
+            return Offered::Nothing;
+        };
+        let count = line.len();
+        if self.attachment.offer(line).is_err() {
+            return Offered::Overrun;
+        }
+        self.waiting.take(count);
+        Offered::Line
+    }
+
     /// Offers the lines that wait, as far as there is room. False where one doesn't fit into the bound.
-    pub fn offer_waiting<X: Attachment>(&mut self, hall: &mut Hall<X>) -> bool {
+    pub fn offer_waiting(&mut self) -> bool
+        ensures { Moves self.old self.new }
+    {
         for _ in 0..LINES {
-            let Some(line) = self.next_waiting() else {
-                return true;
-            };
-            let count = line.len();
-            if hall.offer(self.admitted.key, line).is_err() {
-                return false;
+            match self.offer_first() {
+                Offered::Line => {}
+                Offered::Nothing => return true,
+                Offered::Overrun => return false,
             }
-            self.attached = self.attached.saturating_add(count);
-            self.waiting.take(count);
         }
         true
     }
 
     /// Offers what waits, as far as there is room, and sends what is owed, by one write. `All` where nothing waits and
     /// nothing is owed.
-    pub fn pump<X: Attachment, P: Port>(
-        &mut self,
-        hall: &mut Hall<X>,
-        port: &mut P,
-        chunk: &mut [u8],
-    ) -> Pumped {
-        if !self.offer_waiting(hall) {
+    pub fn pump<K: Kind, P: Carries<K, Connection = C>>(&mut self, port: &mut P) -> Pumped
+        requires { ∥ BeginsOf K.may_be_told
+            (handed self.old.outgoing ++ self.old.waiting) ∥₁ }
+        ensures { Moves self.old self.new }
+    {
+        if !self.offer_waiting() {
             return Pumped::Overrun;
         }
-        match self.write(hall, port, chunk) {
+        match self.write::<K, P>(port) {
             Pumped::All if self.owed() == 0 && self.waiting.is_empty() => Pumped::All,
             Pumped::All => Pumped::Some,
             other => other,
         }
+    }
+}
+
+// The first of the lines that wait, where it may be offered now.
+fn next_of(bytes: &[u8], owed: usize, bound: usize) -> Option<&[u8]>
+    ensures { IfSome result (λ line. bytes.now ≡ line.now ++ drop (length line.now) bytes.now) }
+{
+    let line = match find_byte(bytes, b'\n') {
+        Some(at) => &bytes[..at + 1],
+        None => bytes,
+    };
+    let fits = owed.saturating_add(line.len()) <= bound / 2;
+    if !line.is_empty() && (owed == 0 || fits) {
+        Some(line)
+    } else {
+        None
     }
 }

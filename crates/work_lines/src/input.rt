@@ -1,7 +1,9 @@
 //! What comes over a connection, line by line.
+ghost use Rattle.std.specs.Prelude.{◌≡◌};
+
 use crate::feeders::Feeders;
 use crate::pending::Pending;
-use bnc_ports::{Halt, Port};
+use bnc_ports::{Carries, Connection, Halt, Kind};
 use byte_text::NoMemory;
 use irc_line::{Feeder, Next};
 use std::alloc::Global;
@@ -54,20 +56,22 @@ impl Input {
 
     /// Takes in more bytes, into a feeder that is lent where there is none. It goes back once nothing more is there and it holds
     /// nothing.
-    pub fn fill<P: Port>(
+    pub fn fill<K: Kind, C: Connection, P: Carries<K, Connection = C>>(
         &mut self,
         port: &mut P,
-        line: usize,
+        connection: &mut C,
         chunk: &mut [u8],
         feeders: &mut Feeders,
-    ) -> Filled {
+    ) -> Filled
+        ensures { C.sent connection.new ≡ C.sent connection.old }
+    {
         if self.rest.is_empty() && !self.is_readable {
             return Filled::Nothing;
         }
         let Ok(mut feeder) = self.take_feeder(feeders) else {
             return Filled::NoMemory;
         };
-        let filled = self.receive(port, line, chunk, &mut feeder);
+        let filled = self.receive::<K, C, P>(port, connection, chunk, &mut feeder);
         self.feeder = if filled == Filled::Nothing {
             feeders.take_back(feeder)
         } else {
@@ -85,19 +89,21 @@ impl Input {
     }
 
     // Hands the feeder what it had no room for before, or else what the port gives.
-    fn receive<P: Port>(
+    fn receive<K: Kind, C: Connection, P: Carries<K, Connection = C>>(
         &mut self,
         port: &mut P,
-        line: usize,
+        connection: &mut C,
         chunk: &mut [u8],
         feeder: &mut Feeder,
-    ) -> Filled {
+    ) -> Filled
+        ensures { C.sent connection.new ≡ C.sent connection.old }
+    {
         if !self.rest.is_empty() {
             let count = feeder.feed(self.rest.as_bytes());
             self.rest.take(count);
             return Filled::More;
         }
-        match port.receive(line, chunk) {
+        match port.receive(connection, chunk) {
             Ok(count) => self.feed(feeder, &chunk[..count]),
             Err(Halt::Blocked) => {
                 self.is_readable = false;

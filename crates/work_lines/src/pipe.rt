@@ -1,11 +1,16 @@
 //! Any connection of a worker.
+ghost use Rattle.std.specs.Prelude.{◌≡◌, ◌++◌, [], IfOk, OnErr, length};
+ghost use Rattle.bnc_ports.specs.Outgoing.{BeginsOf};
+ghost use Rattle.work_lines.specs.Outgoing.{handed};
+
 use crate::feeders::Feeders;
 use crate::input::{Filled, Input};
 use crate::pending::Pending;
-use bnc_ports::{Halt, Port};
+use attach::Attachment;
+use bnc_ports::{Carries, Connection, Halt, Kind};
 use byte_text::NoMemory;
-use irc_line::Next;
 use std::alloc::Global;
+use std::marker::Model;
 
 /// How far the owed bytes went out.
 #[derive(Clone, Copy, Debug, PartialEq, Eq)]
@@ -24,73 +29,59 @@ pub enum Pumped {
     NoMemory,
 }
 
-/// A connection: what came, and what is owed.
+/// A connection, and what is owed to it. Contracts see the bytes that were sent over it, and those that are owed.
 #[derive(Drop)]
-pub struct Pipe {
-    line: usize,
-    input: Input,
+pub struct Pipe<C: Connection> {
+    connection: C,
     output: Pending,
     is_writable: bool,
-    is_queued: bool,
 }
 
-impl Pipe {
-    /// A connection of the port, by its number. Bytes may be there, and room for bytes. It takes no memory.
-    pub fn new(alloc: Global, line: usize) -> Pipe {
+impl<C: Connection> Model for Pipe<C> {
+    ghost use Rattle.work_lines.specs.Outgoing.{Outgoing};
+
+    ghost Value = { Outgoing };
+
+    ghost view = { λ p. record { sent = C.sent p.connection; owed = p.output } };
+}
+
+impl<C: Connection> Pipe<C> {
+    /// A connection to which nothing is owed. There may be room for bytes. It takes no memory.
+    pub fn new(alloc: Global, connection: C) -> Pipe<C>
+        ensures sent { result.sent ≡ C.sent connection }
+        ensures owed { result.owed ≡ [] }
+    {
         Pipe {
-            line,
-            input: Input::new(alloc),
+            connection,
             output: Pending::new(alloc),
             is_writable: true,
-            is_queued: false,
         }
     }
 
-    /// What the port tells of the connection.
-    pub fn mark(&mut self, readable: bool, writable: bool) {
-        if readable {
-            self.input.mark_readable();
-        }
-        if writable {
-            self.is_writable = true;
-        }
+    /// The number by which the port tells of the connection.
+    pub fn number(&self) -> usize {
+        self.connection.number()
     }
 
-    /// Has it stand in its worker's queue: whether it wasn't there.
-    pub fn queue(&mut self) -> bool {
-        let is_new = !self.is_queued;
-        self.is_queued = true;
-        is_new
+    /// The connection.
+    pub fn connection(&self) -> &C
+        ensures { C.sent result.now ≡ self.now.sent }
+    {
+        &self.connection
     }
 
-    /// It was taken out of its worker's queue.
-    pub fn unqueue(&mut self) {
-        self.is_queued = false;
+    /// The connection alone. What is owed is let go.
+    pub fn into_connection(self) -> C
+        ensures { C.sent result ≡ self.sent }
+    {
+        self.connection
     }
 
-    /// The next line that came.
-    pub fn next_line(&mut self) -> Next<'_> {
-        self.input.next_line()
-    }
-
-    /// Takes in more bytes.
-    pub fn fill<P: Port>(
-        &mut self,
-        port: &mut P,
-        chunk: &mut [u8],
-        feeders: &mut Feeders,
-    ) -> Filled {
-        self.input.fill(port, self.line, chunk, feeders)
-    }
-
-    /// How many bytes are owed.
-    pub fn owed(&self) -> usize {
-        self.output.len()
-    }
-
-    /// Bytes are owed, behind the others.
-    pub fn owe(&mut self, bytes: &[u8]) -> Result<(), NoMemory> {
-        self.output.push(bytes)
+    /// There may be room for bytes again.
+    pub fn mark_writable(&mut self)
+        ensures { self.new ≡ self.old }
+    {
+        self.is_writable = true;
     }
 
     /// Whether the connection takes bytes, as far as is known.
@@ -98,15 +89,45 @@ impl Pipe {
         self.is_writable
     }
 
+    /// How many bytes are owed.
+    pub fn owed(&self) -> usize
+        ensures { result ≡ length self.now.owed }
+    {
+        self.output.len()
+    }
+
+    /// Bytes are owed, behind the others. For want of memory nothing changes.
+    pub fn owe(&mut self, bytes: &[u8]) -> Result<(), NoMemory>
+        ensures owed { IfOk result (λ _. self.new.owed ≡ self.old.owed ++ bytes.now) }
+        ensures sent { self.new.sent ≡ self.old.sent }
+        ensures err { OnErr result (self.new ≡ self.old) }
+    {
+        self.output.push(bytes)
+    }
+
+    /// Owes what an attachment was owed, as much of it as goes at once, where nothing is owed here. For want of memory nothing
+    /// changes.
+    pub(crate) fn refill<X: Attachment>(&mut self, attachment: &mut X) -> Result<(), NoMemory>
+        requires { self.old.owed ≡ [] }
+        ensures handed { handed self.new ++ (X.state attachment.new).owed
+            ≡ handed self.old ++ (X.state attachment.old).owed }
+        ensures err { OnErr result ((self.new ≡ self.old) × (attachment.new ≡ attachment.old)) }
+    {
+        self.output.refill(attachment)
+    }
+
     /// Sends what is owed, by one write.
-    pub fn pump<P: Port>(&mut self, port: &mut P) -> Pumped {
+    pub fn pump<K: Kind, P: Carries<K, Connection = C>>(&mut self, port: &mut P) -> Pumped
+        requires { ∥ BeginsOf K.may_be_told (handed self.old) ∥₁ }
+        ensures { handed self.new ≡ handed self.old }
+    {
         if self.output.is_empty() {
             return Pumped::All;
         }
         if !self.is_writable {
             return Pumped::Blocked;
         }
-        match port.send(self.line, self.output.as_bytes()) {
+        match port.send(&mut self.connection, self.output.as_bytes()) {
             Ok(0) | Err(Halt::Blocked) => {
                 self.is_writable = false;
                 Pumped::Blocked
@@ -123,21 +144,16 @@ impl Pipe {
         }
     }
 
-    /// Sends bytes, where nothing is owed yet, and owes what isn't taken.
-    pub fn send<P: Port>(&mut self, port: &mut P, bytes: &[u8]) -> Pumped {
-        let count = match port.send(self.line, bytes) {
-            Ok(count) => count,
-            Err(Halt::Blocked) => 0,
-            Err(Halt::Closed) => return Pumped::Closed,
-        };
-        if count == bytes.len() {
-            return Pumped::Some;
-        }
-        self.is_writable = count != 0;
-        match self.output.push(&bytes[count..]) {
-            Ok(()) if count == 0 => Pumped::Blocked,
-            Ok(()) => Pumped::Some,
-            Err(NoMemory) => Pumped::NoMemory,
-        }
+    /// Takes in more bytes that come over the connection.
+    pub fn fill<K: Kind, P: Carries<K, Connection = C>>(
+        &mut self,
+        input: &mut Input,
+        port: &mut P,
+        chunk: &mut [u8],
+        feeders: &mut Feeders,
+    ) -> Filled
+        ensures { self.new ≡ self.old }
+    {
+        input.fill::<K, C, P>(port, &mut self.connection, chunk, feeders)
     }
 }

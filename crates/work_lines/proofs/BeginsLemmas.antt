@@ -1,0 +1,20 @@
+-- What begins something begins it with less.
+use Rattle.std.proofs.Common.{◌≡◌, ℕ, List, ◌++◌, sym, ap, ◌∙◌, append_assoc, subst}
+use Rattle.bnc_ports.specs.Outgoing.{BeginsOf}
+
+-- the first part of a beginning is one
+pub first_part : {holds : List ℕ → Type 0} {all : List ℕ} (first last : List ℕ) → BeginsOf holds all → all ≡ first ++ last → BeginsOf holds first
+first_part {holds} {all} first last h e = record {
+  rest = last ++ h.rest;
+  whole = subst holds (ap (λ xs. xs ++ h.rest) e ∙ append_assoc first last h.rest) h.whole;
+}
+
+-- what a connection was handed, without what its attachment is owed
+pub without_attached : {holds : List ℕ → Type 0} {all : List ℕ} (sent owed attached : List ℕ) → BeginsOf holds all → all ≡ sent ++ (owed ++ attached) → BeginsOf holds (sent ++ owed)
+without_attached sent owed attached h e = first_part (sent ++ owed) attached h (e ∙ sym (append_assoc sent owed attached))
+
+-- what was handed over, without what still waits
+pub without_waiting : {holds : List ℕ → Type 0} (before waited moved rest after : List ℕ) → waited ≡ moved ++ rest → after ≡ before ++ moved → BeginsOf holds (before ++ waited) → BeginsOf holds after
+without_waiting before waited moved rest after e f h =
+    first_part after rest h
+    (ap (λ xs. before ++ xs) e ∙ sym (append_assoc before moved rest) ∙ ap (λ xs. xs ++ rest) (sym f))

@@ -1,0 +1,5 @@
+use Rattle.work_lines.proofs.MovesLemmas.{moves_in_turn}
+use Rattle.work_lines.proofs.guest.Guest.offer_waiting.Goals as goal
+
+pub loop-preserved : goal.loop-preserved
+loop-preserved g c = moves_in_turn c.loop.invariant c.offer_first.ensures

@@ -1,0 +1,5 @@
+use Rattle.work_lines.specs.Outgoing.{Moves}
+use Rattle.work_lines.proofs.guest.Guest.offer_waiting.Given as goal
+
+abbrev pub invariant-loop : goal.invariant-loop
+invariant-loop g l = Moves l.fn.self l.self
