@@ -1,13 +1,14 @@
 //! How clients come, register and go.
 use crate::client::Client;
 use crate::clients::Clients;
+use crate::kind::ToClient;
 use attach::Attachment;
-use bnc_ports::{Event, Port, Reason};
+use bnc_ports::{Carries, Connection, Event, Port, Reason};
 use std::sync::Wait;
-use work_desk::{Desk, Fate, PATIENCE, Site};
+use work_desk::{Desk, Fate, PATIENCE};
 use work_timers::Timer;
 
-impl Client {
+impl<X: Attachment, C: Connection> Client<X, C> {
     // Why a client is closed that had long enough to register, or to read what it was owed.
     fn reason_when_due(&self) -> Option<Reason> {
         match self.fate {
@@ -18,7 +19,7 @@ impl Client {
     }
 
     // Known from now on by its network, where its session has just registered.
-    fn register<P: Port>(&mut self, desk: &mut Desk<P>, line: usize) {
+    fn register<P: Carries<ToClient, Connection = C>>(&mut self, desk: &mut Desk<P>) {
         let Some(facts) = self.session.facts() else {
             return;
         };
@@ -33,8 +34,8 @@ impl Client {
             Ok(nick) => self.told = nick,
             Err(_) => self.fate = Fate::Lost(Reason::NoMemory),
         }
-        desk.timers.clear(Timer::Unregistered(line));
-        let address = desk.port.address(line);
+        desk.timers.clear(Timer::Unregistered(self.guest.number()));
+        let address = desk.port.address(self.guest.connection());
         desk.port.report(&Event::ClientIn {
             account,
             network,
@@ -43,59 +44,61 @@ impl Client {
     }
 }
 
-impl<X: Attachment> Clients<X> {
+// A connection over which no client can be served is closed. The operator is told.
+fn refuse<P: Carries<ToClient>>(port: &mut P, connection: P::Connection, reason: Reason) {
+    let address = port.address(&connection);
+    port.close(connection);
+    port.report(&Event::ClientRefused { address, reason });
+}
+
+impl<X: Attachment, C: Connection> Clients<X, C> {
     /// A client came, whose attachment is under a ticket. Where it can't be taken in its connection is closed.
-    pub fn admit<W: Wait, P: Port>(
+    pub fn admit<W: Wait, P: Carries<ToClient, Connection = C>>(
         &mut self,
         rt: &W,
         desk: &mut Desk<P>,
         line: usize,
         ticket: u64,
     ) {
-        match self.take_in(rt, &desk.site, line, ticket) {
-            Ok(()) => {
-                self.wake(line);
-                if desk.set_patience(line, PATIENCE).is_err() {
-                    self.close(desk, line, Reason::NoMemory);
-                }
-            }
-            Err(reason) => {
-                let address = desk.port.address(line);
-                desk.port.close(line);
-                desk.port.report(&Event::ClientRefused { address, reason });
-            }
-        }
-    }
-
-    // The attachment under a ticket comes in, and its client begins a session.
-    fn take_in<W: Wait>(
-        &mut self,
-        rt: &W,
-        site: &Site,
-        line: usize,
-        ticket: u64,
-    ) -> Result<(), Reason> {
-        let Some(admitted) = self.lobby.admit(rt, ticket) else {
-            return Err(Reason::NoPlace);
+        let attachment = self.lobby.admit(rt, ticket);
+        let Some(connection) = desk.port.open(line) else {
+            let address = None;
+            let reason = Reason::Closed;
+            desk.port.report(&Event::ClientRefused { address, reason });
+            return;
         };
-        match self.begin(site, line, admitted) {
-            Ok(()) => Ok(()),
-            Err(_) => Err(Reason::NoMemory),
+        let Some(attachment) = attachment else {
+            return refuse(&mut desk.port, connection, Reason::NoPlace);
+        };
+        if let Err(connection) = self.begin(&desk.site, connection, attachment) {
+            return refuse(&mut desk.port, connection, Reason::NoMemory);
+        }
+        self.wake(line);
+        if desk.set_patience(line, PATIENCE).is_err() {
+            self.close(desk, line, Reason::NoMemory);
         }
     }
 
     /// A client that has just registered is known from now on by its network, and the operator is told. For others nothing
     /// changes.
-    pub fn note_registration<P: Port>(&mut self, desk: &mut Desk<P>, line: usize) {
+    pub fn note_registration<P: Carries<ToClient, Connection = C>>(
+        &mut self,
+        desk: &mut Desk<P>,
+        line: usize,
+    ) {
         if let Some(client) = self.all.get_mut(&line) {
             if client.network.is_none() {
-                client.register(desk, line);
+                client.register(desk);
             }
         }
     }
 
     /// A client that had long enough to register, or to read what it was owed, is closed.
-    pub fn check_registered<P: Port>(&mut self, desk: &mut Desk<P>, line: usize) {
+    pub fn check_registered<P: Carries<ToClient, Connection = C>>(
+        &mut self,
+        desk: &mut Desk<P>,
+        line: usize,
+    ) {
         let Some(client) = self.all.get(&line) else {
             return;
         };
@@ -116,11 +119,17 @@ impl<X: Attachment> Clients<X> {
     }
 
     /// Closes a client's connection at once, and frees its place. The operator is told.
-    pub fn close<P: Port>(&mut self, desk: &mut Desk<P>, line: usize, reason: Reason) {
-        let network = self.network(line);
-        if !self.remove(line) {
+    pub fn close<P: Carries<ToClient, Connection = C>>(
+        &mut self,
+        desk: &mut Desk<P>,
+        line: usize,
+        reason: Reason,
+    ) {
+        let Some(client) = self.all.remove(&line) else {
             return;
-        }
+        };
+        let network = client.network;
+        let connection = client.into_connection();
         let Desk {
             site,
             port,
@@ -128,8 +137,8 @@ impl<X: Attachment> Clients<X> {
             ..
         } = desk;
         timers.clear(Timer::Unregistered(line));
-        let address = port.address(line);
-        port.close(line);
+        let address = port.address(&connection);
+        port.close(connection);
         match site.network_at(network) {
             Some(config) => port.report(&Event::ClientOut {
                 account: config.account.as_bytes(),

@@ -1,75 +1,82 @@
 //! One client.
-use attach::{Attachment, Hall};
-use bnc_ports::{Admitted, Port, Reason};
-use byte_text::{NoMemory, Text};
-use chat_change::Record;
-use client_session::{Session, hears_line, hears_message};
-use irc_caps::{CapSet, Recipients};
-use std::alloc::Global;
-use std::collections::VecDeque;
-use work_desk::{Desk, Fate, Site};
-use work_lines::Guest;
+ghost use Rattle.std.specs.Prelude.{◌≡◌, [], IfOk, OnErr, IfSome, drop};
+ghost use Rattle.work_clients.specs.Course.{Course};
 
-/// A client.
+use attach::Attachment;
+use bnc_ports::{Connection, Reason};
+use byte_text::Text;
+use client_session::{Effect, Session};
+use std::collections::VecDeque;
+use work_desk::{Fate, Site};
+use work_lines::{Guest, Input};
+
+/// A client. All that was told to it, and all that waits, was told by right.
 #[derive(Drop)]
-pub(crate) struct Client {
-    pub(crate) guest: Guest,
+pub(crate) struct Client<X: Attachment, C: Connection> {
+    pub(crate) guest: Guest<X, C>,
+    pub(crate) input: Input,
     pub(crate) session: Session,
+    /// What its last line came to, and how much of that is done.
+    pub(crate) effects: Vec<Effect>,
+    pub(crate) done: usize,
     /// The place of its network among those of the node. Only the registered have one.
     pub(crate) network: Option<usize>,
     /// The nick that the client knows as its own.
     pub(crate) told: Text,
     pub(crate) fate: Fate,
+    /// Whether it stands in the queue of those that have something to do.
+    pub(crate) is_queued: bool,
+    ghost by_right: { ∥ Course session (drop done effects.items) guest ∥₁ },
 }
 
-impl Client {
-    /// A client that hasn't registered yet.
-    pub(crate) fn new(site: &Site, line: usize, admitted: Admitted) -> Result<Client, NoMemory> {
-        let told = Text::new(site.alloc, b"*")?;
-        let session = Session::new(site.alloc, site.cluster.as_bytes(), site.maximum)?;
+/// What came of telling a client something as it happens.
+#[derive(Clone, Copy)]
+pub(crate) enum Delivery {
+    /// It isn't for this client.
+    Skipped,
+    /// The client is told.
+    Taken,
+    /// The client can't be told, and is closed at once.
+    Refused(Reason),
+}
+
+/// What came of offering a client a line.
+pub(crate) fn delivery_of(is_taken: bool) -> Delivery {
+    if is_taken {
+        Delivery::Taken
+    } else {
+        Delivery::Refused(Reason::Overrun)
+    }
+}
+
+impl<X: Attachment, C: Connection> Client<X, C> {
+    /// A client that hasn't registered yet, and to which nothing was told. For want of memory the connection comes back.
+    pub(crate) fn new(site: &Site, connection: C, attachment: X) -> Result<Client<X, C>, C>
+        requires sent { C.sent connection ≡ [] }
+        requires owed { (X.state attachment).owed ≡ [] }
+    {
+        let Ok(told) = Text::new(site.alloc, b"*") else {
+            return Err(connection);
+        };
+        let Ok(session) = Session::new(site.alloc, site.cluster.as_bytes(), site.maximum) else {
+            return Err(connection);
+        };
         Ok(Client {
-            guest: Guest::new(site.alloc, line, admitted),
+            guest: Guest::new(site.alloc, connection, attachment),
+            input: Input::new(site.alloc),
             session,
+            effects: Vec::new(site.alloc),
+            done: 0,
             network: None,
             told,
             fate: Fate::Stays,
+            is_queued: false,
         })
     }
 
-    /// What the session holds, where it hears the message.
-    pub(crate) fn caps_for_message(
-        &self,
-        network: usize,
-        is_own: bool,
-        message: &Record,
-    ) -> Option<CapSet> {
-        if self.network != Some(network) {
-            return None;
-        }
-        let facts = self.session.facts()?;
-        if hears_message(is_own, message, facts) {
-            Some(facts.caps)
-        } else {
-            None
-        }
-    }
-
-    /// Whether the session hears a line that is passed on.
-    pub(crate) fn hears_line(&self, network: usize, to: Recipients) -> bool {
-        if self.network != Some(network) {
-            return false;
-        }
-        match self.session.facts() {
-            Some(facts) => {
-                hears_line(
-                    facts.account.as_bytes(),
-                    facts.network.as_bytes(),
-                    to,
-                    facts,
-                )
-            }
-            None => false,
-        }
+    /// Its connection, without the client. The attachment is let go.
+    pub(crate) fn into_connection(self) -> C {
+        self.guest.into_connection()
     }
 
     /// Whether the session is told of read markers of the network's account.
@@ -90,29 +97,18 @@ impl Client {
 
     /// Stands in the queue.
     pub(crate) fn wake(&mut self, busy: &mut VecDeque<usize>, line: usize) {
-        if self.guest.pipe().queue() && busy.push_back(line).is_err() {
-            self.guest.pipe().unqueue();
+        if !self.is_queued && busy.push_back(line).is_ok() {
+            self.is_queued = true;
         }
     }
 
-    /// Lines that its own line called for wait for it.
-    pub(crate) fn owe(&mut self, bytes: &[u8]) -> Result<(), Reason> {
-        match self.guest.owe(bytes) {
-            Ok(()) => Ok(()),
-            Err(_) => Err(Reason::NoMemory),
+    /// It was told something, or can't be.
+    pub(crate) fn note(&mut self, delivery: Delivery, busy: &mut VecDeque<usize>, line: usize) {
+        match delivery {
+            Delivery::Skipped => return,
+            Delivery::Taken => {}
+            Delivery::Refused(reason) => self.lose(reason),
         }
-    }
-
-    /// A line is offered as it comes. Where the client has no room for it, it is lost.
-    pub(crate) fn tell<X: Attachment, P: Port>(
-        &mut self,
-        hall: &mut Hall<X>,
-        desk: &mut Desk<P>,
-        text: &[u8],
-    ) {
-        let Desk { port, chunk, .. } = desk;
-        if !self.guest.offer(hall, port, chunk, text) {
-            self.lose(Reason::Overrun);
-        }
+        self.wake(busy, line);
     }
 }

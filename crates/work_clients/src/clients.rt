@@ -1,17 +1,18 @@
 //! The table of a worker's clients, and the queue of those that have something to do.
+ghost use Rattle.std.specs.Prelude.{◌≡◌, []};
+
 use crate::client::Client;
 use crate::live_text::LiveText;
 use attach::Attachment;
-use bnc_ports::{Admitted, Lobby, Reason};
-use byte_text::NoMemory;
-use std::alloc::{AllocError, Global};
+use bnc_ports::{Connection, Lobby};
+use std::alloc::Global;
 use std::collections::{BTreeMap, VecDeque};
 use work_desk::Site;
 
 /// A worker's clients, by the numbers of their connections. They come in by its lobby.
 #[derive(Drop)]
-pub struct Clients<X> {
-    pub(crate) all: BTreeMap<usize, Client>,
+pub struct Clients<X: Attachment, C: Connection> {
+    pub(crate) all: BTreeMap<usize, Client<X, C>>,
     pub(crate) lobby: Lobby<X>,
     // those that have something to do
     pub(crate) busy: VecDeque<usize>,
@@ -20,9 +21,9 @@ pub struct Clients<X> {
     pub(crate) live: LiveText,
 }
 
-impl<X: Attachment> Clients<X> {
+impl<X: Attachment, C: Connection> Clients<X, C> {
     /// No clients yet. They come in by the lobby.
-    pub fn new(alloc: Global, lobby: Lobby<X>) -> Clients<X> {
+    pub fn new(alloc: Global, lobby: Lobby<X>) -> Clients<X, C> {
         Clients {
             all: BTreeMap::new(alloc),
             lobby,
@@ -32,59 +33,30 @@ impl<X: Attachment> Clients<X> {
         }
     }
 
-    /// A client begins its session. Where there is no memory its attachment is let go.
-    pub(crate) fn begin(
-        &mut self,
-        site: &Site,
-        line: usize,
-        admitted: Admitted,
-    ) -> Result<(), NoMemory> {
-        match self.insert(site, line, admitted) {
-            Ok(()) => Ok(()),
-            Err(fault) => {
-                self.free(admitted.key);
-                Err(fault)
-            }
-        }
-    }
-
-    fn insert(&mut self, site: &Site, line: usize, admitted: Admitted) -> Result<(), NoMemory> {
+    /// A client begins its session over a connection, to which nothing was told, with an attachment to which nothing is owed.
+    /// For want of memory the connection comes back, and the attachment is let go.
+    pub(crate) fn begin(&mut self, site: &Site, connection: C, attachment: X) -> Result<(), C>
+        requires sent { C.sent connection ≡ [] }
+        requires owed { (X.state attachment).owed ≡ [] }
+    {
         // Each client has room in the queue.
         if self.busy.reserve(self.all.len().saturating_add(1)).is_err() {
-            return Err(NoMemory);
+            return Err(connection);
         }
-        let client = Client::new(site, line, admitted)?;
-        drop(self.all.insert(line, client).map_err(AllocError::from)?);
-        Ok(())
-    }
-
-    // Lets the attachment under a key go, and with it the client's place.
-    fn free(&mut self, key: usize) {
-        discard(self.lobby.hall().remove(key));
-    }
-
-    /// Takes a client out, and frees its place. False where there is none.
-    pub(crate) fn remove(&mut self, line: usize) -> bool {
-        let Some(client) = self.all.remove(&line) else {
-            return false;
-        };
-        let key = client.guest.key();
-        drop(client);
-        self.free(key);
-        true
+        let line = connection.number();
+        let client = Client::new(site, connection, attachment)?;
+        match self.all.insert(line, client) {
+            Ok(before) => {
+                drop(before);
+                Ok(())
+            }
+            Err(refused) => Err(refused.value.1.into_connection()),
+        }
     }
 
     /// The place of the client's network among those of the node, once it is registered.
     pub fn network(&self, line: usize) -> Option<usize> {
         self.all.get(&line)?.network
-    }
-
-    /// Lines that the client's own line called for wait for it, and go out as there is room.
-    pub fn owe(&mut self, line: usize, bytes: &[u8]) -> Result<(), Reason> {
-        match self.all.get_mut(&line) {
-            Some(client) => client.owe(bytes),
-            None => Ok(()),
-        }
     }
 
     /// The client has something to do.
@@ -100,7 +72,7 @@ impl<X: Attachment> Clients<X> {
         let Clients { all, busy, .. } = self;
         match all.get_mut(&line) {
             Some(client) => {
-                client.guest.pipe().mark(readable, writable);
+                client.mark(readable, writable);
                 client.wake(busy, line);
                 true
             }
@@ -117,7 +89,7 @@ impl<X: Attachment> Clients<X> {
     pub fn next_busy(&mut self) -> Option<usize> {
         let line = self.busy.pop_front()?;
         if let Some(client) = self.all.get_mut(&line) {
-            client.guest.pipe().unqueue();
+            client.is_queued = false;
         }
         Some(line)
     }
@@ -137,8 +109,4 @@ impl<X: Attachment> Clients<X> {
         }
         None
     }
-}
-
-fn discard<X: Attachment>(attachment: Option<X>) {
-    let _ = attachment;
 }

@@ -1,10 +1,11 @@
 //! The turns of clients.
 use crate::client::Client;
 use crate::clients::Clients;
-use attach::{Attachment, Hall};
-use bnc_ports::{Port, Reason};
+use crate::kind::ToClient;
+use attach::Attachment;
+use bnc_ports::{Carries, Connection, Reason};
 use chat_state::Peek;
-use client_session::{Effect, StepFault};
+use client_session::StepFault;
 use irc_line::Next;
 use work_desk::{Desk, Fate};
 use work_lines::{Filled, Pumped};
@@ -13,10 +14,10 @@ use work_lines::{Filled, Pumped};
 const WRITES: usize = 4;
 
 /// What a step of a client comes to.
-#[derive(Drop)]
+#[derive(Clone, Copy, Debug, PartialEq, Eq)]
 pub enum ClientStep {
-    /// This is to be done, in this order.
-    Do(Vec<Effect>),
+    /// What its line comes to is to be done ([`Clients::next_effect`]).
+    Do,
     /// There is more to do at once.
     Again,
     /// Something of the line before waits until the client reads what it is owed.
@@ -58,22 +59,36 @@ fn step_after(filled: Filled) -> ClientStep {
     }
 }
 
-impl Client {
+impl<X: Attachment, C: Connection> Client<X, C> {
+    /// What the port tells of its connection.
+    pub(crate) fn mark(&mut self, readable: bool, writable: bool) {
+        if readable {
+            self.input.mark_readable();
+        }
+        if writable {
+            self.guest.mark_writable();
+        }
+    }
+
+    // Offers the lines that wait, as far as there is room. False where one doesn't fit into the bound.
+    fn offer_waiting(&mut self) -> bool {
+        self.guest.offer_waiting()
+    }
+
     // What the client is to do next.
-    fn step<K: Peek, X: Attachment, P: Port>(
+    fn step<K: Peek, P: Carries<ToClient, Connection = C>>(
         &mut self,
-        hall: &mut Hall<X>,
         desk: &mut Desk<P>,
         peek: &mut K,
     ) -> ClientStep {
         if let Fate::Lost(reason) = self.fate {
             return ClientStep::Over(reason);
         }
-        if !self.guest.offer_waiting(hall) {
+        if !self.offer_waiting() {
             return ClientStep::Over(Reason::Overrun);
         }
         if let Fate::Ends(reason) = self.fate {
-            return last_step(self.pump(hall, desk), reason);
+            return last_step(self.pump(&mut desk.port), reason);
         }
         if self.guest.waits() {
             return ClientStep::Wait;
@@ -81,9 +96,15 @@ impl Client {
         self.hear(desk, peek)
     }
 
-    // The client's next line, or more bytes for it.
-    fn hear<K: Peek, P: Port>(&mut self, desk: &mut Desk<P>, peek: &mut K) -> ClientStep {
-        let Client { guest, session, .. } = self;
+    // The client's next line, once all of the line before is done, or more bytes for it.
+    fn hear<K: Peek, P: Carries<ToClient, Connection = C>>(
+        &mut self,
+        desk: &mut Desk<P>,
+        peek: &mut K,
+    ) -> ClientStep {
+        if self.done < self.effects.len() {
+            return ClientStep::Do;
+        }
         let Desk {
             site,
             port,
@@ -91,33 +112,41 @@ impl Client {
             feeders,
             ..
         } = desk;
-        match guest.next_line() {
-            Next::Line(bytes) => match session.step(site.alloc, bytes, &site.directory, peek) {
-                Ok(effects) => ClientStep::Do(effects),
-                Err(fault) => ClientStep::Over(reason_of(fault)),
-            },
-            Next::TooLong => match session.too_long(site.alloc, &site.directory) {
-                Ok(effects) => ClientStep::Do(effects),
+        match self.input.next_line() {
+            Next::Line(bytes) => {
+                match self.session.step(site.alloc, bytes, &site.directory, peek) {
+                    Ok(effects) => {
+                        self.effects = effects;
+                        self.done = 0;
+                        ClientStep::Do
+                    }
+                    Err(fault) => ClientStep::Over(reason_of(fault)),
+                }
+            }
+            Next::TooLong => match self.session.too_long(site.alloc, &site.directory) {
+                Ok(effects) => {
+                    self.effects = effects;
+                    self.done = 0;
+                    ClientStep::Do
+                }
                 Err(_) => ClientStep::Over(Reason::NoMemory),
             },
-            Next::More => step_after(guest.fill(port, chunk, feeders)),
+            Next::More => step_after(
+                self.guest
+                    .fill::<ToClient, P>(&mut self.input, port, chunk, feeders),
+            ),
         }
     }
 
     // Writes what is owed, by one write.
-    fn pump<X: Attachment, P: Port>(&mut self, hall: &mut Hall<X>, desk: &mut Desk<P>) -> Pumped {
-        let Desk { port, chunk, .. } = desk;
-        self.guest.pump(hall, port, chunk)
+    fn pump<P: Carries<ToClient, Connection = C>>(&mut self, port: &mut P) -> Pumped {
+        self.guest.pump::<ToClient, P>(port)
     }
 
     // Writes what is owed, as far as the client takes it, by a few writes at most.
-    fn write_out<X: Attachment, P: Port>(
-        &mut self,
-        hall: &mut Hall<X>,
-        desk: &mut Desk<P>,
-    ) -> Pumped {
+    fn write_out<P: Carries<ToClient, Connection = C>>(&mut self, port: &mut P) -> Pumped {
         for _ in 0..WRITES {
-            let pumped = self.pump(hall, desk);
+            let pumped = self.pump(port);
             if pumped != Pumped::Some {
                 return pumped;
             }
@@ -126,38 +155,38 @@ impl Client {
     }
 }
 
-impl<X: Attachment> Clients<X> {
+impl<X: Attachment, C: Connection> Clients<X, C> {
     /// What a client is to do next. Its next line is read where nothing of the one before waits.
-    pub fn step<K: Peek, P: Port>(
+    pub fn step<K: Peek, P: Carries<ToClient, Connection = C>>(
         &mut self,
         desk: &mut Desk<P>,
         peek: &mut K,
         line: usize,
     ) -> ClientStep {
-        let Clients { all, lobby, .. } = self;
-        match all.get_mut(&line) {
-            Some(client) => client.step(lobby.hall(), desk, peek),
+        match self.all.get_mut(&line) {
+            Some(client) => client.step(desk, peek),
             None => ClientStep::Rest,
         }
     }
 
-    /// Takes back a list of effects, once they are done, so that the client's next line can be answered in its room.
-    pub fn recycle(&mut self, line: usize, effects: Vec<Effect>) {
-        if let Some(client) = self.all.get_mut(&line) {
-            client.session.recycle(effects);
-        }
-    }
-
-    fn write_out<P: Port>(&mut self, desk: &mut Desk<P>, line: usize) -> Pumped {
-        let Clients { all, lobby, .. } = self;
-        match all.get_mut(&line) {
-            Some(client) => client.write_out(lobby.hall(), desk),
+    fn write_out<P: Carries<ToClient, Connection = C>>(
+        &mut self,
+        desk: &mut Desk<P>,
+        line: usize,
+    ) -> Pumped {
+        match self.all.get_mut(&line) {
+            Some(client) => client.write_out(&mut desk.port),
             None => Pumped::All,
         }
     }
 
     /// Writes what the client's turn came to. Further lines of it may be there already.
-    pub fn finish<P: Port>(&mut self, desk: &mut Desk<P>, line: usize, has_more: bool) {
+    pub fn finish<P: Carries<ToClient, Connection = C>>(
+        &mut self,
+        desk: &mut Desk<P>,
+        line: usize,
+        has_more: bool,
+    ) {
         match self.write_out(desk, line) {
             Pumped::All if !has_more => {}
             Pumped::All | Pumped::Some => self.wake(line),

@@ -1,0 +1,134 @@
+-- What a session says as one thing more comes, and what a client hears before its registration.
+use Rattle.std.proofs.Common.{◌≡◌, ℕ, List, [], ◌∷◌, ◌++◌, Some, refl, sym, ◌∙◌, ap, subst, append-nil, append_assoc}
+use Rattle.std.proofs.lemmas.Option.{none-some}
+use Rattle.chat_batch.specs.declared.facts.Facts.{Facts}
+use Rattle.chat_batch.specs.declared.facts.Answered.{Answered}
+use Rattle.client_session.specs.declared.effect.Effect.{Effect}
+use Rattle.client_session.specs.declared.effect.Effect.TheVariants.{Send, Put, Ask, Upstream, Close}
+use Rattle.client_session.specs.declared.stage.Stage.{Stage}
+use Rattle.client_session.specs.declared.stage.Stage.TheVariants.{Waiting, Registered, Closed}
+use Rattle.client_session.specs.Events.{ClientEvent, Line, CutLine, Answer, run, after, effects_of, IsRegistered}
+use Rattle.client_session.specs.Session.{new, facts_in, session_after}
+use Rattle.work_lines.specs.Outgoing.{Told, handed}
+use Rattle.work_clients.specs.Course.{Course, Connects, Hears, HearsCut, Says, Answers, Skips, Acts, Goes, Stays, Comes, Relays, Renames, Informs, IsAct}
+use Rattle.work_clients.specs.Said.{lines_of, said_by, IsNeverRegistered, HearsItsSessionAlone}
+
+run_one_more : (session : Stage) (events : List ClientEvent) (event : ClientEvent) → run session (events ++ event ∷ []) ≡ after (run session events) event
+run_one_more session [] event = refl
+run_one_more session (first ∷ events) event = run_one_more (after session first) events event
+
+said_one_more : (session : Stage) (events : List ClientEvent) (event : ClientEvent) → said_by session (events ++ event ∷ []) ≡ said_by session events ++ lines_of (effects_of (run session events) event)
+said_one_more session [] event = append-nil (lines_of (effects_of session event))
+said_one_more session (first ∷ events) event =
+    ap (λ (t : List ℕ). lines_of (effects_of session first) ++ t) (said_one_more (after session first) events event)
+    ∙ sym (append_assoc (lines_of (effects_of session first)) (said_by (after session first) events) (lines_of (effects_of (run (after session first) events) event)))
+
+never_before : (session : Stage) (events : List ClientEvent) (event : ClientEvent) → IsNeverRegistered session (events ++ event ∷ []) → IsNeverRegistered session events
+never_before session [] event never = never.0
+never_before session (first ∷ events) event never = (never.0, never_before (after session first) events event never.1)
+
+never_now : (session : Stage) (events : List ClientEvent) → IsNeverRegistered session events → ¬ IsRegistered (run session events)
+never_now session [] never = never
+never_now session (first ∷ events) never = never_now (after session first) events never.1
+
+registered_by_facts : (session : Stage) (facts : Facts) → facts_in session ≡ Some facts → IsRegistered session
+registered_by_facts (Waiting w) facts e = absurd (none-some facts e)
+registered_by_facts (Registered f) facts e = tt
+registered_by_facts Closed facts e = absurd (none-some facts e)
+
+acts_say_nothing : (effect : Effect) (todo : List Effect) → IsAct effect → lines_of (effect ∷ todo) ≡ lines_of todo
+acts_say_nothing (Send text) todo is = absurd is
+acts_say_nothing (Ask question) todo is = absurd is
+acts_say_nothing (Put change) todo is = refl
+acts_say_nothing (Upstream line) todo is = refl
+acts_say_nothing Close todo is = refl
+
+-- a line that is left to say waits
+one_more_waits : (handed before text rest later after : List ℕ) → after ≡ before ++ text → later ≡ handed → (later ++ after) ++ rest ≡ (handed ++ before) ++ (text ++ rest)
+one_more_waits handed before text rest later after waits same =
+    ap (λ (t : List ℕ). (t ++ after) ++ rest) same
+    ∙ (ap (λ (t : List ℕ). (handed ++ t) ++ rest) waits
+    ∙ (ap (λ (t : List ℕ). t ++ rest) (sym (append_assoc handed before text))
+    ∙ append_assoc (handed ++ before) text rest))
+
+-- bytes that waited are handed over
+some_go : (handed before moved later after : List ℕ) → before ≡ moved ++ after → later ≡ handed ++ moved → later ++ after ≡ handed ++ before
+some_go handed before moved later after waited went =
+    ap (λ (t : List ℕ). t ++ after) went
+    ∙ (append_assoc handed moved after
+    ∙ ap (λ (t : List ℕ). handed ++ t) (sym waited))
+
+-- nothing is handed over
+none_go : (handed before later after : List ℕ) → after ≡ before → later ≡ handed ++ [] → later ++ after ≡ handed ++ before
+none_go handed before later after waits went =
+    ap (λ (t : List ℕ). t ++ after) (went ∙ append-nil handed)
+    ∙ ap (λ (t : List ℕ). handed ++ t) waits
+
+-- what is told to a registered session only
+by_registered : {session : Stage} {todo : List Effect} {told : Told} {A : Type 0} (w : HearsItsSessionAlone session todo told) (facts : Facts) → facts_in session ≡ Some facts → IsNeverRegistered (new w.cluster w.maximum) w.events → A
+by_registered {session} {todo} {told} {A} w facts knows never =
+    absurd (never_now (new w.cluster w.maximum) w.events never (subst IsRegistered (sym w.came) (registered_by_facts session facts knows)))
+
+-- a line came, whole or cut
+by_line : {session : Stage} {told : Told} (event : ClientEvent) → HearsItsSessionAlone session [] told → HearsItsSessionAlone (after session event) (effects_of session event) told
+by_line {session} {told} event w =
+    let start = new w.cluster w.maximum in
+    let before = handed told.outgoing ++ told.waiting in
+    let said = said_by start w.events in
+    record {
+      cluster = w.cluster;
+      maximum = w.maximum;
+      events = w.events ++ event ∷ [];
+      came = run_one_more start w.events event ∙ ap (λ (s : Stage). after s event) w.came;
+      alone = λ never.
+          ap (λ (t : List ℕ). t ++ lines_of (effects_of session event)) (sym (append-nil before) ∙ w.alone (never_before start w.events event never))
+          ∙ (ap (λ (s : Stage). said ++ lines_of (effects_of s event)) (sym w.came)
+          ∙ sym (said_one_more start w.events event));
+    }
+
+-- an answer came, to a registered session
+by_answer : {session : Stage} {todo rest : List Effect} {before : Told} (after_it : Told) (answered : Answered) (facts : Facts) → facts_in session ≡ Some facts → HearsItsSessionAlone session todo before → HearsItsSessionAlone (session_after session answered) rest after_it
+by_answer {session} {todo} {rest} {before} after_it answered facts knows w =
+    let start = new w.cluster w.maximum in
+    record {
+      cluster = w.cluster;
+      maximum = w.maximum;
+      events = w.events ++ Answer answered ∷ [];
+      came = run_one_more start w.events (Answer answered) ∙ ap (λ (s : Stage). after s (Answer answered)) w.came;
+      alone = λ never. by_registered w facts knows (never_before start w.events (Answer answered) never);
+    }
+
+-- something else was done or told, and the session is the same
+by_other : {session : Stage} {todo rest : List Effect} {before : Told} (later : Told) (w : HearsItsSessionAlone session todo before) → (IsNeverRegistered (new w.cluster w.maximum) w.events → (handed later.outgoing ++ later.waiting) ++ lines_of rest ≡ (handed before.outgoing ++ before.waiting) ++ lines_of todo) → HearsItsSessionAlone session rest later
+by_other {session} {todo} {rest} {before} later w same = record {
+  cluster = w.cluster;
+  maximum = w.maximum;
+  events = w.events;
+  came = w.came;
+  alone = λ never. same never ∙ w.alone never;
+}
+
+pub hears_alone : {session : Stage} {todo : List Effect} {told : Told} → Course session todo told → HearsItsSessionAlone session todo told
+hears_alone (Connects cluster maximum told waits went) = record {
+  cluster = cluster;
+  maximum = maximum;
+  events = [];
+  came = refl;
+  alone = λ never. append-nil (handed told.outgoing ++ told.waiting) ∙ (ap (λ (t : List ℕ). handed told.outgoing ++ t) waits ∙ (append-nil (handed told.outgoing) ∙ went));
+}
+hears_alone (Hears directory shown bytes c) = by_line (Line directory shown bytes) (hears_alone c)
+hears_alone (HearsCut directory c) = by_line (CutLine directory) (hears_alone c)
+hears_alone (Says {session} {todo} {before} text later kept c) =
+    by_other later (hears_alone c) (λ never. one_more_waits (handed before.outgoing) before.waiting text (lines_of todo) (handed later.outgoing) later.waiting kept.0 kept.1)
+hears_alone (Answers question text answered later is kept c) = by_answer later answered is.facts is.knows (hears_alone c)
+hears_alone (Skips {session} {todo} {told} question is c) = by_other told (hears_alone c) (λ never. refl)
+hears_alone (Acts {session} {todo} {told} effect is c) =
+    by_other told (hears_alone c) (λ never. ap (λ (t : List ℕ). (handed told.outgoing ++ told.waiting) ++ t) (sym (acts_say_nothing effect todo is)))
+hears_alone (Goes {session} {todo} {before} later moves c) =
+    by_other later (hears_alone c) (λ never. ap (λ (t : List ℕ). t ++ lines_of todo) (some_go (handed before.outgoing) before.waiting moves.moved (handed later.outgoing) later.waiting moves.waited moves.went))
+hears_alone (Stays {session} {todo} {before} later same c) =
+    by_other later (hears_alone c) (λ never. ap (λ (t : List ℕ). t ++ lines_of todo) (none_go (handed before.outgoing) before.waiting (handed later.outgoing) later.waiting same.0 same.1))
+hears_alone (Comes facts message is_own later knows hears given c) = by_other later (hears_alone c) (by_registered (hears_alone c) facts knows)
+hears_alone (Relays facts account network to text later knows hears passed given c) = by_other later (hears_alone c) (by_registered (hears_alone c) facts knows)
+hears_alone (Renames facts old nick later knows given c) = by_other later (hears_alone c) (by_registered (hears_alone c) facts knows)
+hears_alone (Informs question text answered later is given c) = by_answer later answered is.facts is.knows (hears_alone c)

@@ -1,0 +1,14 @@
+use Rattle.std.proofs.Math.Logic.{∥∥₁_map}
+use Rattle.work_clients.proofs.CourseLemmas.{told_so_far, relayed}
+use Rattle.work_clients.proofs.client.Client.take_line.Goals as goal
+
+pub offer-requires : goal.offer-requires
+offer-requires g c = ∥∥₁_map c.args.self.now.by_right told_so_far
+
+pub invariant_of-self : goal.invariant_of-self
+invariant_of-self g c =
+    let passed = c.args.passed.now in
+    record {
+      by_right = ∥∥₁_map c.args.self.now.by_right (relayed c.in-Some.field-0.now passed.account.now passed.network.now passed.to passed.text.now c.offer.result c.offer.new.self
+          c.in-Some.ensures.facts c.in-Some.ensures.hears passed.is_passed_on c.offer.ensures.waiting c.offer.ensures.handed);
+    }

@@ -1,0 +1,13 @@
+use Rattle.std.proofs.Common.{◌∙◌}
+use Rattle.std.proofs.Math.Logic.{∥∥₁_map}
+use Rattle.work_clients.proofs.CourseLemmas.{told_so_far, came}
+use Rattle.work_clients.proofs.client.Client.take_message.Goals as goal
+
+pub offer-requires : goal.offer-requires
+offer-requires g c = ∥∥₁_map c.args.self.now.by_right told_so_far
+
+pub invariant_of-self : goal.invariant_of-self
+invariant_of-self g c = record {
+  by_right = ∥∥₁_map c.args.self.now.by_right (came c.in-Some.facts.now c.args.message.now c.args.is_own c.as_bytes.result.now c.offer.result c.offer.new.self
+      c.in-Some.ensures.facts c.in-Some.ensures.hears (c.as_bytes.ensures ∙ c.in-Ok.ensures.ok) c.offer.ensures.waiting c.offer.ensures.handed);
+}

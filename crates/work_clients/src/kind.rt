@@ -1,0 +1,11 @@
+//! Connections to clients.
+use bnc_ports::Kind;
+
+/// The kind of connections to clients: all that is told over one is told by right.
+pub struct ToClient;
+
+impl Kind for ToClient {
+    ghost use Rattle.work_clients.specs.Course.{IsToldByRight};
+
+    ghost may_be_told = { IsToldByRight };
+}
