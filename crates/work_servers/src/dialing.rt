@@ -1,10 +1,11 @@
 //! How connections with networks' servers begin and end.
+use crate::kind::ToServer;
 use crate::server::Server;
 use crate::servers::Servers;
 use crate::standing::{Standing, down_entry};
-use bnc_ports::{Dial, Event, Port, Reason};
+use bnc_ports::{Carries, Connection, Dial, Event, Port, Reason};
 use byte_text::{NoMemory, Text};
-use upstream_session::{UpEffect, Upstream};
+use passed_lines::{NetworkSession, ServerEffects};
 use work_desk::{Desk, RETRY, Site};
 use work_timers::Timer;
 
@@ -12,11 +13,11 @@ use work_timers::Timer;
 const QUIET: u64 = 300_000;
 
 // A session with a network's server, from that serial number on.
-fn session_of(site: &Site, network: usize, serial: u64) -> Result<Upstream, NoMemory> {
+fn session_of(site: &Site, network: usize, serial: u64) -> Result<NetworkSession, NoMemory> {
     let me = site.terms.me();
     let node = Text::new(site.alloc, me.node().as_bytes())?;
     match site.config(network) {
-        Some(config) => Ok(Upstream::new(site.alloc, config, node, me.incarnation(), serial)),
+        Some(config) => { NetworkSession::new(site.alloc, config, node, me.incarnation(), serial) }
         None => Err(NoMemory),
     }
 }
@@ -34,7 +35,7 @@ fn put_off<P: Port>(desk: &mut Desk<P>, network: usize, reason: Reason) {
     desk.set_timer(Timer::RetryNetwork(network), RETRY);
 }
 
-impl Servers {
+impl<C: Connection> Servers<C> {
     /// Begins the connections with the servers of those networks that this worker serves.
     pub fn dial_all<P: Port>(&mut self, desk: &mut Desk<P>) {
         for network in 0..desk.site.networks.len() {
@@ -58,37 +59,56 @@ impl Servers {
         put_off(desk, network, Reason::Unreachable);
     }
 
-    // Takes up the network's session over a connection: what it begins with.
+    // The network's next session, for which there is room in the queue, and what it begins with.
+    fn next_session(
+        &mut self,
+        site: &Site,
+        network: usize,
+    ) -> Result<(NetworkSession, ServerEffects), NoMemory> {
+        self.make_room()?;
+        let session = session_of(site, network, self.serial_of(network))?;
+        let effects = session.start(site.alloc)?;
+        Ok((session, effects))
+    }
+
+    // Takes up the network's session over a connection: what it begins with. For want of memory the connection comes back.
     fn take_up(
         &mut self,
         site: &Site,
         line: usize,
+        connection: C,
         network: usize,
-    ) -> Result<Vec<UpEffect>, NoMemory> {
-        self.make_room()?;
-        let session = session_of(site, network, self.serial_of(network))?;
-        let effects = session.start(site.alloc)?;
-        let server = Server::new(site.alloc, line, network, session, site.now);
-        self.insert(line, server)?;
-        Ok(effects)
+    ) -> Result<ServerEffects, C> {
+        match self.next_session(site, network) {
+            Ok((session, effects)) => {
+                let server = Server::new(site.alloc, connection, network, session, site.now);
+                self.insert(line, server)?;
+                Ok(effects)
+            }
+            Err(NoMemory) => Err(connection),
+        }
     }
 
     /// A connection with a network's server is there: what is to be done first. Where there is no memory it is closed, and
-    /// tried again later.
-    pub fn begin<P: Port>(
+    /// tried again later; where the port doesn't hand it out, it is tried again too.
+    pub fn begin<P: Port + Carries<ToServer, Connection = C>>(
         &mut self,
         desk: &mut Desk<P>,
         line: usize,
         network: usize,
-    ) -> Option<Vec<UpEffect>> {
-        match self.take_up(&desk.site, line, network) {
+    ) -> Option<ServerEffects> {
+        let Some(connection) = desk.port.open(line) else {
+            self.retry(desk, network);
+            return None;
+        };
+        match self.take_up(&desk.site, line, connection, network) {
             Ok(effects) => {
                 self.set_line(network, Some(line));
                 desk.set_timer(Timer::QuietUpstream(line), QUIET);
                 Some(effects)
             }
-            Err(NoMemory) => {
-                desk.port.close(line);
+            Err(connection) => {
+                desk.port.close(connection);
                 self.set_line(network, None);
                 put_off(desk, network, Reason::NoMemory);
                 None
@@ -97,7 +117,11 @@ impl Servers {
     }
 
     /// A server that was silent for long is given up.
-    pub fn check_quiet<P: Port>(&mut self, desk: &mut Desk<P>, line: usize) -> Option<Standing> {
+    pub fn check_quiet<P: Port + Carries<ToServer, Connection = C>>(
+        &mut self,
+        desk: &mut Desk<P>,
+        line: usize,
+    ) -> Option<Standing> {
         let until = self.all.get(&line)?.heard_at.saturating_add(QUIET);
         if until <= desk.site.now {
             return self.close(desk, line, Reason::Silent);
@@ -108,14 +132,19 @@ impl Servers {
     }
 
     /// Closes the connection with a network's server, which is tried again later. None where there is no such connection.
-    pub fn close<P: Port>(
+    pub fn close<P: Port + Carries<ToServer, Connection = C>>(
         &mut self,
         desk: &mut Desk<P>,
         line: usize,
         reason: Reason,
     ) -> Option<Standing> {
-        let Standing { network, entry } = self.remove(line)?;
-        desk.port.close(line);
+        let Server {
+            pipe,
+            network,
+            entry,
+            ..
+        } = self.remove(line)?;
+        desk.port.close(pipe.into_connection());
         desk.timers.clear(Timer::QuietUpstream(line));
         put_off(desk, network, reason);
         let entry = down_entry(desk.site.alloc, entry);

@@ -7,11 +7,13 @@
 #![tactic(auto)]
 
 mod dialing;
+mod kind;
 mod server;
 mod servers;
 mod standing;
 mod turns;
 
+pub use kind::ToServer;
 pub use server::ServerStep;
 pub use servers::Servers;
 pub use standing::Standing;

@@ -1,14 +1,15 @@
 //! One connection with the server of a network.
+use crate::kind::ToServer;
 use crate::standing::is_same_entry;
-use bnc_ports::{Port, Reason};
+use bnc_ports::{Carries, Connection, Port, Reason};
 use byte_text::Text;
 use client_directory::Entry;
 use irc_line::Next;
+use passed_lines::{NetworkSession, ServerEffects};
 use std::alloc::Global;
 use std::collections::VecDeque;
-use upstream_session::{UpEffect, Upstream};
 use work_desk::{Desk, Fate};
-use work_lines::{Filled, Pipe, Pumped};
+use work_lines::{Filled, Input, Pipe, Pumped};
 
 /// The most bytes that wait for a server.
 const MOST_OWED: usize = 65_536;
@@ -17,7 +18,7 @@ const MOST_OWED: usize = 65_536;
 #[derive(Drop)]
 pub enum ServerStep {
     /// A line came, and this is to be done.
-    Do(Vec<UpEffect>),
+    Do(ServerEffects),
     /// There may be more: the next step tells.
     Again,
     /// There is nothing more for now.
@@ -28,11 +29,14 @@ pub enum ServerStep {
 
 /// A connection with the server of a network.
 #[derive(Drop)]
-pub(crate) struct Server {
-    pub(crate) pipe: Pipe,
+pub(crate) struct Server<C: Connection> {
+    pub(crate) input: Input,
+    pub(crate) pipe: Pipe<C>,
+    // whether it stands in the queue of those that have something to do
+    pub(crate) is_queued: bool,
     // the place of its network among those of the node
     pub(crate) network: usize,
-    pub(crate) session: Upstream,
+    pub(crate) session: NetworkSession,
     // how the session stands, as all workers know it
     pub(crate) entry: Entry,
     // when bytes came last, in milliseconds
@@ -40,18 +44,20 @@ pub(crate) struct Server {
     pub(crate) fate: Fate,
 }
 
-impl Server {
+impl<C: Connection> Server<C> {
     /// A session with a network's server that begins over a connection, at that moment. All workers know the network as down.
     pub(crate) fn new(
         alloc: Global,
-        line: usize,
+        connection: C,
         network: usize,
-        session: Upstream,
+        session: NetworkSession,
         now: u64,
-    ) -> Server {
+    ) -> Server<C> {
         let nick = Text::of(Vec::new(alloc));
         Server {
-            pipe: Pipe::new(alloc, line),
+            input: Input::new(alloc),
+            pipe: Pipe::new(alloc, connection),
+            is_queued: false,
             network,
             session,
             entry: Entry::new(false, nick, Vec::new(alloc), false),
@@ -62,8 +68,8 @@ impl Server {
 
     /// Stands in the queue.
     pub(crate) fn wake(&mut self, busy: &mut VecDeque<usize>, line: usize) {
-        if self.pipe.queue() && busy.push_back(line).is_err() {
-            self.pipe.unqueue();
+        if !self.is_queued && busy.push_back(line).is_ok() {
+            self.is_queued = true;
         }
     }
 
@@ -103,11 +109,14 @@ impl Server {
     }
 
     /// What the next line comes to, or more bytes where there is none.
-    pub(crate) fn step<P: Port>(&mut self, desk: &mut Desk<P>) -> ServerStep {
+    pub(crate) fn step<P: Port + Carries<ToServer, Connection = C>>(
+        &mut self,
+        desk: &mut Desk<P>,
+    ) -> ServerStep {
         if self.fate != Fate::Stays {
             return ServerStep::Rest;
         }
-        match self.pipe.next_line() {
+        match self.input.next_line() {
             Next::Line(bytes) => {
                 match self.session.step(desk.site.alloc, bytes, desk.site.moment) {
                     Ok(effects) => ServerStep::Do(effects),
@@ -120,7 +129,10 @@ impl Server {
     }
 
     // Takes in more bytes.
-    fn fill<P: Port>(&mut self, desk: &mut Desk<P>) -> ServerStep {
+    fn fill<P: Port + Carries<ToServer, Connection = C>>(
+        &mut self,
+        desk: &mut Desk<P>,
+    ) -> ServerStep {
         let Desk {
             site,
             port,
@@ -128,7 +140,8 @@ impl Server {
             feeders,
             ..
         } = desk;
-        match self.pipe.fill(port, chunk, feeders) {
+        let Server { input, pipe, .. } = self;
+        match pipe.fill::<ToServer, P>(input, port, chunk, feeders) {
             Filled::More => {
                 self.heard_at = site.now;
                 ServerStep::Again

@@ -1,9 +1,8 @@
 //! The table of a worker's servers.
 use crate::server::Server;
-use crate::standing::Standing;
-use bnc_ports::Reason;
+use bnc_ports::{Connection, Reason};
 use byte_text::NoMemory;
-use std::alloc::{AllocError, Global};
+use std::alloc::Global;
 use std::collections::{BTreeMap, VecDeque};
 use work_desk::Fate;
 
@@ -23,16 +22,16 @@ struct NetworkLine {
 
 /// A worker's servers, by the numbers of their connections.
 #[derive(Drop)]
-pub struct Servers {
-    pub(crate) all: BTreeMap<usize, Server>,
+pub struct Servers<C: Connection> {
+    pub(crate) all: BTreeMap<usize, Server<C>>,
     // of all networks; those of other workers stay empty
     networks: Vec<NetworkLine>,
     busy: VecDeque<usize>,
 }
 
-impl Servers {
+impl<C: Connection> Servers<C> {
     /// No servers yet, of so many networks.
-    pub fn new(alloc: Global, networks: usize) -> Result<Servers, NoMemory> {
+    pub fn new(alloc: Global, networks: usize) -> Result<Servers<C>, NoMemory> {
         let network_line = NetworkLine {
             line: None,
             serial: FIRST_SERIAL,
@@ -76,27 +75,28 @@ impl Servers {
     }
 
     /// A session with a network's server has begun over a connection. There is [room](Servers::make_room) for it. For want of
-    /// memory nothing changes.
-    pub(crate) fn insert(&mut self, line: usize, server: Server) -> Result<(), NoMemory> {
-        drop(self.all.insert(line, server).map_err(AllocError::from)?);
-        Ok(())
+    /// memory nothing changes, and the connection comes back.
+    pub(crate) fn insert(&mut self, line: usize, server: Server<C>) -> Result<(), C> {
+        match self.all.insert(line, server) {
+            Ok(before) => {
+                drop(before);
+                Ok(())
+            }
+            Err(refused) => {
+                let (_, server) = refused.value;
+                Err(server.pipe.into_connection())
+            }
+        }
     }
 
-    /// Takes a server out, and tells how all workers know its session. Its network's next session goes on from its serial
-    /// number.
-    pub(crate) fn remove(&mut self, line: usize) -> Option<Standing> {
-        let Server {
-            network,
-            session,
-            entry,
-            ..
-        } = self.all.remove(&line)?;
-        if let Some(network_line) = self.networks.get_mut(network) {
+    /// Takes a server out. Its network's next session goes on from its serial number.
+    pub(crate) fn remove(&mut self, line: usize) -> Option<Server<C>> {
+        let server = self.all.remove(&line)?;
+        if let Some(network_line) = self.networks.get_mut(server.network) {
             network_line.line = None;
-            network_line.serial = session.serial();
+            network_line.serial = server.session.serial();
         }
-        drop(session);
-        Some(Standing { network, entry })
+        Some(server)
     }
 
     /// The network of that connection, by its place among those of the node.
@@ -122,7 +122,12 @@ impl Servers {
         let Servers { all, busy, .. } = self;
         match all.get_mut(&line) {
             Some(server) => {
-                server.pipe.mark(readable, writable);
+                if readable {
+                    server.input.mark_readable();
+                }
+                if writable {
+                    server.pipe.mark_writable();
+                }
                 server.wake(busy, line);
                 true
             }
@@ -159,7 +164,7 @@ impl Servers {
     pub fn next_busy(&mut self) -> Option<usize> {
         let line = self.busy.pop_front()?;
         if let Some(server) = self.all.get_mut(&line) {
-            server.pipe.unqueue();
+            server.is_queued = false;
         }
         Some(line)
     }

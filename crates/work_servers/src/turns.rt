@@ -1,10 +1,11 @@
 //! The turns of networks' servers: their lines, lines for them, and what is written to them.
+use crate::kind::ToServer;
 use crate::server::ServerStep;
 use crate::servers::Servers;
 use crate::standing::Standing;
-use bnc_ports::{Event, Port, Reason};
+use bnc_ports::{Carries, Connection, Event, Port, Reason};
 use byte_text::NoMemory;
-use upstream_session::UpEffect;
+use passed_lines::ServerEffects;
 use work_desk::{Desk, Fate, Site};
 use work_lines::Pumped;
 
@@ -13,7 +14,7 @@ use work_lines::Pumped;
 pub struct Said {
     /// The connection with the server.
     pub line: usize,
-    pub effects: Result<Vec<UpEffect>, NoMemory>,
+    pub effects: Result<ServerEffects, NoMemory>,
 }
 
 // The operator is told that the network is up.
@@ -27,9 +28,13 @@ fn report_up<P: Port>(port: &mut P, site: &Site, network: usize, nick: &[u8]) {
     }
 }
 
-impl Servers {
+impl<C: Connection> Servers<C> {
     /// What the server's next line comes to, or more bytes of it. A server whose connection is to be closed has no next line.
-    pub fn step<P: Port>(&mut self, desk: &mut Desk<P>, line: usize) -> ServerStep {
+    pub fn step<P: Port + Carries<ToServer, Connection = C>>(
+        &mut self,
+        desk: &mut Desk<P>,
+        line: usize,
+    ) -> ServerStep {
         match self.all.get_mut(&line) {
             Some(server) => server.step(desk),
             None => ServerStep::Rest,
@@ -37,12 +42,16 @@ impl Servers {
     }
 
     /// Writes what waits for the server, by one write, and closes the connection where that is due.
-    pub fn finish<P: Port>(&mut self, desk: &mut Desk<P>, line: usize) -> Option<Standing> {
+    pub fn finish<P: Port + Carries<ToServer, Connection = C>>(
+        &mut self,
+        desk: &mut Desk<P>,
+        line: usize,
+    ) -> Option<Standing> {
         let server = self.all.get_mut(&line)?;
         if let Fate::Lost(reason) = server.fate {
             return self.close(desk, line, reason);
         }
-        let pumped = server.pipe.pump(&mut desk.port);
+        let pumped = server.pipe.pump::<ToServer, P>(&mut desk.port);
         if let Some(reason) = server.end_after(pumped) {
             return self.close(desk, line, reason);
         }
@@ -66,7 +75,7 @@ impl Servers {
     }
 
     /// Takes back a list of effects, once they are done, so that the server's next line can be answered in its room.
-    pub fn recycle(&mut self, line: usize, effects: Vec<UpEffect>) {
+    pub fn recycle(&mut self, line: usize, effects: ServerEffects) {
         if let Some(server) = self.all.get_mut(&line) {
             server.session.recycle(effects);
         }
