@@ -1,54 +1,87 @@
 //! How connections with peers begin and end.
+use crate::kind::ToPeer;
 use crate::peer::Peer;
 use crate::peers::Peers;
-use bnc_ports::{Event, Port, Reason};
-use byte_text::NoMemory;
+use bnc_ports::{Carries, Connection, Event, Port, Reason};
 use gossip_link::Side;
 use peer_session::PeerSession;
+use std::net::SocketAddr;
 use work_desk::{Desk, PATIENCE, Site};
-use work_lines::Pipe;
 use work_timers::Timer;
 
-impl Peers {
-    /// A connection with a peer is there: with the one at that place, to which this node opened it, or one that the other
-    /// node opened. Where there is no memory it is closed, and the operator is told.
-    pub fn begin<P: Port>(&mut self, desk: &mut Desk<P>, line: usize, dialed: Option<usize>) {
-        match self.open(&desk.site, line, dialed) {
+impl<C: Connection> Peers<C> {
+    /// A connection with a peer is there, by its number: with the one at that place, to which this node opened it, or one that
+    /// the other node opened. Where the port doesn't hand it out, or there is no memory, the operator is told, and it is closed.
+    pub fn begin<P: Carries<ToPeer, Connection = C>>(
+        &mut self,
+        desk: &mut Desk<P>,
+        line: usize,
+        dialed: Option<usize>,
+    ) {
+        // Where the port gives a number again, the connection that bore it before is closed.
+        self.close(desk, line, Reason::Replaced);
+        let Some(connection) = desk.port.open(line) else {
+            self.refuse(desk, None, Reason::Unreachable, dialed);
+            return;
+        };
+        match self.open(&desk.site, line, connection, dialed) {
             Ok(()) => {
                 self.wake(line);
                 if desk.set_patience(line, PATIENCE).is_err() {
                     self.close(desk, line, Reason::NoMemory);
                 }
             }
-            Err(NoMemory) => {
-                let address = desk.port.address(line);
-                desk.port.close(line);
-                desk.port.report(&Event::PeerRefused {
-                    address,
-                    reason: Reason::NoMemory,
-                });
-                if let Some(place) = dialed {
-                    self.dial_later(desk, place);
-                }
+            Err(connection) => {
+                let address = desk.port.address(&connection);
+                desk.port.close(connection);
+                self.refuse(desk, address, Reason::NoMemory, dialed);
             }
         }
     }
 
-    // Takes a new connection in, with what is to be sent before any line came.
-    fn open(&mut self, site: &Site, line: usize, dialed: Option<usize>) -> Result<(), NoMemory> {
+    // Takes a new connection in, with what is to be sent before any line came. For want of memory it is handed back.
+    fn open(
+        &mut self,
+        site: &Site,
+        line: usize,
+        connection: C,
+        dialed: Option<usize>,
+    ) -> Result<(), C> {
         let side = match dialed {
             Some(place) => Side::Opener(place),
             None => Side::Acceptor,
         };
-        self.make_room()?;
-        let pipe = Pipe::new(site.alloc, line);
-        let mut peer = Peer::new(pipe, PeerSession::new(side), dialed, site.now);
-        peer.open(&site.terms, &mut self.out)?;
-        self.add(line, peer)
+        let session = PeerSession::new(side);
+        let mut peer = Peer::new(site.alloc, connection, session, dialed, site.now);
+        if self.make_room().is_err() || peer.open(&site.terms, &mut self.out).is_err() {
+            return Err(peer.pipe.into_connection());
+        }
+        match self.add(line, peer) {
+            Ok(()) => Ok(()),
+            Err(peer) => Err(peer.pipe.into_connection()),
+        }
+    }
+
+    // Tells the operator of a connection that isn't taken in, and why. A peer to which this node opened it is dialed later.
+    fn refuse<P: Port>(
+        &self,
+        desk: &mut Desk<P>,
+        address: Option<SocketAddr>,
+        reason: Reason,
+        dialed: Option<usize>,
+    ) {
+        desk.port.report(&Event::PeerRefused { address, reason });
+        if let Some(place) = dialed {
+            self.dial_later(desk, place);
+        }
     }
 
     /// A connection over which no peer has said hello is closed.
-    pub fn check_greeted<P: Port>(&mut self, desk: &mut Desk<P>, line: usize) {
+    pub fn check_greeted<P: Carries<ToPeer, Connection = C>>(
+        &mut self,
+        desk: &mut Desk<P>,
+        line: usize,
+    ) {
         let is_late = match self.all.get(&line) {
             Some(peer) => peer.place.is_none(),
             None => false,
@@ -60,7 +93,12 @@ impl Peers {
 
     /// A message of the peer at that place came over that connection. Where it is the first one, the peer's older
     /// connection is closed. A connection that was opened to another peer is closed.
-    pub fn greet<P: Port>(&mut self, desk: &mut Desk<P>, line: usize, place: usize) {
+    pub fn greet<P: Carries<ToPeer, Connection = C>>(
+        &mut self,
+        desk: &mut Desk<P>,
+        line: usize,
+        place: usize,
+    ) {
         let Some(peer) = self.all.get(&line) else {
             return;
         };
@@ -82,15 +120,27 @@ impl Peers {
 
     /// Closes a connection, and tells the operator why. Where this node opens the connections with its peer, it dials
     /// the peer later. A connection that isn't there is passed over.
-    pub fn close<P: Port>(&mut self, desk: &mut Desk<P>, line: usize, reason: Reason) {
-        let Some(Peer { dialed, place, .. }) = self.remove(line) else {
+    pub fn close<P: Carries<ToPeer, Connection = C>>(
+        &mut self,
+        desk: &mut Desk<P>,
+        line: usize,
+        reason: Reason,
+    ) {
+        let Some(peer) = self.remove(line) else {
             return;
         };
         desk.timers.clear(Timer::Unregistered(line));
         desk.timers.clear(Timer::UnansweredPacket(line));
         desk.timers.clear(Timer::QuietPeer(line));
-        let address = desk.port.address(line);
-        desk.port.close(line);
+        let Peer {
+            pipe,
+            dialed,
+            place,
+            ..
+        } = peer;
+        let connection = pipe.into_connection();
+        let address = desk.port.address(&connection);
+        desk.port.close(connection);
         match self.name(place) {
             Some(node) => desk.port.report(&Event::PeerDown { node, reason }),
             None => desk.port.report(&Event::PeerRefused { address, reason }),

@@ -1,10 +1,10 @@
 //! Connections that this node opens.
 use crate::peers::Peers;
-use bnc_ports::{Dial, Event, Port, Reason};
+use bnc_ports::{Connection, Dial, Event, Port, Reason};
 use work_desk::{Desk, RETRY};
 use work_timers::Timer;
 
-impl Peers {
+impl<C: Connection> Peers<C> {
     /// Begins a connection with each peer to which this node is to open one.
     pub fn dial_all<P: Port>(&mut self, desk: &mut Desk<P>) {
         for place in 0..self.neighbours.len() {

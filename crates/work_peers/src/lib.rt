@@ -11,6 +11,7 @@
 
 mod connections;
 mod dialing;
+mod kind;
 mod lives;
 mod neighbour;
 mod packets;
@@ -19,5 +20,6 @@ mod peers;
 mod quiet;
 mod turns;
 
+pub use kind::ToPeer;
 pub use peers::Peers;
 pub use turns::PeerStep;

@@ -2,7 +2,7 @@
 //! peer knows a later life of it. That is so where a clock was set back before a start.
 use crate::peer::Peer;
 use crate::peers::Peers;
-use bnc_ports::{Event, Port, Reason};
+use bnc_ports::{Connection, Event, Port, Reason};
 use byte_text::NoMemory;
 use gossip_link::{Ack, Arrived, Life, NodeName, Terms, write_ack};
 use peer_session::Outcome;
@@ -29,7 +29,7 @@ fn acknowledge_nothing(
     }
 }
 
-impl Peer {
+impl<C: Connection> Peer<C> {
     // The peer is to see that it is behind its life of that incarnation: by an acknowledgement of nothing to that life.
     fn owe_last_life(&mut self, site: &Site, name: &NodeName, incarnation: u64, out: &mut Vec<u8>) {
         out.clear();
@@ -40,7 +40,7 @@ impl Peer {
     }
 }
 
-impl Peers {
+impl<C: Connection> Peers<C> {
     /// Notes what a message of the peer at that place, which came to that, says of lives.
     pub(crate) fn note_lives<P: Port>(
         &mut self,

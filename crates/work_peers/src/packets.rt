@@ -1,7 +1,8 @@
 //! Packets of changes, between this node and its peers.
+use crate::kind::ToPeer;
 use crate::peer::Peer;
 use crate::peers::Peers;
-use bnc_ports::{Port, Reason};
+use bnc_ports::{Carries, Connection, Port, Reason};
 use byte_text::NoMemory;
 use gossip_delta::{Source, Taker};
 use gossip_link::{Arrived, Link, LinkFault};
@@ -9,7 +10,7 @@ use peer_session::Outcome;
 use work_desk::{Desk, Site};
 use work_timers::Timer;
 
-impl Peer {
+impl<C: Connection> Peer<C> {
     // Makes the next packet, where one is due. It waits for the peer.
     fn send_next<S: Source>(
         &mut self,
@@ -30,7 +31,7 @@ impl Peer {
     }
 }
 
-impl Peers {
+impl<C: Connection> Peers<C> {
     /// Carries out a message of the peer at that place, which came over that connection: the taker takes the changes of a
     /// packet, and the acknowledgement waits for the peer. The operator is told once a connection what the peer's hello came
     /// to, and where the peer knows a later life of this node. After `Taken` and `TakenInPart` it is time to
@@ -110,7 +111,7 @@ impl Peers {
     }
 
     /// A packet waited long enough for its acknowledgement: it is made again, or the connection is closed.
-    pub fn check_answered<P: Port, S: Source>(
+    pub fn check_answered<P: Carries<ToPeer, Connection = C>, S: Source>(
         &mut self,
         desk: &mut Desk<P>,
         line: usize,

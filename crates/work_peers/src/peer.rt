@@ -1,17 +1,22 @@
 //! A connection with a peer.
-use bnc_ports::Reason;
+use bnc_ports::{Connection, Reason};
 use byte_text::NoMemory;
 use gossip_link::Terms;
 use peer_session::PeerSession;
-use work_lines::Pipe;
+use std::alloc::Global;
+use std::collections::VecDeque;
+use work_lines::{Input, Pipe};
 
 /// The most bytes that wait for a peer: some packets.
 const MOST_OWED: usize = 1_048_576;
 
 /// A connection with a peer.
 #[derive(Drop)]
-pub(crate) struct Peer {
-    pub(crate) pipe: Pipe,
+pub(crate) struct Peer<C: Connection> {
+    pub(crate) input: Input,
+    pub(crate) pipe: Pipe<C>,
+    // Whether it stands in its worker's queue.
+    is_queued: bool,
     pub(crate) session: PeerSession,
     /// The place of the peer to which this node connected.
     pub(crate) dialed: Option<usize>,
@@ -29,11 +34,19 @@ pub(crate) struct Peer {
     pub(crate) is_behind: bool,
 }
 
-impl Peer {
+impl<C: Connection> Peer<C> {
     /// A new connection, to the peer at that place where this node opened it. It is there from that moment on.
-    pub(crate) fn new(pipe: Pipe, session: PeerSession, dialed: Option<usize>, now: u64) -> Peer {
+    pub(crate) fn new(
+        alloc: Global,
+        connection: C,
+        session: PeerSession,
+        dialed: Option<usize>,
+        now: u64,
+    ) -> Peer<C> {
         Peer {
-            pipe,
+            input: Input::new(alloc),
+            pipe: Pipe::new(alloc, connection),
+            is_queued: false,
             session,
             dialed,
             place: None,
@@ -42,6 +55,28 @@ impl Peer {
             said_at: now,
             is_judged: false,
             is_behind: false,
+        }
+    }
+
+    /// Stands in the queue.
+    pub(crate) fn queue(&mut self, busy: &mut VecDeque<usize>, line: usize) {
+        if !self.is_queued && busy.push_back(line).is_ok() {
+            self.is_queued = true;
+        }
+    }
+
+    /// It was taken out of the queue.
+    pub(crate) fn unqueue(&mut self) {
+        self.is_queued = false;
+    }
+
+    /// What the port tells of the connection.
+    pub(crate) fn mark(&mut self, readable: bool, writable: bool) {
+        if readable {
+            self.input.mark_readable();
+        }
+        if writable {
+            self.pipe.mark_writable();
         }
     }
 

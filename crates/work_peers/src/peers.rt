@@ -1,6 +1,7 @@
 //! A worker's peers, by the numbers of their connections.
 use crate::neighbour::Neighbour;
 use crate::peer::Peer;
+use bnc_ports::Connection;
 use byte_text::NoMemory;
 use gossip_link::{NodeName, Terms};
 use std::alloc::{AllocError, Global};
@@ -8,8 +9,8 @@ use std::collections::{BTreeMap, VecDeque};
 
 /// A worker's peers, by the numbers of their connections. Places are those of the peers in the node's terms, from 0.
 #[derive(Drop)]
-pub struct Peers {
-    pub(crate) all: BTreeMap<usize, Peer>,
+pub struct Peers<C: Connection> {
+    pub(crate) all: BTreeMap<usize, Peer<C>>,
     /// In the order of the node's terms.
     pub(crate) neighbours: Vec<Neighbour>,
     // Those connections that have something to do.
@@ -18,16 +19,9 @@ pub struct Peers {
     pub(crate) out: Vec<u8>,
 }
 
-// Has the connection stand in the queue.
-fn queue(peer: &mut Peer, busy: &mut VecDeque<usize>, line: usize) {
-    if peer.pipe.queue() && busy.push_back(line).is_err() {
-        peer.pipe.unqueue();
-    }
-}
-
-impl Peers {
+impl<C: Connection> Peers<C> {
     /// No connections yet, with the peers of these names, in the order of the node's terms.
-    pub fn new(alloc: Global, terms: &Terms, names: Vec<NodeName>) -> Result<Peers, NoMemory> {
+    pub fn new(alloc: Global, terms: &Terms, names: Vec<NodeName>) -> Result<Peers<C>, NoMemory> {
         let mut neighbours = Vec::new(alloc);
         for name in names {
             let neighbour = Neighbour::new(alloc, terms, name)?;
@@ -49,14 +43,17 @@ impl Peers {
         }
     }
 
-    /// Takes a connection in. There is [room](Peers::make_room) for it.
-    pub(crate) fn add(&mut self, line: usize, peer: Peer) -> Result<(), NoMemory> {
-        drop(self.all.insert(line, peer).map_err(AllocError::from)?);
-        Ok(())
+    /// Takes a connection in, whose number no other has. There is [room](Peers::make_room) for it. For want of memory it is
+    /// handed back.
+    pub(crate) fn add(&mut self, line: usize, peer: Peer<C>) -> Result<(), Peer<C>> {
+        match self.all.insert(line, peer) {
+            Ok(_) => Ok(()),
+            Err(failed) => Err(failed.value.1),
+        }
     }
 
     /// Takes a connection out.
-    pub(crate) fn remove(&mut self, line: usize) -> Option<Peer> {
+    pub(crate) fn remove(&mut self, line: usize) -> Option<Peer<C>> {
         for neighbour in self.neighbours.iter_mut() {
             if neighbour.line == Some(line) {
                 neighbour.line = None;
@@ -104,7 +101,7 @@ impl Peers {
     pub fn wake(&mut self, line: usize) {
         let Peers { all, busy, .. } = self;
         if let Some(peer) = all.get_mut(&line) {
-            queue(peer, busy, line);
+            peer.queue(busy, line);
         }
     }
 
@@ -113,8 +110,8 @@ impl Peers {
         let Peers { all, busy, .. } = self;
         match all.get_mut(&line) {
             Some(peer) => {
-                peer.pipe.mark(readable, writable);
-                queue(peer, busy, line);
+                peer.mark(readable, writable);
+                peer.queue(busy, line);
                 true
             }
             None => false,
@@ -130,7 +127,7 @@ impl Peers {
     pub fn next_busy(&mut self) -> Option<usize> {
         let line = self.busy.pop_front()?;
         if let Some(peer) = self.all.get_mut(&line) {
-            peer.pipe.unqueue();
+            peer.unqueue();
         }
         Some(line)
     }

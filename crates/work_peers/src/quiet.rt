@@ -1,7 +1,8 @@
 //! Connections over which nothing goes, and peers with which there is none.
+use crate::kind::ToPeer;
 use crate::peer::Peer;
 use crate::peers::Peers;
-use bnc_ports::{Event, Port, Reason};
+use bnc_ports::{Carries, Connection, Event, Port, Reason};
 use byte_text::NoMemory;
 use peer_session::say_hello_again;
 use work_desk::{Desk, Site};
@@ -16,7 +17,7 @@ const GONE: u64 = 300_000;
 /// The operator is told of a peer with which there was no connection for so many milliseconds.
 const ABSENT: u64 = 120_000;
 
-impl Peer {
+impl<C: Connection> Peer<C> {
     // When the hello is to be said again, where nothing else is sent until then.
     fn hello_due(&self) -> u64 {
         self.said_at.saturating_add(HELLO_AGAIN)
@@ -40,10 +41,14 @@ impl Peer {
     }
 }
 
-impl Peers {
+impl<C: Connection> Peers<C> {
     /// Looks at a connection that is greeted: where nothing came over it for five minutes it is closed, and where the peer was
     /// owed nothing for 60 seconds the own hello waits for it again. It is looked at again once one of the two is due.
-    pub fn check_quiet<P: Port>(&mut self, desk: &mut Desk<P>, line: usize) {
+    pub fn check_quiet<P: Carries<ToPeer, Connection = C>>(
+        &mut self,
+        desk: &mut Desk<P>,
+        line: usize,
+    ) {
         let Peers { all, out, .. } = self;
         let Some(peer) = all.get_mut(&line) else {
             return;

@@ -1,7 +1,8 @@
 //! The turns of peers: what comes over a connection, and what goes out.
+use crate::kind::ToPeer;
 use crate::peer::Peer;
 use crate::peers::Peers;
-use bnc_ports::{Port, Reason};
+use bnc_ports::{Carries, Connection, Reason};
 use byte_text::NoMemory;
 use gossip_link::Arrived;
 use irc_line::Next;
@@ -49,9 +50,13 @@ fn step_of_fill(filled: Filled) -> PeerStep {
     }
 }
 
-impl Peer {
+impl<C: Connection> Peer<C> {
     // The next line, or more bytes for it. What is to be sent because of it is appended.
-    fn step<P: Port>(&mut self, desk: &mut Desk<P>, out: &mut Vec<u8>) -> PeerStep {
+    fn step<P: Carries<ToPeer, Connection = C>>(
+        &mut self,
+        desk: &mut Desk<P>,
+        out: &mut Vec<u8>,
+    ) -> PeerStep {
         if let Some(reason) = self.lost {
             return PeerStep::Over(reason);
         }
@@ -63,13 +68,14 @@ impl Peer {
             ..
         } = desk;
         let Peer {
+            input,
             pipe,
             session,
             place,
             heard_at,
             ..
         } = self;
-        match pipe.next_line() {
+        match input.next_line() {
             Next::Line(bytes) => {
                 let reason = reason_of(*place, bytes);
                 let heard = session.hear(site.alloc, &site.terms, Some(bytes), out);
@@ -80,7 +86,7 @@ impl Peer {
                 step_of(heard, Reason::BadLine)
             }
             Next::More => {
-                let filled = pipe.fill(port, chunk.as_mut_slice(), feeders);
+                let filled = pipe.fill::<ToPeer, P>(input, port, chunk.as_mut_slice(), feeders);
                 if filled == Filled::More {
                     *heard_at = site.now;
                 }
@@ -90,10 +96,14 @@ impl Peer {
     }
 }
 
-impl Peers {
+impl<C: Connection> Peers<C> {
     /// Takes the next line that came over a connection, or more bytes for it. What is to be sent because of the line waits
     /// for the peer.
-    pub fn step<P: Port>(&mut self, desk: &mut Desk<P>, line: usize) -> PeerStep {
+    pub fn step<P: Carries<ToPeer, Connection = C>>(
+        &mut self,
+        desk: &mut Desk<P>,
+        line: usize,
+    ) -> PeerStep {
         let Peers { all, out, .. } = self;
         let Some(peer) = all.get_mut(&line) else {
             return PeerStep::Rest;
@@ -105,9 +115,9 @@ impl Peers {
     }
 
     /// Sends what waits for the peer, by one write. The connection is closed where it can't be.
-    pub fn finish<P: Port>(&mut self, desk: &mut Desk<P>, line: usize) {
+    pub fn finish<P: Carries<ToPeer, Connection = C>>(&mut self, desk: &mut Desk<P>, line: usize) {
         let pumped = match self.all.get_mut(&line) {
-            Some(peer) => peer.pipe.pump(&mut desk.port),
+            Some(peer) => peer.pipe.pump::<ToPeer, P>(&mut desk.port),
             None => return,
         };
         match pumped {
