@@ -1,18 +1,18 @@
 //! The turns of clients.
 use crate::node::Node;
 use crate::station::WorkEnd;
+use crate::work_port::WorkPort;
 use crate::worker::Worker;
 use attach::Attachment;
-use bnc_ports::{Mail, Port, Reason};
+use bnc_ports::{Mail, Reason};
 use chat_change::Change;
-use client_session::Effect;
 use std::slice;
-use work_clients::ClientStep;
+use work_clients::{ClientEffect, ClientStep};
 
 /// So many steps a client has before the others have their turn.
 const STEPS: usize = 64;
 
-impl<N: Node, X: Attachment, P: Port> Worker<N, X, P> {
+impl<N: Node, X: Attachment, P: WorkPort> Worker<N, X, P> {
     /// The turn of one client.
     pub(crate) fn serve_client(&mut self, line: usize) -> Result<(), WorkEnd> {
         for _ in 0..STEPS {
@@ -33,8 +33,8 @@ impl<N: Node, X: Attachment, P: Port> Worker<N, X, P> {
             ..
         } = self;
         match clients.step(desk, node.pass(), line) {
-            ClientStep::Do(effects) => {
-                self.do_client(line, effects)?;
+            ClientStep::Do => {
+                self.do_client(line)?;
                 return Ok(true);
             }
             ClientStep::Again => return Ok(true),
@@ -50,37 +50,48 @@ impl<N: Node, X: Attachment, P: Port> Worker<N, X, P> {
     }
 
     // Does what a line of a client comes to. Where that is refused the client is closed.
-    fn do_client(&mut self, line: usize, effects: Vec<Effect>) -> Result<(), WorkEnd> {
+    fn do_client(&mut self, line: usize) -> Result<(), WorkEnd> {
         self.clients.note_registration(&mut self.desk, line);
-        match self.do_client_effects(line, &effects)? {
-            Ok(()) => self.clients.recycle(line, effects),
-            Err(reason) => self.clients.close(&mut self.desk, line, reason),
+        if let Err(reason) = self.do_client_effects(line)? {
+            self.clients.close(&mut self.desk, line, reason);
         }
         Ok(())
     }
 
-    // Does these in their order, up to one that is refused.
-    fn do_client_effects(
-        &mut self,
-        line: usize,
-        effects: &[Effect],
-    ) -> Result<Result<(), Reason>, WorkEnd> {
-        for effect in effects {
-            let done = match effect {
-                Effect::Send(text) => self.clients.owe(line, text.as_bytes()),
-                Effect::Put(change) => self.put_for(line, change)?,
-                Effect::Ask(question) => self.answer(line, question.as_bytes())?,
-                Effect::Upstream(text) => self.hand_up(line, text.as_bytes())?,
-                Effect::Close => {
-                    self.clients.end(&mut self.desk, line, Reason::Ended);
-                    Ok(())
-                }
+    // Does what is left of it in its order, up to what is refused.
+    fn do_client_effects(&mut self, line: usize) -> Result<Result<(), Reason>, WorkEnd> {
+        for _ in 0..usize::MAX {
+            let effect = match self.clients.next_effect(self.desk.site.alloc, line) {
+                Ok(Some(effect)) => effect,
+                Ok(None) => return Ok(Ok(())),
+                Err(reason) => return Ok(Err(reason)),
             };
+            let done = self.do_client_effect(line, &effect)?;
             if done.is_err() {
                 return Ok(done);
             }
         }
         Ok(Ok(()))
+    }
+
+    // Does what is next.
+    fn do_client_effect(
+        &mut self,
+        line: usize,
+        effect: &ClientEffect,
+    ) -> Result<Result<(), Reason>, WorkEnd> {
+        let done = match effect {
+            // A question that is answered is done.
+            ClientEffect::Ask => return self.answer(line),
+            ClientEffect::Put(change) => self.put_for(line, change)?,
+            ClientEffect::Upstream => self.hand_up(line)?,
+            ClientEffect::Close => {
+                self.clients.end(&mut self.desk, line, Reason::Ended);
+                Ok(())
+            }
+        };
+        self.clients.effect_done(line);
+        Ok(done)
     }
 
     // Puts a client's marker, and tells the other sessions. Where it waits to be published, nobody can be told yet, and the
@@ -96,28 +107,35 @@ impl<N: Node, X: Attachment, P: Port> Worker<N, X, P> {
     }
 
     // Answers a client's question.
-    fn answer(&mut self, line: usize, question: &[u8]) -> Result<Result<(), Reason>, WorkEnd> {
+    fn answer(&mut self, line: usize) -> Result<Result<(), Reason>, WorkEnd> {
         self.ask_gate()?;
-        Ok(
-            self.clients
-                .answer(&mut self.desk, self.node.pass(), line, question),
-        )
+        Ok(self.clients.answer(&mut self.desk, self.node.pass(), line))
     }
 
     // Hands a client's line to the worker that serves its network.
-    fn hand_up(&mut self, line: usize, text: &[u8]) -> Result<Result<(), Reason>, WorkEnd> {
+    fn hand_up(&mut self, line: usize) -> Result<Result<(), Reason>, WorkEnd> {
         let Some(network) = self.clients.network(line) else {
             return Ok(Ok(()));
         };
         let worker = self.desk.site.server_of(network);
-        if worker == self.desk.site.worker {
-            self.say(network, text)?;
+        let Worker {
+            desk,
+            clients,
+            servers,
+            ..
+        } = self;
+        let Some(text) = clients.line_for_server(line) else {
+            return Ok(Ok(()));
+        };
+        if worker == desk.site.worker {
+            let said = servers.say(desk, network, text);
+            self.do_said(said)?;
             return Ok(Ok(()));
         }
-        let Ok(line) = self.desk.share(text) else {
+        let Ok(line) = desk.share(text) else {
             return Ok(Err(Reason::NoMemory));
         };
-        let _ = self.desk.port.post(worker, Mail::Say { network, line });
+        let _ = desk.port.post(worker, Mail::Say { network, line });
         Ok(Ok(()))
     }
 }

@@ -1,8 +1,9 @@
 //! The floors that are due: what is older than the node keeps messages is let go, once an hour.
 use crate::node::Node;
+use crate::work_port::WorkPort;
 use crate::worker::Worker;
 use attach::Attachment;
-use bnc_ports::{Event, Port};
+use bnc_ports::Event;
 use chat_change::Change;
 use shared_node::PutFault;
 use work_desk::BETWEEN_LOOKS;
@@ -17,7 +18,7 @@ fn count_put(done: Result<(), PutFault>, all: usize) -> usize {
     }
 }
 
-impl<N: Node, X: Attachment, P: Port> Worker<N, X, P> {
+impl<N: Node, X: Attachment, P: WorkPort> Worker<N, X, P> {
     /// Puts the floors that are due, and looks again in an hour. A floor can't be taken back: where the clock leapt since the
     /// last look, none is put this time, and the operator is told.
     pub(crate) fn look_after_floors(&mut self) {

@@ -13,9 +13,11 @@ mod peer_turns;
 mod server_turns;
 mod starting;
 mod station;
+mod work_port;
 mod worker;
 
 pub use bnc_ports::{Gate, Lobby, Port};
 pub use starting::{StartFault, work_all};
 pub use station::{Station, WorkEnd};
+pub use work_port::WorkPort;
 pub use worker::work;

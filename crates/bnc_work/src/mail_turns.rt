@@ -1,20 +1,21 @@
 //! What workers tell each other, and what is done for the whole node.
 use crate::node::Node;
 use crate::station::WorkEnd;
+use crate::work_port::WorkPort;
 use crate::worker::Worker;
 use attach::Attachment;
-use bnc_ports::{Mail, Port};
+use bnc_ports::Mail;
 use chat_change::Change;
 use client_directory::Entry;
+use passed_lines::Passed;
 use shared_node::PutFault;
-use upstream_session::Recipients;
 use work_servers::Standing;
 use work_timers::Timer;
 
 /// What waits to be published is tried again after so many milliseconds.
 const SECOND: u64 = 1000;
 
-impl<N: Node, X: Attachment, P: Port> Worker<N, X, P> {
+impl<N: Node, X: Attachment, P: WorkPort> Worker<N, X, P> {
     /// What another worker tells.
     pub(crate) fn read_mail(&mut self, mail: Mail) -> Result<(), WorkEnd> {
         match mail {
@@ -31,9 +32,7 @@ impl<N: Node, X: Attachment, P: Port> Worker<N, X, P> {
                 self.clients
                     .tell_message(&mut self.desk, network, is_own, &message);
             }
-            Mail::Relay { network, to, line } => {
-                return self.pass_on_here(network, to, line.as_bytes());
-            }
+            Mail::Relay { network, line } => return self.pass_on_here(network, &line.lend()),
             Mail::Say { network, line } => return self.say(network, line.as_bytes()),
             Mail::Marked { network, target } => {
                 return self.tell_mark(network, target.as_bytes(), None);
@@ -47,11 +46,10 @@ impl<N: Node, X: Attachment, P: Port> Worker<N, X, P> {
     pub(crate) fn pass_on_here(
         &mut self,
         network: usize,
-        to: Recipients,
-        bytes: &[u8],
+        passed: &Passed<'_>,
     ) -> Result<(), WorkEnd> {
-        self.clients.pass_on(&mut self.desk, network, to, bytes);
-        self.tell_mark_of_joined(network, bytes)
+        self.clients.pass_on(&mut self.desk, network, passed);
+        self.tell_mark_of_joined(network, passed.text)
     }
 
     // How the session with a network's server stands now.

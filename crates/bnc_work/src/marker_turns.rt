@@ -1,9 +1,10 @@
 //! Sessions are told of read markers (IRCv3 draft/read-marker).
 use crate::node::Node;
 use crate::station::WorkEnd;
+use crate::work_port::WorkPort;
 use crate::worker::Worker;
 use attach::Attachment;
-use bnc_ports::{Mail, Port};
+use bnc_ports::Mail;
 use byte_text::{NoMemory, Text};
 use chat_change::Change;
 use irc_line::{TagLimit, read_line};
@@ -38,7 +39,7 @@ fn marker_question(alloc: Global, target: &[u8]) -> Result<Text, NoMemory> {
     }
 }
 
-impl<N: Node, X: Attachment, P: Port> Worker<N, X, P> {
+impl<N: Node, X: Attachment, P: WorkPort> Worker<N, X, P> {
     /// Those sessions of the network that joined a channel by this line of its server are told the channel's read marker.
     pub(crate) fn tell_mark_of_joined(
         &mut self,

@@ -1,9 +1,10 @@
 //! The turns of peers.
 use crate::node::Node;
 use crate::station::WorkEnd;
+use crate::work_port::WorkPort;
 use crate::worker::Worker;
 use attach::Attachment;
-use bnc_ports::{Mail, Port, Reason};
+use bnc_ports::{Mail, Reason};
 use byte_text::NoMemory;
 use chat_change::Change;
 use peer_session::{Arrived, Outcome, changes_of};
@@ -18,7 +19,7 @@ fn has_marks(changes: &[Change]) -> bool {
         .any(|change| matches!(change, Change::Mark { .. }))
 }
 
-impl<N: Node, X: Attachment, P: Port> Worker<N, X, P> {
+impl<N: Node, X: Attachment, P: WorkPort> Worker<N, X, P> {
     /// The turn of one peer.
     pub(crate) fn serve_peer(&mut self, line: usize) -> Result<(), WorkEnd> {
         for _ in 0..STEPS {

@@ -1,21 +1,23 @@
 //! The turns of networks' servers.
 use crate::node::Node;
 use crate::station::WorkEnd;
+use crate::work_port::WorkPort;
 use crate::worker::Worker;
 use attach::Attachment;
 use bnc_ports::{Mail, Port, Reason};
-use byte_text::{NoMemory, Text};
+use byte_text::NoMemory;
 use chat_change::{Change, Record};
+use passed_lines::{Deed, Passed, PassedLine, ServerEffects};
 use shared_node::PutFault;
 use std::slice;
-use upstream_session::{Recipients, UpEffect, is_from};
+use upstream_session::is_from;
 use work_servers::{Said, ServerStep};
 
 /// So many lines of a server are taken before the others have their turn: about as many as one read brings, so that what
 /// they come to is written to each client at once.
 const STEPS: usize = 128;
 
-impl<N: Node, X: Attachment, P: Port> Worker<N, X, P> {
+impl<N: Node, X: Attachment, P: WorkPort> Worker<N, X, P> {
     /// The turn of one server.
     pub(crate) fn serve_server(&mut self, line: usize) -> Result<(), WorkEnd> {
         for _ in 0..STEPS {
@@ -68,7 +70,13 @@ impl<N: Node, X: Attachment, P: Port> Worker<N, X, P> {
 
     /// A client's line for the network's server, where there is one.
     pub(crate) fn say(&mut self, network: usize, bytes: &[u8]) -> Result<(), WorkEnd> {
-        let Some(Said { line, effects }) = self.servers.say(&mut self.desk, network, bytes) else {
+        let said = self.servers.say(&mut self.desk, network, bytes);
+        self.do_said(said)
+    }
+
+    /// Does what a client's line comes to at the network's server.
+    pub(crate) fn do_said(&mut self, said: Option<Said>) -> Result<(), WorkEnd> {
+        let Some(Said { line, effects }) = said else {
             return Ok(());
         };
         match effects {
@@ -82,9 +90,9 @@ impl<N: Node, X: Attachment, P: Port> Worker<N, X, P> {
 
     /// Does what a line of a server, or for it, comes to. Where the node refuses a change, the rest is left and the
     /// connection is closed: nobody is told what the node doesn't have.
-    pub(crate) fn do_server(&mut self, line: usize, effects: Vec<UpEffect>) -> Result<(), WorkEnd> {
+    pub(crate) fn do_server(&mut self, line: usize, effects: ServerEffects) -> Result<(), WorkEnd> {
         if let Some(standing) = self.servers.note_entry(&mut self.desk, line) {
-            self.spread(standing, is_passed_on(&effects));
+            self.spread(standing, effects.has_passed_on());
         }
         if self.do_server_effects(line, &effects)? {
             self.servers.recycle(line, effects);
@@ -95,17 +103,20 @@ impl<N: Node, X: Attachment, P: Port> Worker<N, X, P> {
     }
 
     // Does these in their order. False where the node refuses a change: the rest is left then.
-    fn do_server_effects(&mut self, line: usize, effects: &[UpEffect]) -> Result<bool, WorkEnd> {
-        for effect in effects {
-            match effect {
-                UpEffect::Send(text) => self.servers.owe(line, text.as_bytes()),
-                UpEffect::Put(change) => {
+    fn do_server_effects(&mut self, line: usize, effects: &ServerEffects) -> Result<bool, WorkEnd> {
+        for place in 0..usize::MAX {
+            let Some(deed) = effects.at(place) else {
+                return Ok(true);
+            };
+            match deed {
+                Deed::Send(text) => self.servers.owe(line, text),
+                Deed::Put(change) => {
                     if !self.put_from(line, change) {
                         return Ok(false);
                     }
                 }
-                UpEffect::Relay(text, to) => self.pass_on(line, *to, text)?,
-                UpEffect::Close => {
+                Deed::PassOn(passed) => self.pass_on(line, &passed)?,
+                Deed::Close => {
                     self.servers.end(line, Reason::Ended);
                     self.servers.wake(line);
                 }
@@ -149,36 +160,36 @@ impl<N: Node, X: Attachment, P: Port> Worker<N, X, P> {
     }
 
     // Passes a line of a server on to all workers' sessions of its network.
-    fn pass_on(&mut self, line: usize, to: Recipients, text: &Text) -> Result<(), WorkEnd> {
+    fn pass_on(&mut self, line: usize, passed: &Passed<'_>) -> Result<(), WorkEnd> {
         let Some(network) = self.servers.network(line) else {
             return Ok(());
         };
         if self.desk.site.workers > 1 {
-            self.post_line(network, to, text.as_bytes());
+            self.post_line(network, passed);
         }
-        self.pass_on_here(network, to, text.as_bytes())
+        self.pass_on_here(network, passed)
     }
 
     // Tells the other workers a line that is passed on.
-    fn post_line(&mut self, network: usize, to: Recipients, bytes: &[u8]) {
-        let Ok(shared) = self.desk.share(bytes) else {
+    fn post_line(&mut self, network: usize, passed: &Passed<'_>) {
+        let Ok(shared) = self.share_passed(passed) else {
             return;
         };
         for worker in 0..self.desk.site.workers {
             if worker != self.desk.site.worker {
                 if let Ok(line) = shared.try_clone() {
-                    let mail = Mail::Relay { network, to, line };
+                    let mail = Mail::Relay { network, line };
                     let _ = self.desk.port.post(worker, mail);
                 }
             }
         }
     }
-}
 
-fn is_passed_on(effects: &[UpEffect]) -> bool {
-    effects
-        .iter()
-        .any(|effect| matches!(effect, UpEffect::Relay(_, _)))
+    // A line that is passed on, for other workers.
+    fn share_passed(&mut self, passed: &Passed<'_>) -> Result<PassedLine, NoMemory> {
+        let text = self.desk.share(passed.text)?;
+        PassedLine::new(passed, text)
+    }
 }
 
 fn post_message<P: Port>(

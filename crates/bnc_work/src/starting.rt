@@ -1,8 +1,9 @@
 //! All workers of a node, each on a thread of its own.
 use crate::station::{Station, WorkEnd};
+use crate::work_port::WorkPort;
 use crate::worker::try_work;
 use attach::Attachment;
-use bnc_ports::{Gate, Port};
+use bnc_ports::{Carries, Gate};
 use byte_text::NoMemory;
 use shared_node::{Naming, Pass, SharedNode};
 use std::alloc::AllocError;
@@ -10,6 +11,9 @@ use std::sync::Wait;
 use std::thread;
 use std::thread::Threads;
 use thiserror::Error;
+use work_clients::ToClient;
+use work_peers::ToPeer;
+use work_servers::ToServer;
 
 /// Why not all workers were started. Those that were have run to their end.
 #[derive(Clone, Copy, Debug, PartialEq, Eq, Error)]
@@ -41,7 +45,10 @@ where
     R: Wait + Drop + Send + Sync,
     W: Threads + Wait + AllocGlobal + Sync,
     X: Attachment + Send,
-    P: Port + Send,
+    P: WorkPort + Send,
+    <P as Carries<ToClient>>::Connection: Send,
+    <P as Carries<ToServer>>::Connection: Send,
+    <P as Carries<ToPeer>>::Connection: Send,
     G: Gate,
 {
     each_numbered(

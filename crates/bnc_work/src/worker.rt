@@ -1,18 +1,19 @@
 //! One worker: what comes, and who has something to do.
 use crate::node::{GatedNode, Node};
 use crate::station::{Station, WorkEnd};
+use crate::work_port::WorkPort;
 use attach::Attachment;
-use bnc_ports::{Dial, Gate, Happening, Port};
+use bnc_ports::{Carries, Connection, Dial, Gate, Happening};
 use byte_text::NoMemory;
 use chat_change::Moment;
 use gossip_link::{NodeName, Terms};
 use shared_node::{Naming, NodeTaker, Pass, SharedNode};
 use std::alloc::Global;
 use std::sync::Wait;
-use work_clients::Clients;
+use work_clients::{Clients, ToClient};
 use work_desk::{ClockWatch, Desk, Site, clock};
-use work_peers::Peers;
-use work_servers::Servers;
+use work_peers::{Peers, ToPeer};
+use work_servers::{Servers, ToServer};
 use work_timers::Timer;
 
 /// A worker looks after its timers at least so often, in milliseconds.
@@ -23,14 +24,14 @@ const TIMERS: usize = 64;
 
 /// One worker.
 #[derive(Drop)]
-pub(crate) struct Worker<N: Node, X, P: Port> {
+pub(crate) struct Worker<N: Node, X: Attachment, P: WorkPort> {
     pub(crate) node: N,
     pub(crate) desk: Desk<P>,
     // looks at the clocks before floors are put
     pub(crate) watch: ClockWatch,
-    pub(crate) clients: Clients<X>,
-    pub(crate) servers: Servers,
-    pub(crate) peers: Peers,
+    pub(crate) clients: Clients<X, <P as Carries<ToClient>>::Connection>,
+    pub(crate) servers: Servers<<P as Carries<ToServer>>::Connection>,
+    pub(crate) peers: Peers<<P as Carries<ToPeer>>::Connection>,
     // the number up to which this worker has seen what the node holds
     pub(crate) seen: u64,
 }
@@ -41,7 +42,7 @@ pub(crate) struct Worker<N: Node, X, P: Port> {
 /// It serves clients that connect, in sessions of their own; the servers of its networks, to which it connects; worker 0,
 /// the node's peers; and what other workers tell it. Only what `pass` is asked, the sessions' lines and the messages of
 /// servers are written to clients.
-pub fn work<J: Naming, R: Wait + Drop, W: Wait + AllocGlobal, X: Attachment, P: Port, G: Gate>(
+pub fn work<J: Naming, R: Wait + Drop, W: Wait + AllocGlobal, X: Attachment, P: WorkPort, G: Gate>(
     rt: &W,
     worker: usize,
     node: &SharedNode<J, R>,
@@ -62,7 +63,7 @@ pub(crate) fn try_work<
     R: Wait + Drop,
     W: Wait + AllocGlobal,
     X: Attachment,
-    P: Port,
+    P: WorkPort,
     G: Gate,
 >(
     rt: &W,
@@ -83,7 +84,7 @@ pub(crate) fn try_work<
 }
 
 // Serves from that time on.
-fn serve<W: Wait + AllocGlobal, N: Node, X: Attachment, P: Port>(
+fn serve<W: Wait + AllocGlobal, N: Node, X: Attachment, P: WorkPort>(
     rt: &W,
     number: usize,
     node: N,
@@ -96,18 +97,18 @@ fn serve<W: Wait + AllocGlobal, N: Node, X: Attachment, P: Port>(
 }
 
 // A worker's servers, of so many networks, and its peers, of these names.
-fn tables_of(
+fn tables_of<S: Connection, E: Connection>(
     alloc: Global,
     networks: usize,
     terms: &Terms,
     names: Vec<NodeName>,
-) -> Result<(Servers, Peers), NoMemory> {
+) -> Result<(Servers<S>, Peers<E>), NoMemory> {
     let peers = Peers::new(alloc, terms, names)?;
     let servers = Servers::new(alloc, networks)?;
     Ok((servers, peers))
 }
 
-impl<N: Node, X: Attachment, P: Port> Worker<N, X, P> {
+impl<N: Node, X: Attachment, P: WorkPort> Worker<N, X, P> {
     // The worker of that number, without a connection.
     fn new(
         alloc: Global,
@@ -276,7 +277,7 @@ impl<N: Node, X: Attachment, P: Port> Worker<N, X, P> {
 
     // A connection that was dialed could not be made.
     fn refused(&mut self, line: usize, what: Dial) {
-        self.desk.port.close(line);
+        self.desk.port.give_up(line);
         match what {
             Dial::Network(network) => self.servers.retry(&mut self.desk, network),
             Dial::Peer(place) => self.peers.retry(&mut self.desk, place),

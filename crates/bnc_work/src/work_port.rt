@@ -1,0 +1,10 @@
+//! What a worker's port is.
+use bnc_ports::{Carries, Port};
+use work_clients::ToClient;
+use work_peers::ToPeer;
+use work_servers::ToServer;
+
+/// The port of a worker: it carries connections to clients, to servers of networks, and to peers. Each such port is one.
+pub trait WorkPort: Port + Carries<ToClient> + Carries<ToServer> + Carries<ToPeer> {}
+
+impl<P: Port + Carries<ToClient> + Carries<ToServer> + Carries<ToPeer>> WorkPort for P {}
