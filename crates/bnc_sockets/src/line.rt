@@ -14,6 +14,9 @@ const TRIES: usize = 1_000;
 #[derive(Clone, Copy, PartialEq, Eq)]
 pub(crate) enum Stage {
     Connecting(Dial),
+    // It is there, and its worker has not opened it yet.
+    Connected,
+    // Its worker has it.
     Open,
 }
 
@@ -34,6 +37,15 @@ pub(crate) enum Outcome {
 }
 
 impl Line {
+    // Whether it is there to be opened. It is opened once.
+    pub(crate) fn open(&mut self) -> bool {
+        let is_connected = self.stage == Stage::Connected;
+        if is_connected {
+            self.stage = Stage::Open;
+        }
+        is_connected
+    }
+
     // An event may be an old one, of a line that had the same number: then nothing is known yet.
     pub(crate) fn outcome(&self) -> Outcome {
         match self.stream.take_error() {

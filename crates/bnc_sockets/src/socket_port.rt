@@ -1,9 +1,13 @@
 //! The port of a worker over sockets.
-ghost use Rattle.std.specs.Prelude.{◌≤◌, length, IfOk};
+ghost use Rattle.std.specs.Prelude.{◌≡◌, ◌≤◌, ◌++◌, [], length, take, IfOk, IfSome, OnErr};
+ghost use Rattle.bnc_ports.specs.Outgoing.{BeginsOf};
 
+use crate::connection::SocketConnection;
 use crate::handing::{Mailbox, Parcel};
 use crate::line::{Line, Outcome, Stage};
-use bnc_ports::{Clocks, Dial, Event, Halt, Happening, Mail, Port, PortFault};
+use bnc_ports::{
+    Carries, Clocks, Connection, Dial, Event, Halt, Happening, Kind, Mail, Port, PortFault,
+};
 use bstr::BStr;
 use crossbeam_channel::Receiver;
 use irc_time::{Moment, write_time};
@@ -170,12 +174,12 @@ impl<R: Net + Wait + Clock + Eprint + AllocGlobal + Drop> SocketPort<R> {
                 address,
                 ticket,
             } => {
-                match self.add(stream, address, Stage::Open) {
+                match self.add(stream, address, Stage::Connected) {
                     Some(line) => Happening::Client { line, ticket },
                     None => Happening::Nothing,
                 }
             }
-            Parcel::Peer { stream, address } => match self.add(stream, address, Stage::Open) {
+            Parcel::Peer { stream, address } => match self.add(stream, address, Stage::Connected) {
                 Some(line) => Happening::Peer { line },
                 None => Happening::Nothing,
             },
@@ -234,7 +238,7 @@ impl<R: Net + Wait + Clock + Eprint + AllocGlobal + Drop> SocketPort<R> {
         match kept.outcome() {
             Outcome::Pending => Happening::Nothing,
             Outcome::Connected => {
-                kept.stage = Stage::Open;
+                kept.stage = Stage::Connected;
                 Happening::Opened { line, what }
             }
             Outcome::Failed => {
@@ -281,22 +285,12 @@ impl<R: Net + Wait + Clock + Eprint + AllocGlobal + Drop> Port for SocketPort<R>
         Ok(Happening::Nothing)
     }
 
-    fn receive(&mut self, line: usize, buffer: &mut [u8]) -> Result<usize, Halt> {
-        let Some(kept) = self.lines.get_mut(line) else {
-            return Err(Halt::Closed);
-        };
-        kept.receive(buffer)
-    }
-
-    fn send(&mut self, line: usize, bytes: &[u8]) -> Result<usize, Halt> {
-        let Some(kept) = self.lines.get_mut(line) else {
-            return Err(Halt::Closed);
-        };
-        kept.send(bytes)
-    }
-
-    fn close(&mut self, line: usize) {
-        self.close_line(line);
+    // What a worker opened is closed by its own value alone.
+    fn give_up(&mut self, line: usize) {
+        match self.lines.get(line) {
+            Some(kept) if kept.stage != Stage::Open => self.close_line(line),
+            _ => {}
+        }
     }
 
     fn dial(&mut self, what: Dial) -> Result<usize, PortFault> {
@@ -309,13 +303,6 @@ impl<R: Net + Wait + Clock + Eprint + AllocGlobal + Drop> Port for SocketPort<R>
         match self.add(stream, address, Stage::Connecting(what)) {
             Some(line) => Ok(line),
             None => Err(PortFault),
-        }
-    }
-
-    fn address(&self, line: usize) -> Option<SocketAddr> {
-        match self.lines.get(line) {
-            Some(kept) => Some(kept.address),
-            None => None,
         }
     }
 
@@ -340,6 +327,50 @@ impl<R: Net + Wait + Clock + Eprint + AllocGlobal + Drop> Port for SocketPort<R>
 
     fn report(&mut self, event: &Event<'_>) {
         report(&self.rt, event);
+    }
+}
+
+impl<K: Kind, R: Net + Wait + Clock + Eprint + AllocGlobal + Drop> Carries<K> for SocketPort<R> {
+    type Connection = SocketConnection;
+
+    fn open(&mut self, line: usize) -> Option<SocketConnection> {
+        let kept = self.lines.get_mut(line)?;
+        if kept.open() {
+            Some(SocketConnection::new(line))
+        } else {
+            None
+        }
+    }
+
+    fn receive(
+        &mut self,
+        connection: &mut SocketConnection,
+        buffer: &mut [u8],
+    ) -> Result<usize, Halt> {
+        let Some(line) = self.lines.get_mut(connection.number()) else {
+            return Err(Halt::Closed);
+        };
+        line.receive(buffer)
+    }
+
+    fn send(&mut self, connection: &mut SocketConnection, bytes: &[u8]) -> Result<usize, Halt> {
+        let Some(line) = self.lines.get_mut(connection.number()) else {
+            return Err(Halt::Closed);
+        };
+        let count = line.send(bytes)?;
+        connection.note(&bytes[..count]);
+        Ok(count)
+    }
+
+    fn close(&mut self, connection: SocketConnection) {
+        self.close_line(connection.number());
+    }
+
+    fn address(&self, connection: &SocketConnection) -> Option<SocketAddr> {
+        match self.lines.get(connection.number()) {
+            Some(line) => Some(line.address),
+            None => None,
+        }
     }
 }
 
