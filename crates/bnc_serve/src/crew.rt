@@ -3,7 +3,7 @@ ghost use Rattle.std.specs.Prelude.{◌≡◌, IfOk, map};
 
 use crate::fault::ServeFault;
 use crate::stations::station_of;
-use attach::{Attachment, Hall};
+use attach::Attachment;
 use bnc_ports::{Arrival, Lobby};
 use bnc_sockets::{Addresses, Door, Mailbox, Parcel, SocketPort, waker_of};
 use bnc_work::Station;
@@ -120,7 +120,7 @@ fn port_of<R: Net + Wait + Clock + Eprint + AllocGlobal + Copy + Drop>(
 // A lobby for a worker's clients, and where their attachments are sent.
 fn lobby_of<X: Attachment>(alloc: Global) -> Result<(Sender<Arrival<X>>, Lobby<X>), ServeFault> {
     let (sender, arrivals) = unbounded(alloc)?;
-    Ok((sender, Lobby::new(Hall::new(alloc), arrivals)))
+    Ok((sender, Lobby::new(arrivals)))
 }
 
 impl<R: Net + Wait + Clock + Eprint + AllocGlobal + Copy + Drop, X: Attachment> Crew<R, X> {

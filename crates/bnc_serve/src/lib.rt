@@ -16,5 +16,5 @@ mod stations;
 
 pub use bnc_work::WorkEnd;
 pub use fault::ServeFault;
-pub use node::{Intake, Prepared, prepare, run_node};
+pub use node::{Intake, Prepared, prepare, run_node, run_prepared};
 pub use shared_node::Unnamed;

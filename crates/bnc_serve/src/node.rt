@@ -7,19 +7,23 @@ use crate::floors::{floors_of, put_floors};
 use crate::listeners::Listeners;
 use crate::reception::{Reception, receive};
 use attach::{Attachment, Boxed, Places, RingClient};
-use bnc_ports::{Gate, Port};
+use bnc_ports::{Carries, Gate, Port};
 use bnc_sockets::{Door, SocketPort, now_ms};
-use bnc_work::{Station, WorkEnd, work_all};
+use bnc_work::{Station, WorkEnd, WorkPort, work_all};
 use chat_change::Change;
 use node_config::Config;
 use shared_node::{Naming, Pass, SharedNode, Unnamed};
 use std::alloc::{AllocError, Global};
 use std::io::Eprint;
+use std::marker::Brand;
 use std::net::Net;
 use std::sync::Wait;
 use std::thread;
 use std::thread::Threads;
 use std::time::Clock;
+use work_clients::ToClient;
+use work_peers::ToPeer;
+use work_servers::ToServer;
 
 /// Where connections come in, and where they are handed to the workers.
 #[derive(Drop)]
@@ -97,7 +101,7 @@ fn jobs_of<J: Naming, X: Attachment, P: Port>(
 /// thread of its own, and each worker runs on one of its own. It answers how the workers ended, once all have. A worker that
 /// ends makes the others end.
 ///
-/// `boxed` makes of a client what the workers' halls keep; none where there is no memory.
+/// `boxed` makes of a client the attachment that its worker keeps; none where there is no memory.
 pub fn run_node<J, R, X, P, F>(
     rt: &R,
     intake: Intake<X>,
@@ -110,7 +114,10 @@ where
     J: Naming + Send + Sync,
     R: Threads + Wait + Clock + Eprint + AllocGlobal + Copy + Send + Sync + Drop + 'static,
     X: Attachment + Send + 'static,
-    P: Port + Send,
+    P: WorkPort + Send,
+    <P as Carries<ToClient>>::Connection: Send,
+    <P as Carries<ToServer>>::Connection: Send,
+    <P as Carries<ToPeer>>::Connection: Send,
     F: Fn(RingClient) -> Option<X> + Send + Drop + 'static,
     requires named { IsNamed J.book J.name J.parts name }
     requires callable { F.IsAlwaysCallable boxed }
@@ -124,6 +131,28 @@ where
     begin_reception(rt, intake, boxed)?;
     let ends = work_all(rt, &node, jobs, &Open)?;
     Ok(ends)
+}
+
+/// Runs a node as [`run_node`] does, under a name that no other node of the program has.
+pub fn run_prepared<R, X, P, F>(
+    rt: &R,
+    intake: Intake<X>,
+    posts: Vec<(Station<X>, P)>,
+    floors: Vec<Change>,
+    boxed: F,
+) -> Result<Vec<WorkEnd>, ServeFault>
+where
+    R: Threads + Wait + Clock + Eprint + AllocGlobal + Copy + Send + Sync + Drop + 'static,
+    X: Attachment + Send + 'static,
+    P: WorkPort + Send,
+    <P as Carries<ToClient>>::Connection: Send,
+    <P as Carries<ToServer>>::Connection: Send,
+    <P as Carries<ToPeer>>::Connection: Send,
+    F: Fn(RingClient) -> Option<X> + Send + Drop + 'static,
+    requires { F.IsAlwaysCallable boxed }
+{
+    let name = Unnamed::new(posts.len());
+    run_node::<Brand, _, _, _, _>(rt, intake, posts, floors, name, boxed)
 }
 
 // Takes connections in from now on.
