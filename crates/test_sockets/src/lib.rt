@@ -13,6 +13,8 @@ mod clocks;
 #[cfg(test)]
 mod node;
 #[cfg(test)]
+mod peer_line;
+#[cfg(test)]
 mod ports;
 #[cfg(test)]
 mod talk;

@@ -1,26 +1,27 @@
 //! Two workers: a line between them, mail, and their end.
 use crate::node::{Machine, listener};
+use crate::peer_line::{address, close, open, receive, send};
 use crate::ports::{TwoPorts, next, two_ports};
-use bnc_ports::{Dial, Halt, Happening, Mail, Port};
-use bnc_sockets::SocketPort;
+use bnc_ports::{Connection, Dial, Halt, Happening, Mail, Port};
+use bnc_sockets::{SocketConnection, SocketPort};
 use mio::net::TcpStream;
 use std::net::{SocketAddr, TcpListener};
 
-// The number of the line that is told next to be open, to the peer.
-fn opened<R: Machine>(rt: &R, port: &mut SocketPort<R>) -> usize {
+// The connection to the peer, which is told next to be there.
+fn dialed<R: Machine>(rt: &R, port: &mut SocketPort<R>) -> SocketConnection {
     match next(rt, port) {
         Happening::Opened {
             line,
             what: Dial::Peer(0),
-        } => line,
-        _ => rt.panic("the line was not opened"),
+        } => open(port, line).expect(rt, "the connection"),
+        _ => rt.panic("the connection was not made"),
     }
 }
 
-// The number of the line of the peer that came.
-fn came<R: Machine>(rt: &R, port: &mut SocketPort<R>) -> usize {
+// The connection of the peer that came.
+fn came<R: Machine>(rt: &R, port: &mut SocketPort<R>) -> SocketConnection {
     match next(rt, port) {
-        Happening::Peer { line } => line,
+        Happening::Peer { line } => open(port, line).expect(rt, "the connection"),
         _ => rt.panic("no peer came"),
     }
 }
@@ -48,30 +49,31 @@ fn accept<R: Machine>(rt: &R, listener: &TcpListener) -> (TcpStream, SocketAddr)
     (TcpStream::from_std(stream), address)
 }
 
-// The first worker connects to its peer. That connection is handed to the second one as a peer's. The numbers of the line's
-// two ends.
+// The first worker connects to its peer. That connection is handed to the second one as a peer's. Both of its ends.
 fn connected<R: Machine>(
     rt: &R,
     listener: &TcpListener,
     ports: &mut TwoPorts<R>,
-) -> (usize, usize) {
-    let dialed = ports.first.dial(Dial::Peer(0)).expect(rt, "a line");
-    let (stream, address) = accept(rt, listener);
+) -> (SocketConnection, SocketConnection) {
+    let line = ports.first.dial(Dial::Peer(0)).expect(rt, "a line");
+    assert!(rt; open(&mut ports.first, line).is_none());
+    let (stream, from) = accept(rt, listener);
     ports
         .door
-        .hand_peer(rt, stream, address)
+        .hand_peer(rt, stream, from)
         .expect(rt, "the door");
-    let line = came(rt, &mut ports.second);
-    assert!(rt; ports.second.address(line) == Some(address));
-    assert!(rt; opened(rt, &mut ports.first) == dialed);
-    (dialed, line)
+    let far = came(rt, &mut ports.second);
+    assert!(rt; address(&ports.second, &far) == Some(from));
+    let near = dialed(rt, &mut ports.first);
+    assert!(rt; near.number() == line);
+    (near, far)
 }
 
 #[test]
 fn bytes_mail_and_the_end_reach_the_other_worker(rt: HostRuntime) {
     let (listener, address) = listener(&rt);
     let mut ports = two_ports(&rt, address);
-    let (near, far) = connected(&rt, &listener, &mut ports);
+    let (mut near, mut far) = connected(&rt, &listener, &mut ports);
     let TwoPorts {
         mut first,
         mut second,
@@ -79,21 +81,32 @@ fn bytes_mail_and_the_end_reach_the_other_worker(rt: HostRuntime) {
     } = ports;
 
     let mut buffer = [0u8; 32];
-    assert!(rt; second.receive(far, &mut buffer) == Err(Halt::Blocked));
-    assert!(rt; first.send(near, b"PING x\r\n") == Ok(8));
-    assert!(rt; readable(&rt, &mut second) == far);
-    assert!(rt; second.receive(far, &mut buffer) == Ok(8));
+    assert!(rt; receive(&mut second, &mut far, &mut buffer) == Err(Halt::Blocked));
+    assert!(rt; send(&mut first, &mut near, b"PING x\r\n") == Ok(8));
+    assert!(rt; readable(&rt, &mut second) == far.number());
+    assert!(rt; receive(&mut second, &mut far, &mut buffer) == Ok(8));
     assert!(rt; buffer.starts_with(b"PING x\r\n"));
 
     assert!(rt; second.workers() == 2 && second.post(0, Mail::Published).is_ok());
     assert!(rt; is_published(&rt, &mut first));
 
-    second.close(far);
-    assert!(rt; readable(&rt, &mut first) == near);
-    assert!(rt; first.receive(near, &mut buffer) == Err(Halt::Closed));
+    close(&mut second, far);
+    assert!(rt; readable(&rt, &mut first) == near.number());
+    assert!(rt; receive(&mut first, &mut near, &mut buffer) == Err(Halt::Closed));
 
     drop(second);
     assert!(rt; is_ended(&rt, &mut first));
+}
+
+// A connection that a worker has is neither handed out again nor given up.
+#[test]
+fn a_connection_is_handed_out_once(rt: HostRuntime) {
+    let (listener, address) = listener(&rt);
+    let mut ports = two_ports(&rt, address);
+    let (mut near, _far) = connected(&rt, &listener, &mut ports);
+    assert!(rt; open(&mut ports.first, near.number()).is_none());
+    ports.first.give_up(near.number());
+    assert!(rt; send(&mut ports.first, &mut near, b"PING x\r\n") == Ok(8));
 }
 
 // Whether the peer is told to be refused.

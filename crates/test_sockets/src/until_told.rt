@@ -1,7 +1,8 @@
 //! The port of a worker, which ends once it is told so.
-ghost use Rattle.std.specs.Prelude.{◌≤◌, length, IfOk};
+ghost use Rattle.std.specs.Prelude.{◌≡◌, ◌≤◌, ◌++◌, [], length, take, IfOk, IfSome, OnErr};
+ghost use Rattle.bnc_ports.specs.Outgoing.{BeginsOf};
 
-use bnc_ports::{Clocks, Dial, Event, Halt, Happening, Mail, Port, PortFault};
+use bnc_ports::{Carries, Clocks, Dial, Event, Halt, Happening, Kind, Mail, Port, PortFault};
 use std::net::SocketAddr;
 use std::sync::Arc;
 use std::sync::atomic::{AtomicBool, Ordering};
@@ -24,28 +25,12 @@ impl<P: Port> Port for UntilTold<P> {
         self.port.next(patience.min(PATIENCE))
     }
 
-    fn receive(&mut self, line: usize, buffer: &mut [u8]) -> Result<usize, Halt>
-        ensures count { IfOk result (λ n. n ≤ length buffer.new) }
-    {
-        self.port.receive(line, buffer)
-    }
-
-    fn send(&mut self, line: usize, bytes: &[u8]) -> Result<usize, Halt>
-        ensures count { IfOk result (λ n. n ≤ length bytes.now) }
-    {
-        self.port.send(line, bytes)
-    }
-
-    fn close(&mut self, line: usize) {
-        self.port.close(line);
+    fn give_up(&mut self, line: usize) {
+        self.port.give_up(line);
     }
 
     fn dial(&mut self, what: Dial) -> Result<usize, PortFault> {
         self.port.dial(what)
-    }
-
-    fn address(&self, line: usize) -> Option<SocketAddr> {
-        self.port.address(line)
     }
 
     fn post(&mut self, worker: usize, mail: Mail) -> Result<(), PortFault> {
@@ -62,5 +47,33 @@ impl<P: Port> Port for UntilTold<P> {
 
     fn report(&mut self, event: &Event<'_>) {
         self.port.report(event);
+    }
+}
+
+impl<K: Kind, P: Carries<K>> Carries<K> for UntilTold<P> {
+    type Connection = P::Connection;
+
+    fn open(&mut self, line: usize) -> Option<P::Connection> {
+        self.port.open(line)
+    }
+
+    fn receive(
+        &mut self,
+        connection: &mut P::Connection,
+        buffer: &mut [u8],
+    ) -> Result<usize, Halt> {
+        self.port.receive(connection, buffer)
+    }
+
+    fn send(&mut self, connection: &mut P::Connection, bytes: &[u8]) -> Result<usize, Halt> {
+        self.port.send(connection, bytes)
+    }
+
+    fn close(&mut self, connection: P::Connection) {
+        self.port.close(connection);
+    }
+
+    fn address(&self, connection: &P::Connection) -> Option<SocketAddr> {
+        self.port.address(connection)
     }
 }

@@ -20,6 +20,8 @@ enum Other {
 /// What the worker did with the connection.
 #[derive(Clone, Copy)]
 enum Own {
+    /// The worker has not opened it.
+    New,
     Open,
     /// It was closed since the last telling.
     JustClosed,
@@ -53,7 +55,7 @@ impl Line {
             room: usize::MAX,
             left: usize::MAX,
             other: Other::Sends,
-            own: Own::Open,
+            own: Own::New,
             dialed,
         }
     }
@@ -85,6 +87,22 @@ impl Line {
         self.other = Other::Gone;
     }
 
+    /// The worker opens it, once. Whether it does.
+    pub fn open(&mut self) -> bool {
+        let is_new = matches!(self.own, Own::New);
+        if is_new {
+            self.own = Own::Open;
+        }
+        is_new
+    }
+
+    /// The worker gives it up, which it has not opened.
+    pub fn give_up(&mut self) {
+        if matches!(self.own, Own::New) {
+            self.own = Own::JustClosed;
+        }
+    }
+
     /// The worker closes it.
     pub fn close(&mut self) {
         if matches!(self.own, Own::Open) {
@@ -93,7 +111,7 @@ impl Line {
     }
 
     fn is_dead(&self) -> bool {
-        !matches!(self.own, Own::Open) || matches!(self.other, Other::Gone)
+        matches!(self.own, Own::JustClosed | Own::Closed) || matches!(self.other, Other::Gone)
     }
 
     /// The worker takes bytes that came.

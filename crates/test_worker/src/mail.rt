@@ -2,29 +2,22 @@
 //!
 //!     entry NETWORK up|redact|down passed|alone NICK CHANNEL..
 //!     live NETWORK own|other CHANGE
-//!     relay NETWORK all|CAPABILITY LINE
+//!     relay NETWORK all|CAPABILITY LINE (as the session with that network's server passes it on)
 //!     say NETWORK LINE
 //!     marked NETWORK TARGET
 //!     published
 //!
 //! A network that is up may take REDACT. Lines stand without their endings.
 use crate::act::{cut, number_in};
+use crate::relay::passed_on;
 use bnc_ports::Mail;
 use byte_text::Text;
 use chat_change::{Change, Record};
 use client_directory::Entry;
 use gossip_delta::{read_change, write_change};
-use irc_caps::Capability;
 use shared_lines::SharedLine;
 use std::alloc::{AllocError, Global};
 use upstream_session::Recipients;
-
-fn recipients_in(word: &str) -> Recipients {
-    match Capability::named(word.as_bytes()) {
-        Some(capability) => Recipients::Holding(capability),
-        None => Recipients::All,
-    }
-}
 
 fn entry_of(alloc: Global, standing: &str, text: &str) -> Option<Entry> {
     let (nick, channels) = cut(text);
@@ -59,17 +52,11 @@ fn live_in(alloc: Global, network: usize, text: &str) -> Option<Mail> {
     })
 }
 
-fn relayed(alloc: Global, text: &str) -> Option<SharedLine> {
-    let line = format!(in alloc; "{text}\r\n").ok()?;
-    SharedLine::new(alloc, line.as_bytes()).ok()
-}
-
 fn relay_in(alloc: Global, network: usize, text: &str) -> Option<Mail> {
-    let (word, line) = cut(text);
+    let (_, line) = cut(text);
     Some(Mail::Relay {
         network,
-        to: recipients_in(word),
-        line: relayed(alloc, line)?,
+        line: passed_on(alloc, network, line)?,
     })
 }
 
@@ -197,7 +184,10 @@ pub fn tell_mail(alloc: Global, out: &mut Vec<u8>, mail: &Mail) -> Result<(), Al
             message,
             ..
         } => tell_live(alloc, out, *is_own, message),
-        Mail::Relay { to, line, .. } => tell_relay(out, *to, line.as_bytes()),
+        Mail::Relay { line, .. } => {
+            let passed = line.lend();
+            tell_relay(out, passed.to, passed.text)
+        }
         Mail::Say { line, .. } => out.extend_from_slice(without_ending(line.as_bytes())),
         Mail::Marked { target, .. } => out.extend_from_slice(target.as_bytes()),
         Mail::Published => Ok(()),

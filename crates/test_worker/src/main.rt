@@ -49,11 +49,13 @@
 #![tactic(auto)]
 
 mod act;
+mod connection;
 mod gate;
 mod line;
 mod mail;
 mod play;
 mod port;
+mod relay;
 mod setting;
 mod station;
 

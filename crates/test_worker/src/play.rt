@@ -64,7 +64,21 @@ where
         let end = work(rt, setting.worker, &node, pass, station, port, &gate);
         return vec![in alloc; end].ok();
     }
-    work_all(rt, &node, all, &gate).ok()
+    run_all(rt, &node, all, &gate)
+}
+
+// Runs workers, each in a thread of its own.
+fn run_all<J, R>(
+    rt: &R,
+    node: &SharedNode<J, &R>,
+    all: Vec<Job<'_, J, R>>,
+    gate: &Latch<R>,
+) -> Option<Vec<WorkEnd>>
+where
+    J: Naming + Send + Sync,
+    R: Threads + Wait + Clock + AllocGlobal + Copy + Send + Sync + Drop,
+{
+    work_all(rt, node, all, gate).ok()
 }
 
 fn name_of(end: WorkEnd) -> &'static str {

@@ -1,10 +1,17 @@
 //! A port of memory, which plays the acts of a case and tells what comes of them.
+ghost use Rattle.std.specs.Prelude.{◌≡◌, ◌≤◌, ◌++◌, [], length, take, IfOk, IfSome, OnErr};
+ghost use Rattle.bnc_ports.specs.Outgoing.{BeginsOf};
+
 use crate::act::{Act, Turn, act_in, range_in};
+use crate::connection::MemoryConnection;
 use crate::line::Line;
 use crate::mail::{mail_in, tell_mail};
 use crate::setting::Setting;
-use attach::{Clerk, Hall, Places, RingClient};
-use bnc_ports::{Arrival, Clocks, Dial, Event, Halt, Happening, Lobby, Mail, Port, PortFault};
+use attach::{Clerk, Places, RingClient};
+use bnc_ports::{
+    Arrival, Carries, Clocks, Connection, Dial, Event, Halt, Happening, Kind, Lobby, Mail, Port,
+    PortFault,
+};
 use crossbeam_channel::Sender;
 use std::alloc::{AllocError, Global};
 use std::collections::VecDeque;
@@ -124,7 +131,7 @@ impl<R: Wait + Drop> MemoryPort<R> {
             workers: setting.workers,
             clerk: Places::new(alloc, setting.places).ok()?,
             arrivals,
-            lobby: Some(Lobby::new(Hall::new(alloc), coming)),
+            lobby: Some(Lobby::new(coming)),
             ticket: 0,
             told: Vec::new(alloc),
         })
@@ -365,34 +372,14 @@ impl<R: Wait + Drop> Port for &mut MemoryPort<R> {
         (**self).step(patience).ok_or(PortFault)
     }
 
-    fn receive(&mut self, line: usize, buffer: &mut [u8]) -> Result<usize, Halt> {
-        match self.lines.get_mut(line) {
-            Some(line) => line.take(buffer),
-            None => Err(Halt::Closed),
-        }
-    }
-
-    fn send(&mut self, line: usize, bytes: &[u8]) -> Result<usize, Halt> {
-        match self.lines.get_mut(line) {
-            Some(line) => line.put(bytes),
-            None => Err(Halt::Closed),
-        }
-    }
-
-    fn close(&mut self, line: usize) {
+    fn give_up(&mut self, line: usize) {
         if let Some(line) = self.lines.get_mut(line) {
-            line.close();
+            line.give_up();
         }
     }
 
     fn dial(&mut self, what: Dial) -> Result<usize, PortFault> {
         (**self).begin(what).ok_or(PortFault)
-    }
-
-    fn address(&self, line: usize) -> Option<SocketAddr> {
-        let port = line.checked_add(5000)?;
-        let text = format!(in self.alloc; "127.0.0.1:{port}").ok()?;
-        text.as_str().parse::<SocketAddr>().ok()
     }
 
     fn post(&mut self, worker: usize, mail: Mail) -> Result<(), PortFault> {
@@ -416,5 +403,50 @@ impl<R: Wait + Drop> Port for &mut MemoryPort<R> {
 
     fn report(&mut self, event: &Event<'_>) {
         let _ = (**self).tell_event(event);
+    }
+}
+
+impl<K: Kind, R: Wait + Drop> Carries<K> for &mut MemoryPort<R> {
+    type Connection = MemoryConnection;
+
+    fn open(&mut self, line: usize) -> Option<MemoryConnection> {
+        let kept = self.lines.get_mut(line)?;
+        if kept.open() {
+            Some(MemoryConnection::new(line))
+        } else {
+            None
+        }
+    }
+
+    fn receive(
+        &mut self,
+        connection: &mut MemoryConnection,
+        buffer: &mut [u8],
+    ) -> Result<usize, Halt> {
+        match self.lines.get_mut(connection.number()) {
+            Some(line) => line.take(buffer),
+            None => Err(Halt::Closed),
+        }
+    }
+
+    fn send(&mut self, connection: &mut MemoryConnection, bytes: &[u8]) -> Result<usize, Halt> {
+        let Some(line) = self.lines.get_mut(connection.number()) else {
+            return Err(Halt::Closed);
+        };
+        let count = line.put(bytes)?;
+        connection.note(&bytes[..count]);
+        Ok(count)
+    }
+
+    fn close(&mut self, connection: MemoryConnection) {
+        if let Some(line) = self.lines.get_mut(connection.number()) {
+            line.close();
+        }
+    }
+
+    fn address(&self, connection: &MemoryConnection) -> Option<SocketAddr> {
+        let port = connection.number().checked_add(5000)?;
+        let text = format!(in self.alloc; "127.0.0.1:{port}").ok()?;
+        text.as_str().parse::<SocketAddr>().ok()
     }
 }

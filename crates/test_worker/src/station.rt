@@ -54,6 +54,12 @@ fn config_of(alloc: Global, account: &str, network: &str) -> Option<Config> {
     })
 }
 
+/// The configuration of that network, or of the first where there is none.
+pub fn config_at(alloc: Global, network: usize) -> Option<Config> {
+    let (account, network) = NETWORKS.get(network).copied().unwrap_or(NETWORKS[0]);
+    config_of(alloc, account, network)
+}
+
 fn configs_of(alloc: Global, count: usize) -> Option<Vec<Config>> {
     let mut configs = Vec::new(alloc);
     for (account, network) in NETWORKS.iter().take(count) {
