@@ -3,200 +3,78 @@
 //!
 //! The program reads its words, hands the devices to `bnc_server` or `bnc_serve`, and says by its status how it ended: 0
 //! once all is done, 2 for its words, 3 for want of memory, 4 for a device or a file, 5 for the configuration. The whole of
-//! a refusal stands on standard error. Read `main` first; `exit` says which status each end has.
+//! a refusal stands on standard error. Read `end_of_program` first, which does all of it; `exit` says which status each end
+//! has.
 #![tactic(auto)]
 
-ghost use Rattle.std.specs.Prelude.{◌≡◌, ◌≢◌, ◌↔◌, ◌⊎◌, None, Ok, Err, IfOk, OnOk, IfErr, IsTrue};
-ghost use Rattle.std.specs.Io.KnownBytes.{IsAtEnd};
-ghost use Rattle.chat_change.specs.Faults.{buffer_fault};
+ghost use Rattle.std.specs.Prelude.{◌≡◌, ◌↔◌, [], Ok, IfErr, map, string_bytes};
+ghost use Rattle.std.specs.Fn.{FnOnceReturnsAt};
 ghost use Rattle.std.specs.Process.{exit_status};
+ghost use Rattle.std.specs.Io.Buffered.{writer_buffer, writer_inner};
 ghost use Rattle.bnc.specs.Status.{status_of};
+ghost use Rattle.bnc.specs.Words.{command_of};
+ghost use Rattle.bnc.specs.Program.{EndsAs};
+ghost use Rattle.bnc.specs.Serving.{ServesPath};
+ghost use Rattle.bnc.specs.Replaying.{Replays};
 
 use attach::{Boxed, RingClient};
-use bnc_serve::{Prepared, ServeFault, Unnamed, prepare, run_node};
-use bnc_server::{ReplayFault, replay};
-use chat_change::{Buffer, ChangeFault};
-use node_config::{Config, ConfigFault};
-use serving::{config_at, end_of_run, path_in};
+use bnc_serve::{Prepared, ServeFault, WorkEnd, prepare, run_prepared};
+use ending::End;
+use node_config::Config;
+use replaying::replay_script;
+use serving::serve_file;
 use std::alloc::Global;
-use std::io::{BufWriter, ErrorKind, Read, Write};
-use std::marker::Brand;
+use std::io::{BufWriter, Read, Write};
 use std::process::ExitCode;
-use std::{env, fmt};
+use std::{env, fs, io};
+use words::{Command, command_in};
 
+mod ending;
+mod replaying;
 mod serving;
+mod words;
 
-const USAGE: &str = "usage: bnc replay <account> <network> <nick> | bnc serve <config>";
-
-/// Why the program ends before its work is done.
-#[derive(Clone, Copy, Debug, PartialEq, Eq)]
-enum End<'a> {
-    /// The words are no command, or a name is refused.
-    Usage,
-    /// There was no memory.
-    NoMemory,
-    /// Standard input or output failed, or a node can take no further change.
-    Device,
-    /// That file can't be read.
-    File(&'a str, ErrorKind),
-    /// A node can't begin.
-    Node(ServeFault),
-    /// A worker of a node failed.
-    Worker,
-    /// The configuration is refused.
-    Config(ConfigFault),
-}
-
-impl End<'_> {
-    fn status(self) -> u8
-        ensures { result ≡ status_of self.entry }
-    {
-        match self {
-            End::Usage => 2,
-            End::NoMemory => 3,
-            End::Device | End::File(_, _) | End::Node(_) | End::Worker => 4,
-            End::Config(_) => 5,
-        }
-    }
-
-    /// The first line that is told on standard error.
-    fn text(self) -> &'static str {
-        match self {
-            End::Usage => USAGE,
-            End::NoMemory => "no memory",
-            End::Device | End::File(_, _) | End::Node(_) | End::Worker => "read or write failed",
-            End::Config(_) => "config refused",
-        }
-    }
-}
-
-/// What is told on standard error: the first line, and where more is known a second one that says what failed, or what is
-/// wrong in the configuration.
-impl fmt::Display for End<'_> {
-    fn fmt<W: fmt::Write>(&self, f: &mut fmt::Formatter<W>) -> Result<(), fmt::Error> {
-        f.write_str(self.text())?;
-        match *self {
-            End::Usage | End::NoMemory | End::Device => Ok(()),
-            End::File(path, kind) => write!(f, "\ncan't read {path}: {kind}"),
-            End::Node(fault) => write!(f, "\n{fault}"),
-            End::Worker => f.write_str("\na worker failed"),
-            End::Config(fault) => write!(f, "\n{fault}"),
-        }
-    }
-}
-
-/// How the program ends, by what answering the script and the last flush came to.
-fn end_of(answered: Result<(), ReplayFault>, flushed: bool) -> Result<(), End<'static>>
-    ensures done { (result ≡ Ok tt) ↔ ((answered ≡ Ok tt) × IsTrue flushed) }
-    ensures no_memory { (result ≡ Err End.NoMemory) ↔ (answered ≡ Err ReplayFault.NoMemory) }
-    ensures device { result ≢ Ok tt → result ≢ Err End.NoMemory → result ≡ Err End.Device }
-{
-    match answered {
-        Ok(()) => { if flushed { Ok(()) } else { Err(End::Device) } }
-        Err(ReplayFault::NoMemory) => Err(End::NoMemory),
-        Err(ReplayFault::Read) => Err(End::Device),
-        Err(ReplayFault::Write) => Err(End::Device),
-    }
-}
-
-/// The end of a program whose words can't be had: a word that isn't text is no command.
-fn end_without_words(kind: ErrorKind) -> End<'static>
-    ensures no_memory { (result ≡ End.NoMemory) ↔ (kind ≡ ErrorKind.OutOfMemory) }
-    ensures usage { kind ≢ ErrorKind.OutOfMemory → result ≡ End.Usage }
-{
-    if kind == ErrorKind::OutOfMemory {
-        End::NoMemory
-    } else {
-        End::Usage
-    }
-}
-
-/// The three names behind the word `replay`.
-#[derive(Clone, Copy)]
-struct Names<'a> {
-    account: &'a [u8],
-    network: &'a [u8],
-    nick: &'a [u8],
-}
-
-/// The names that the words give, without the program's own.
-fn names_in<'a>(words: &'a [String]) -> Option<Names<'a>> {
-    if words.len() != 4 || words[0].as_bytes() != b"replay".as_slice() {
-        return None;
-    }
-    Some(Names {
-        account: words[1].as_bytes(),
-        network: words[2].as_bytes(),
-        nick: words[3].as_bytes(),
-    })
-}
-
-/// The names that the words give, if a node can have them.
-fn chosen<'a>(alloc: Global, words: &'a [String]) -> Result<Names<'a>, End<'a>>
-    ensures lawful { IfOk result
-        (λ names. buffer_fault names.account.now names.network.now names.nick.now ≡ None) }
-    ensures refused { IfErr result (λ end. (end ≡ End.Usage) ⊎ (end ≡ End.NoMemory)) }
-{
-    match names_in(words) {
-        None => Err(End::Usage),
-        Some(names) => match Buffer::new(alloc, names.account, names.network, names.nick) {
-            Ok(_) => Ok(names),
-            Err(ChangeFault::NoMemory) => Err(End::NoMemory),
-            Err(_) => Err(End::Usage),
-        },
-    }
-}
-
-/// Answers a script, which is read to its end where all is done.
-fn answer<In: Read, Out: Write + Drop>(
+/// Does what the words ask for. `read` reads a file, and `serve` runs a node by a configuration.
+fn end_of_program<'a, In, Out, Files, Node>(
     alloc: Global,
-    reader: &mut In,
-    writer: Out,
-    names: Names<'_>,
-) -> Result<(), End<'static>>
-    requires { buffer_fault names.account.now names.network.now names.nick.now ≡ None }
-    ensures { OnOk result (IsAtEnd (In.remaining reader.new)) }
+    words: &'a [String],
+    input: &mut In,
+    output: &mut BufWriter<Out>,
+    read: Files,
+    serve: Node,
+) -> Result<(), End<'a>>
+where
+    In: Read,
+    Out: Write + Drop,
+    Files: FnOnce(&str) -> io::Result<Vec<u8>>,
+    Node: FnOnce(&Config) -> Result<Vec<WorkEnd>, ServeFault>,
+    requires empty { writer_buffer output.old ≡ [] }
+    requires reads { Files.IsAlwaysCallable read }
+    requires serves { Node.IsAlwaysCallable serve }
+    ensures { EndsAs
+        (ServesPath (FnOnceReturnsAt Files.FnOnce read) (FnOnceReturnsAt Node.FnOnce serve))
+        (Replays (In.remaining input.old) (In.remaining input.new)
+        (Out.contents (writer_inner output.old)) (Out.contents (writer_inner output.new)))
+        (command_of (map string_bytes words.now)) result }
 {
-    let Ok(mut writer) = BufWriter::new(alloc, writer) else {
-        return Err(End::NoMemory);
-    };
-    let answered = replay(
-        alloc,
-        reader,
-        &mut writer,
-        names.account,
-        names.network,
-        names.nick,
-    );
-    let flushed = writer.flush().is_ok();
-    end_of(answered, flushed)
+    // Each branch returns, since the borrow checker doesn't join branches that move different values.
+    match command_in(words) {
+        None => return Err(End::Usage),
+        Some(Command::Serve(path)) => return serve_file(alloc, path, read, serve),
+        Some(Command::Replay(names)) => return replay_script(alloc, input, output, names),
+    }
 }
 
 /// The words behind the program's name.
-fn words(rt: &HostRuntime) -> Result<Vec<String>, End<'static>> {
+fn given_words(rt: &HostRuntime) -> Result<Vec<String>, End<'static>> {
     let all = match env::args(rt) {
         Ok(all) => all,
-        Err(e) => return Err(end_without_words(e.kind())),
+        Err(e) => return Err(End::without_words(e.kind())),
     };
     let words: Result<Vec<String>, _> = all.skip(1).collect(rt.alloc());
     match words {
         Ok(words) => Ok(words),
         Err(_) => Err(End::NoMemory),
-    }
-}
-
-/// Does what the words say but for a node, which `main` runs: of that it answers the configuration.
-fn command<'a>(rt: &HostRuntime, words: &'a [String]) -> Result<Option<Config>, End<'a>> {
-    if let Some(path) = path_in(words) {
-        let config = config_at(rt, path)?;
-        return Ok(Some(config));
-    }
-    match chosen(rt.alloc(), words) {
-        Ok(names) => {
-            answer(rt.alloc(), &mut rt.stdin(), rt.stdout(), names)?;
-            Ok(None)
-        }
-        Err(end) => Err(end),
     }
 }
 
@@ -215,23 +93,6 @@ fn exit(rt: &HostRuntime, done: Result<(), End<'_>>) -> ExitCode
 }
 
 fn main(rt: HostRuntime) -> ExitCode {
-    let words = match words(&rt) {
-        Ok(words) => words,
-        Err(end) => return exit(&rt, Err(end)),
-    };
-    let config = match command(&rt, &words) {
-        Ok(Some(config)) => config,
-        Ok(None) => return exit(&rt, Ok(())),
-        Err(end) => return exit(&rt, Err(end)),
-    };
-    let Prepared {
-        intake,
-        posts,
-        floors,
-    } = match prepare(&rt, &config) {
-        Ok(prepared) => prepared,
-        Err(fault) => return exit(&rt, Err(End::from(fault))),
-    };
     let alloc = rt.alloc();
     // Only here may the boxes of clients be made.
     let boxed = move |client: RingClient| -> Option<Boxed> {
@@ -243,7 +104,23 @@ fn main(rt: HostRuntime) -> ExitCode {
             Err(_) => None,
         }
     };
-    let name = Unnamed::new(config.limits.workers);
-    let run = run_node::<Brand, _, _, _, _>(&rt, intake, posts, floors, name, boxed);
-    exit(&rt, end_of_run(run))
+    let words = match given_words(&rt) {
+        Ok(words) => words,
+        Err(end) => return exit(&rt, Err(end)),
+    };
+    let Ok(mut output) = BufWriter::new(alloc, rt.stdout()) else {
+        return exit(&rt, Err(End::NoMemory));
+    };
+    let handle = &rt;
+    let read = move |path: &str| -> io::Result<Vec<u8>> { fs::read(handle, path) };
+    let serve = move |config: &Config| -> Result<Vec<WorkEnd>, ServeFault> {
+        let Prepared {
+            intake,
+            posts,
+            floors,
+        } = prepare(handle, config)?;
+        run_prepared(handle, intake, posts, floors, boxed)
+    };
+    let done = end_of_program(alloc, &words, &mut rt.stdin(), &mut output, read, serve);
+    exit(&rt, done)
 }
