@@ -3,8 +3,9 @@
 //! A [`SharedNode`] has a published list: the changes that were put, each under the number of the [`Pass`] that put it.
 //! The list only grows. [`SharedNode::put`] takes a lock, appends changes, and publishes a state that is made of the longer
 //! list. A pass asks without the lock, of the state that is published then ([`Pass::ask`], [`Pass::delta`],
-//! [`Pass::due_floors`], [`Pass::shown`]): no reading call waits, and what it answers is the answer of a list that begins
-//! with all that the pass has seen or was told of ([`Pass::learn`]). Of any two lists of a node one is a prefix of the other.
+//! [`Pass::due_floors`], [`Pass::shown`], [`Pass::marker`]): no reading call waits, and what it answers is the answer of a
+//! list that begins with all that the pass has seen or was told of ([`Pass::learn`]). Of any two lists of a node one is a
+//! prefix of the other.
 //!
 //! Everything that has to belong to one node bears the node's name as a type parameter ([`Naming`]): a program makes an
 //! [`Unnamed`], and calls a function that is generic in the name. What stands under the lock is in [`laws`].

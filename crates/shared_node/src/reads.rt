@@ -2,7 +2,7 @@
 ghost use Rattle.std.specs.Prelude.{◌≡◌, ◌≢◌, ◌↔◌, Err, true, IsTrue, is_some, IfOk, IfSome, IfNone, OnErr};
 ghost use mathlib.Core.List.{IsPrefix};
 ghost use Rattle.byte_text.specs.Writes.{Writes};
-ghost use Rattle.chat_history.specs.History.{norm};
+ghost use Rattle.chat_history.specs.History.{mark, norm};
 ghost use Rattle.chat_history.specs.Lookups.{IsShown};
 ghost use Rattle.chat_history.specs.Numbering as numbering;
 ghost use Rattle.chat_history.specs.Retention as retention;
@@ -136,6 +136,23 @@ impl<J: Naming> Pass<J> {
         let shown = visit.state().is_shown(buffer, id);
         self.entrance.leave(visit);
         Ok(shown)
+    }
+
+    /// The read marker of a buffer ([`State::mark`](chat_state::State::mark)), or None where none was set, in the state of a
+    /// list that follows all that the pass has seen or was told of. It takes no lock and no memory. After `NoEntry` the pass
+    /// is as it was.
+    pub fn marker(&mut self, buffer: &Buffer) -> Result<Option<Moment>, NoEntry>
+        ensures marker { IfOk result (λ marker.
+            marker ≡ mark (changes_in self.new.list) buffer.now) }
+        ensures seen { IfOk result (λ _. Reads self.old self.new) }
+        ensures no_entry { OnErr result (self.new ≡ self.old) }
+    {
+        let Some(visit) = enter(&mut self.entrance, &mut self.list, &self.told) else {
+            return Err(NoEntry);
+        };
+        let marker = visit.state().mark(buffer);
+        self.entrance.leave(visit);
+        Ok(marker)
     }
 }
 
