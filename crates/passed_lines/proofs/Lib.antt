@@ -1,1 +1,2 @@
 mod PassingLemmas
+mod OwnLemmas

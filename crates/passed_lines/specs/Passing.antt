@@ -1,14 +1,25 @@
--- Lines that sessions with networks' servers pass on to clients.
-use Rattle.std.specs.Prelude.{ℕ, ◌≡◌, List, ◌∷◌, ◌++◌}
+-- What sessions with networks' servers put, and which lines they pass on to clients.
+use Rattle.std.specs.Prelude.{ℕ, ◌≡◌, Bool, List, ◌∷◌, ◌++◌}
+use Rattle.std.specs.List.{AllByRecursion}
 use Rattle.irc_caps.specs.declared.recipients.Recipients.{Recipients}
-use Rattle.upstream_session.specs.Events.{ServerEvent, run, effects_of}
+use Rattle.chat_change.specs.Record.{Record}
+use Rattle.chat_change.specs.declared.change.Change.{Change}
+use Rattle.chat_change.specs.declared.change.Change.TheVariants.{Post}
+use Rattle.upstream_session.specs.Events.{ServerEvent, Line, Saying, run, effects_of}
+use Rattle.upstream_session.specs.Messages.{is_from}
 use Rattle.upstream_session.specs.Step.{new}
 use Rattle.upstream_session.specs.declared.config.Config.{Config}
 use Rattle.upstream_session.specs.declared.connection.Connection.{Connection}
 use Rattle.upstream_session.specs.declared.effect.UpEffect.{UpEffect}
 use Rattle.upstream_session.specs.declared.effect.UpEffect.TheVariants.{Send, Put, Relay, Close}
+use Rattle.passed_lines.specs.Saying.{IsSaidFor}
 
--- a session with the server of that account's network, after some lines of the server and of clients for it
+-- any line of the server, and what a client of that account and network says to it
+abbrev pub IsLineFor : List ℕ → List ℕ → ServerEvent → Type 0
+IsLineFor account network (Line now bytes) = Unit {0}
+IsLineFor account network (Saying now bytes) = ∥ IsSaidFor account network bytes ∥₁
+
+-- a session with the server of that account's network, after some lines of the server and of its own clients for it
 pub record IsSessionOf (account network : List ℕ) (session : Connection) : Type 0 where
   pub config : Config
   pub node : List ℕ
@@ -17,20 +28,45 @@ pub record IsSessionOf (account network : List ℕ) (session : Connection) : Typ
   pub events : List ServerEvent
   pub of_account : config.account ≡ account
   pub of_network : config.network ≡ network
+  pub by_right : AllByRecursion (IsLineFor account network) events
   pub went_on : run (new config node incarnation first_serial) events ≡ session
 
--- such a session passes that line on to these, by a line of the server or of a client
+-- such a session passes that line on to these, by a line of the server or of its own clients
 pub record IsPassedOn (account network : List ℕ) (to : Recipients) (text : List ℕ) : Type 0 where
   pub session : Connection
   pub is_session : IsSessionOf account network session
   pub event : ServerEvent
+  pub by_right : IsLineFor account network event
   pub before : List UpEffect
   pub behind : List UpEffect
   pub is_effect : effects_of session event ≡ before ++ Relay text to ∷ behind
 
--- what of that is passed on, is passed on by a session of theirs
+-- so it puts that change
+pub record IsPutBy (account network : List ℕ) (change : Change) : Type 0 where
+  pub session : Connection
+  pub is_session : IsSessionOf account network session
+  pub event : ServerEvent
+  pub by_right : IsLineFor account network event
+  pub before : List UpEffect
+  pub behind : List UpEffect
+  pub is_effect : effects_of session event ≡ before ++ Put change ∷ behind
+
+-- what of that is put or passed on, is so by a session of theirs
 abbrev pub MayPass : List ℕ → List ℕ → UpEffect → Type 0
-MayPass account network (Relay text to) = IsPassedOn account network to text
 MayPass account network (Send text) = Unit {0}
-MayPass account network (Put change) = Unit {0}
+MayPass account network (Put change) = IsPutBy account network change
+MayPass account network (Relay text to) = IsPassedOn account network to text
 MayPass account network Close = Unit {0}
+
+-- some session of theirs has that nick
+pub record IsNickOf (account network nick : List ℕ) : Type 0 where
+  pub session : Connection
+  pub is_session : IsSessionOf account network session
+  pub has_nick : session.entry.nick ≡ nick
+
+-- A session of theirs puts that message, which is its own where it is from a nick that a session of theirs has.
+pub record IsLive (account network : List ℕ) (is_own : Bool) (message : Record) : Type 0 where
+  pub put : IsPutBy account network (Post message)
+  pub nick : List ℕ
+  pub has_nick : IsNickOf account network nick
+  pub is_own_by : is_own ≡ is_from nick message

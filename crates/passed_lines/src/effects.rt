@@ -1,42 +1,96 @@
 //! What a line of a server, or for it, comes to.
 ghost use Rattle.std.specs.Prelude.{◌≡◌, ◌∷◌, ◌+◌, IfSome, drop};
 ghost use Rattle.std.specs.List.{AllByRecursion};
-ghost use Rattle.passed_lines.specs.Passing.{IsPassedOn, MayPass};
+ghost use Rattle.passed_lines.specs.Passing.{IsPassedOn, IsPutBy, MayPass};
 
 use crate::passed::Passed;
 use chat_change::Change;
 use irc_caps::Recipients;
 use shared_lines::SharedLine;
+use std::marker::Model;
 use upstream_session::UpEffect;
+
+/// A change that a session with the server of that account's network puts: a message, which is told to the sessions that hear
+/// it as it comes, or a redaction.
+#[derive(Clone, Copy)]
+pub struct ServerPut<'a> {
+    pub account: &'a SharedLine,
+    /// The name of the network.
+    pub network: &'a SharedLine,
+    pub change: &'a Change,
+    pub ghost is_put: { ∥ IsPutBy account.now network.now change.now ∥₁ },
+}
 
 /// One thing that is to be done.
 #[derive(Clone, Copy)]
 pub enum Deed<'a> {
-    /// Write these bytes to the server. They end with CR LF.
-    Send(&'a [u8]),
-    /// Put this change: a message, which is told to the sessions that hear it as it comes, or a redaction.
-    Put(&'a Change),
+    /// Nothing: a line to the server stands there, which is owed to it as soon as it is known.
+    Sent,
+    /// Put this change.
+    Put(ServerPut<'a>),
     /// Pass this line on.
     PassOn(Passed<'a>),
     /// Close the connection. Nothing comes after it.
     Close,
 }
 
-/// What a line comes to, in order, and whose network's server it is.
+/// What a line comes to, in order, and whose network's server it is. Contracts see the list.
 #[derive(Drop)]
 pub struct ServerEffects {
-    pub(crate) account: SharedLine,
-    pub(crate) network: SharedLine,
-    pub(crate) list: Vec<UpEffect>,
-    ghost may_pass: { ∥ AllByRecursion (MayPass account network) list.items ∥₁ },
+    account: SharedLine,
+    network: SharedLine,
+    list: Vec<UpEffect>,
+}
+
+impl Model for ServerEffects {
+    ghost use Rattle.std.specs.Prelude.{List};
+    ghost use Rattle.std.specs.List.{AllByRecursion};
+    ghost use Rattle.passed_lines.specs.Passing.{MayPass};
+    ghost use Rattle.upstream_session.specs.declared.effect.UpEffect.{UpEffect as Done};
+
+    ghost Value = { List Done };
+
+    ghost view = { λ e. e.list.items };
+
+    ghost invariant = { λ e. ∥ AllByRecursion (MayPass e.account e.network) e.list.items ∥₁ };
 }
 
 impl ServerEffects {
+    /// What a session of that account and network comes to.
+    pub(crate) fn new(
+        account: SharedLine,
+        network: SharedLine,
+        list: Vec<UpEffect>,
+    ) -> ServerEffects
+        requires { ∥ AllByRecursion (MayPass account network) list.items ∥₁ }
+        ensures { result ≡ list.items }
+    {
+        ServerEffects {
+            account,
+            network,
+            list,
+        }
+    }
+
+    /// The list, for its room.
+    pub(crate) fn into_list(self) -> Vec<UpEffect> {
+        self.list
+    }
+
+    /// All of it, in order.
+    pub fn as_slice(&self) -> &[UpEffect]
+        ensures { result.now ≡ self.now }
+    {
+        self.list.as_slice()
+    }
+
     /// What is to be done in that place, where there is something.
     pub fn at(&self, place: usize) -> Option<Deed<'_>> {
         match effect_at(self.list.as_slice(), place)? {
-            UpEffect::Send(text) => Some(Deed::Send(text.as_bytes())),
-            UpEffect::Put(change) => Some(Deed::Put(change)),
+            UpEffect::Send(_) => Some(Deed::Sent),
+            UpEffect::Put(change) => {
+                Some(Deed::Put(put_by(&self.account, &self.network, change)))
+            }
             UpEffect::Relay(text, to) => {
                 let text = text.as_bytes();
                 Some(Deed::PassOn(passed(&self.account, &self.network, *to, text)))
@@ -62,6 +116,17 @@ fn effect_at(list: &[UpEffect], place: usize) -> Option<&UpEffect>
         return None;
     }
     Some(&list[place])
+}
+
+// A change that is put.
+fn put_by<'a>(account: &'a SharedLine, network: &'a SharedLine, change: &'a Change) -> ServerPut<'a>
+    requires { ∥ IsPutBy account.now network.now change.now ∥₁ }
+{
+    ServerPut {
+        account,
+        network,
+        change,
+    }
 }
 
 // A line that is passed on.

@@ -1,15 +1,26 @@
-//! Lines of networks' servers that are passed on to clients, each with whose they are.
+//! What goes between clients and the servers of their networks, each with whose it is and by what right.
 //!
-//! A [`NetworkSession`] is the session with the server of one network of one account, and knows whose it is. What its lines
-//! come to are [`ServerEffects`], of which each line that is to be passed on is a [`Passed`]: a value that exists only where
-//! some session with the server of that account's network passes it on (`IsPassedOn`). A [`PassedLine`] is such a line on its
-//! way to another worker. It stands on `upstream_session` and `shared_lines`. Read [`ServerEffects::at`] first.
+//! A [`NetworkSession`] is the session with the server of one network of one account, and knows whose it is. It takes lines of
+//! its server and lines of its own clients alone ([`Said`]). What a line comes to are [`ServerEffects`], of which each change
+//! that is put is a [`ServerPut`], and each line that is to be passed on a [`Passed`]: values that exist only where some session
+//! with the server of that account's network puts that or passes it on (`IsPutBy`, `IsPassedOn`). A [`Live`] is a message that
+//! such a session put, and a [`NetworkEntry`] how one stands.
+//!
+//! A [`SaidLine`], a [`LiveMessage`], a [`NetworkEntry`] and a [`PassedLine`] are these on their way to another worker. The crate
+//! stands on `upstream_session`, `client_session` and `shared_lines`. Read [`NetworkSession`] first.
 #![tactic(auto)]
 
 mod effects;
+mod entry;
+pub mod laws;
+mod live;
 mod passed;
+mod said;
 mod session;
 
-pub use effects::{Deed, ServerEffects};
+pub use effects::{Deed, ServerEffects, ServerPut};
+pub use entry::NetworkEntry;
+pub use live::{Live, LiveMessage};
 pub use passed::{Passed, PassedLine};
-pub use session::NetworkSession;
+pub use said::{Said, SaidLine};
+pub use session::{NetworkSession, SayFault};

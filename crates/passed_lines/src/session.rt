@@ -1,21 +1,56 @@
 //! Sessions with networks' servers, each with whose it is.
-ghost use Rattle.std.specs.Prelude.{◌≡◌, IfOk};
-ghost use Rattle.passed_lines.specs.Passing.{IsSessionOf};
+ghost use Rattle.std.specs.Prelude.{◌≡◌, ◌↔◌, IsTrue, IfOk, IfSome, OnErr};
+ghost use Rattle.chat_change.specs.declared.change.Change.TheVariants.{Post};
+ghost use Rattle.upstream_session.specs.Events.{Line, Saying, effects_of};
+ghost use Rattle.upstream_session.specs.Session as session;
+ghost use Rattle.passed_lines.specs.OwnSession as spec;
+ghost use Rattle.passed_lines.specs.Passing.{IsLineFor};
 
-use crate::effects::ServerEffects;
+use crate::effects::{ServerEffects, ServerPut};
+use crate::entry::NetworkEntry;
+use crate::live::Live;
+use crate::said::Said;
 use byte_text::{NoMemory, Text};
-use chat_change::Moment;
+use chat_change::{Change, Moment, Record};
 use shared_lines::SharedLine;
 use std::alloc::Global;
-use upstream_session::{Config, Entry, UpEffect, Upstream};
+use std::marker::Model;
+use thiserror::Error;
+use upstream_session::{Config, Entry, Upstream, is_from};
 
-/// The session with the server of a network of an account.
+/// Why a line isn't said to a server.
+#[derive(Clone, Copy, Debug, PartialEq, Eq, Error)]
+pub enum SayFault {
+    /// It is for the server of another account's network.
+    #[error("the line is for another server")]
+    OtherServer,
+    /// There was no memory.
+    #[error("out of memory")]
+    NoMemory,
+}
+
+/// The session with the server of a network of an account. Contracts see it with the names of these.
 #[derive(Drop)]
 pub struct NetworkSession {
     account: SharedLine,
     network: SharedLine,
     session: Upstream,
-    ghost is_theirs: { ∥ IsSessionOf account network session ∥₁ },
+}
+
+impl Model for NetworkSession {
+    ghost use Rattle.passed_lines.specs.OwnSession.{OwnSession};
+    ghost use Rattle.passed_lines.specs.Passing.{IsSessionOf};
+
+    ghost Value = { OwnSession };
+
+    ghost view = { λ s. record {
+      account = s.account;
+      network = s.network;
+      connection = s.session;
+    } };
+
+    // It came to this by lines of its server and lines of its own clients.
+    ghost invariant = { λ s. ∥ IsSessionOf s.account s.network s.session ∥₁ };
 }
 
 impl NetworkSession {
@@ -26,7 +61,9 @@ impl NetworkSession {
         node: Text,
         incarnation: u64,
         first_serial: u64,
-    ) -> Result<NetworkSession, NoMemory> {
+    ) -> Result<NetworkSession, NoMemory>
+        ensures { IfOk result (λ s. s ≡ spec.begun config node incarnation first_serial) }
+    {
         let account = SharedLine::new(alloc, config.account.as_bytes())?;
         let network = SharedLine::new(alloc, config.network.as_bytes())?;
         Ok(NetworkSession {
@@ -37,24 +74,41 @@ impl NetworkSession {
     }
 
     /// The serial number of the next id that is made.
-    pub fn serial(&self) -> u64 {
+    pub fn serial(&self) -> u64
+        ensures { result ≡ self.now.connection.serial }
+    {
         self.session.serial()
     }
 
     /// How the session stands.
-    pub fn entry(&self) -> &Entry {
+    pub fn entry(&self) -> &Entry
+        ensures { result.now ≡ self.now.connection.entry }
+    {
         self.session.entry()
     }
 
-    /// What a new session begins with ([`Upstream::start`]).
-    pub fn start(&self, alloc: Global) -> Result<ServerEffects, NoMemory> {
+    /// How the session stands now, with whose it is.
+    pub fn entry_now(&self, alloc: Global) -> Result<NetworkEntry, NoMemory>
+        ensures account { IfOk result (λ entry. entry.account ≡ self.now.account) }
+        ensures network { IfOk result (λ entry. entry.network ≡ self.now.network) }
+        ensures entry { IfOk result (λ entry. entry.entry ≡ self.now.connection.entry) }
+    {
         let (account, network) = self.names()?;
-        let list = self.session.start(alloc)?;
-        Ok(ServerEffects {
+        let entry = self.session.entry().try_clone(alloc)?;
+        Ok(NetworkEntry {
             account,
             network,
-            list,
+            entry,
         })
+    }
+
+    /// What a new session begins with ([`Upstream::start`]).
+    pub fn start(&self, alloc: Global) -> Result<ServerEffects, NoMemory>
+        ensures { IfOk result (λ effects. effects ≡ session.start self.now.connection) }
+    {
+        let (account, network) = self.names()?;
+        let list = self.session.start(alloc)?;
+        Ok(ServerEffects::new(account, network, list))
     }
 
     /// What a line of the server comes to at that moment ([`Upstream::step`]). A refused step leaves the session as it was.
@@ -63,37 +117,92 @@ impl NetworkSession {
         alloc: Global,
         bytes: &[u8],
         now: Moment,
-    ) -> Result<ServerEffects, NoMemory> {
+    ) -> Result<ServerEffects, NoMemory>
+        ensures session { IfOk result (λ _. self.new ≡ spec.after self.old (Line now bytes.now)) }
+        ensures effects { IfOk result (λ effects.
+            effects ≡ effects_of self.old.connection (Line now bytes.now)) }
+        ensures err { OnErr result (self.new ≡ self.old) }
+    {
         let (account, network) = self.names()?;
         let list = self.session.step(alloc, bytes, now)?;
-        Ok(ServerEffects {
-            account,
-            network,
-            list,
-        })
+        Ok(ServerEffects::new(account, network, list))
     }
 
-    /// What a client's line for the server comes to at that moment ([`Upstream::say`]). A refused call leaves the session as
-    /// it was.
+    /// What a client's line for this server comes to at that moment ([`Upstream::say`]). A line for another server isn't said,
+    /// and a refused call leaves the session as it was.
     pub fn say(
         &mut self,
         alloc: Global,
-        bytes: &[u8],
+        said: &Said<'_>,
         now: Moment,
-    ) -> Result<ServerEffects, NoMemory> {
+    ) -> Result<ServerEffects, SayFault>
+        ensures theirs { IfOk result (λ _. IsLineFor self.old.account self.old.network
+            (Saying now said.now.text.now)) }
+        ensures session { IfOk result (λ _.
+            self.new ≡ spec.after self.old (Saying now said.now.text.now)) }
+        ensures effects { IfOk result (λ effects.
+            effects ≡ effects_of self.old.connection (Saying now said.now.text.now)) }
+        ensures err { OnErr result (self.new ≡ self.old) }
+    {
+        if !self.is_of(said.account, said.network) {
+            return Err(SayFault::OtherServer);
+        }
+        let Ok(effects) = self.say_text(alloc, said.text, now) else {
+            return Err(SayFault::NoMemory);
+        };
+        Ok(effects)
+    }
+
+    // What a line of one of its own clients comes to.
+    fn say_text(
+        &mut self,
+        alloc: Global,
+        text: &[u8],
+        now: Moment,
+    ) -> Result<ServerEffects, NoMemory>
+        requires { IsLineFor self.old.account self.old.network (Saying now text.now) }
+        ensures session { IfOk result (λ _. self.new ≡ spec.after self.old (Saying now text.now)) }
+        ensures effects { IfOk result (λ effects.
+            effects ≡ effects_of self.old.connection (Saying now text.now)) }
+        ensures err { OnErr result (self.new ≡ self.old) }
+    {
         let (account, network) = self.names()?;
-        let list = self.session.say(alloc, bytes, now)?;
-        Ok(ServerEffects {
-            account,
-            network,
-            list,
+        let list = self.session.say(alloc, text, now)?;
+        Ok(ServerEffects::new(account, network, list))
+    }
+
+    /// A message that is put, as it is told to the sessions of the network: whether it is its own goes by the present nick. None
+    /// where that is no message, or one of another network.
+    pub fn live<'a>(&self, put: &ServerPut<'a>) -> Option<Live<'a>>
+        ensures account { IfSome result (λ live. live.account.now ≡ put.now.account.now) }
+        ensures network { IfSome result (λ live. live.network.now ≡ put.now.network.now) }
+        ensures message { IfSome result (λ live. put.now.change.now ≡ Post live.message.now) }
+    {
+        let message = message_of(put.change)?;
+        if !self.is_of(put.account.as_bytes(), put.network.as_bytes()) {
+            return None;
+        }
+        Some(Live {
+            account: put.account,
+            network: put.network,
+            message,
+            is_own: is_from(self.session.entry().nick(), message),
         })
     }
 
     /// Takes back a list of effects, once they are done, for its room and that of a text in it.
-    pub fn recycle(&mut self, effects: ServerEffects) {
-        let ServerEffects { list, .. } = effects;
-        self.session.recycle(list);
+    pub fn recycle(&mut self, effects: ServerEffects)
+        ensures { self.new ≡ self.old }
+    {
+        self.session.recycle(effects.into_list());
+    }
+
+    // Whether these are the names of its account and its network.
+    fn is_of(&self, account: &[u8], network: &[u8]) -> bool
+        ensures { IsTrue result ↔ ((self.now.account ≡ account.now)
+            × (self.now.network ≡ network.now)) }
+    {
+        self.account.as_bytes() == account && self.network.as_bytes() == network
     }
 
     // Its account and its network, for the effects of a line.
@@ -104,5 +213,15 @@ impl NetworkSession {
         let account = self.account.try_clone()?;
         let network = self.network.try_clone()?;
         Ok((account, network))
+    }
+}
+
+// The message that is posted.
+fn message_of(change: &Change) -> Option<&Record>
+    ensures { IfSome result (λ message. change.now ≡ Post message.now) }
+{
+    match change {
+        Change::Post(message) => Some(message),
+        _ => None,
     }
 }

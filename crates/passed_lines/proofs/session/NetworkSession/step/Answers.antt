@@ -1,15 +1,17 @@
+use Rattle.std.proofs.Common.{◌∙◌, sym, ap}
 use Rattle.std.proofs.Math.Logic.{∥∥₁_map}
-use Rattle.passed_lines.proofs.PassingLemmas.{stepped_or_not, step_effects}
+use Rattle.upstream_session.specs.Events.{Line}
+use Rattle.passed_lines.specs.OwnSession.{OwnSession}
+use Rattle.passed_lines.proofs.PassingLemmas.{gone_on, of_event}
 use Rattle.passed_lines.proofs.session.NetworkSession.step.Goals as goal
 
-pub invariant_of-self : goal.invariant_of-self
-invariant_of-self c = record {
-  is_theirs = ∥∥₁_map c.args.self.now.is_theirs
-      (stepped_or_not c.step.result (λ v. v.items) c.args.now c.args.bytes.now c.step.ensures.step c.step.ensures.err);
-}
+pub new-requires : goal.new-requires
+new-requires c =
+    ∥∥₁_map c.self.invariant (of_event c.in_ok-list.list.items (Line c.args.now c.args.bytes.now)
+    (c.in_ok-account.ensures.account ∙ ap (λ (s : OwnSession). s.account) (sym c.self.view_is))
+    (c.in_ok-account.ensures.network ∙ ap (λ (s : OwnSession). s.network) (sym c.self.view_is))
+    tt c.in_ok-list.ensures.step)
 
-pub invariant_of-result : goal.invariant_of-result
-invariant_of-result c = record {
-  may_pass = ∥∥₁_map c.args.self.now.is_theirs (step_effects c.in_ok-list.list.items c.args.now c.args.bytes.now
-      c.in_ok-account.ensures.account c.in_ok-account.ensures.network c.in_ok-list.ensures.step);
-}
+pub invariant_of-self-2 : goal.invariant_of-self-2
+invariant_of-self-2 c =
+    ∥∥₁_map c.self.invariant (gone_on c.in_ok-list.list.items (Line c.args.now c.args.bytes.now) tt c.in_ok-list.ensures.step)

@@ -1,0 +1,53 @@
+//! Messages that are told as they come.
+ghost use Rattle.std.specs.Prelude.{◌≡◌, IfOk};
+ghost use Rattle.passed_lines.specs.Passing.{IsLive};
+
+use byte_text::NoMemory;
+use chat_change::Record;
+use shared_lines::SharedLine;
+
+/// A message that a session with the server of that account's network put, and whether it is from the present nick there.
+#[derive(Clone, Copy)]
+pub struct Live<'a> {
+    pub account: &'a SharedLine,
+    /// The name of the network.
+    pub network: &'a SharedLine,
+    pub message: &'a Record,
+    pub is_own: bool,
+    pub ghost is_live: { ∥ IsLive account.now network.now is_own message.now ∥₁ },
+}
+
+/// Such a message on its way to another worker.
+#[derive(Drop)]
+pub struct LiveMessage {
+    account: SharedLine,
+    network: SharedLine,
+    message: Record,
+    is_own: bool,
+    ghost is_live: { ∥ IsLive account network is_own message ∥₁ },
+}
+
+impl LiveMessage {
+    /// The message, which shares its memory. It takes none, and fails only where a part has too many owners.
+    pub fn new(live: &Live<'_>) -> Result<LiveMessage, NoMemory> {
+        let account = live.account.try_clone()?;
+        let network = live.network.try_clone()?;
+        let message = live.message.try_clone()?;
+        Ok(LiveMessage {
+            account,
+            network,
+            message,
+            is_own: live.is_own,
+        })
+    }
+
+    /// The message, lent.
+    pub fn lend(&self) -> Live<'_> {
+        Live {
+            account: &self.account,
+            network: &self.network,
+            message: &self.message,
+            is_own: self.is_own,
+        }
+    }
+}
