@@ -32,6 +32,8 @@ pub enum Reason {
     Overrun,
     /// Each place is taken.
     NoPlace,
+    /// It had waited longest to say who it is, and others wait.
+    GaveWay,
     /// There was no memory.
     NoMemory,
     /// The node didn't let a question in.
@@ -53,6 +55,7 @@ impl fmt::Display for Reason {
             Reason::Replaced => "a newer connection took its place",
             Reason::Overrun => "it did not read what was owed to it",
             Reason::NoPlace => "each place is taken",
+            Reason::GaveWay => "it had waited longest to say who it is, and gave way to another",
             Reason::NoMemory => "no memory",
             Reason::NoEntry => "the node let no question in",
         })
@@ -66,6 +69,10 @@ pub enum Event<'a> {
     Listening {
         clients: SocketAddr,
         peers: SocketAddr,
+    },
+    /// Messages are kept for so many days, which is at least one.
+    Retention {
+        days: u32,
     },
     /// The floor of an account was put: it keeps nothing before that moment. Whether that lies ahead of the clock.
     FloorPut {
@@ -99,6 +106,10 @@ pub enum Event<'a> {
     ClientRefused {
         address: Option<SocketAddr>,
         reason: Reason,
+    },
+    /// So many further clients that had not registered are gone, within a minute.
+    ClientsRefused {
+        count: u64,
     },
     /// The session with the network's server is up.
     UpstreamUp {
@@ -141,6 +152,10 @@ pub enum Event<'a> {
         address: Option<SocketAddr>,
         reason: Reason,
     },
+    /// So many further connections that others opened ended before a peer was greeted, within a minute.
+    PeersRefused {
+        count: u64,
+    },
 }
 
 impl<'a> Event<'a> {
@@ -148,6 +163,7 @@ impl<'a> Event<'a> {
     fn title(&self) -> &'static str {
         match self {
             Event::Listening { .. } => "listening",
+            Event::Retention { .. } => "retention",
             Event::FloorPut { .. } => "floor put",
             Event::FloorsPut { .. } => "floors put",
             Event::ClockLeapt(_) => "clock leapt",
@@ -155,6 +171,7 @@ impl<'a> Event<'a> {
             Event::ClientIn { .. } => "client in",
             Event::ClientOut { .. } => "client out",
             Event::ClientRefused { .. } => "client refused",
+            Event::ClientsRefused { .. } => "clients refused",
             Event::UpstreamUp { .. } => "upstream up",
             Event::UpstreamDown { .. } => "upstream down",
             Event::PeerGreeted { .. } => "peer greeted",
@@ -163,6 +180,7 @@ impl<'a> Event<'a> {
             Event::PeerAbsent { .. } => "peer absent",
             Event::PeerDown { .. } => "peer down",
             Event::PeerRefused { .. } => "peer refused",
+            Event::PeersRefused { .. } => "peers refused",
         }
     }
 
@@ -230,6 +248,11 @@ impl<'a, 'b> fmt::Display for Detail<'a, 'b> {
             Event::Listening { clients, peers } => {
                 write!(f, "clients on {clients}, peers on {peers}")
             }
+            Event::Retention { days } => write!(
+                f,
+                "messages are kept for {} at most, here and on every node of the cluster",
+                Days(days)
+            ),
             Event::FloorPut {
                 account,
                 at,
@@ -255,6 +278,9 @@ impl<'a, 'b> fmt::Display for Detail<'a, 'b> {
             }
             Event::ClientRefused { address, .. } | Event::PeerRefused { address, .. } => {
                 write!(f, "{}", Address(address))
+            }
+            Event::ClientsRefused { count } | Event::PeersRefused { count } => {
+                write!(f, "{count} more within a minute")
             }
             Event::UpstreamUp { nick, .. } => write!(f, " as {}", BStr::new(nick)),
             Event::UpstreamDown { .. } => Ok(()),
@@ -287,6 +313,19 @@ impl<'a, 'b> fmt::Display for Standing<'a, 'b> {
             ),
             Event::PeerAbsent { .. } => f.write_str(": no connection for two minutes"),
             _ => Ok(()),
+        }
+    }
+}
+
+// A number of days.
+#[derive(Clone, Copy)]
+struct Days(u32);
+
+impl fmt::Display for Days {
+    fn fmt<W: fmt::Write>(&self, f: &mut fmt::Formatter<W>) -> fmt::Result {
+        match self.0 {
+            1 => f.write_str("1 day"),
+            days => write!(f, "{days} days"),
         }
     }
 }

@@ -1,6 +1,7 @@
 //! Where a worker's clients come in.
 ghost use Rattle.std.specs.Prelude.{◌≡◌, [], IfSome};
 
+use crate::waiting::Waiting;
 use attach::{Attachment, Boxed};
 use crossbeam_channel::Receiver;
 use std::sync::Wait;
@@ -16,12 +17,18 @@ pub struct Arrival<X = Boxed> {
 #[derive(Drop)]
 pub struct Lobby<X = Boxed> {
     arrivals: Receiver<Arrival<X>>,
+    waiting: Waiting,
 }
 
 impl<X: Attachment> Lobby<X> {
-    /// A lobby at the end of that channel.
-    pub fn new(arrivals: Receiver<Arrival<X>>) -> Lobby<X> {
-        Lobby { arrivals }
+    /// A lobby at the end of that channel, for clients that wait to be registered.
+    pub fn new(arrivals: Receiver<Arrival<X>>, waiting: Waiting) -> Lobby<X> {
+        Lobby { arrivals, waiting }
+    }
+
+    /// The client at that place is registered, and waits no longer.
+    pub fn note_registered(&self, place: usize) {
+        self.waiting.set(place, false);
     }
 
     /// The attachment of that ticket. Those of lower tickets are dropped: their connections never came. None where it isn't

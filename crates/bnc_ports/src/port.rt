@@ -1,7 +1,6 @@
 //! The connections of a worker, and what else comes to it.
 use crate::clocks::Clocks;
 use crate::event::Event;
-use crate::mail::Mail;
 use std::net::SocketAddr;
 
 /// Whom a worker connects to. Networks and peers are those of the configuration, counted from 0.
@@ -11,12 +10,16 @@ pub enum Dial {
     Peer(usize),
 }
 
-/// What comes next for a worker. Lines are its connections, by the numbers that the port gave them.
+/// What comes next for a worker, whose mail is an `M`. Lines are its connections, by the numbers that the port gave them.
 #[derive(Drop)]
-pub enum Happening {
+pub enum Happening<M> {
     /// A client came. Its attachment was sent to the lobby under the ticket.
     Client {
         line: usize,
+        ticket: u64,
+    },
+    /// The client that came under the ticket is to go, if it isn't registered: others wait for its place.
+    Leave {
         ticket: u64,
     },
     /// A node connected to this one.
@@ -40,7 +43,7 @@ pub enum Happening {
         writable: bool,
     },
     /// Another worker tells something.
-    Mail(Mail),
+    Mail(M),
     /// Nothing, for now.
     Nothing,
     /// The port ended.
@@ -62,9 +65,12 @@ pub struct PortFault;
 
 /// The connections of one worker: sockets, or memory in tests.
 pub trait Port: Drop {
+    /// What workers tell each other.
+    type Mail: Drop;
+
     /// What comes next. Where nothing is there it waits, for so many milliseconds at most, or for less where the port has
-    /// less patience; with 0 it doesn't wait.
-    fn next(&mut self, patience: u64) -> Result<Happening, PortFault>;
+    /// less patience; with 0 it doesn't wait. `Nothing` may stand behind the last of what came at once, without a wait.
+    fn next(&mut self, patience: u64) -> Result<Happening<Self::Mail>, PortFault>;
 
     /// Gives up a connection that was never opened. One that isn't there is left so.
     fn give_up(&mut self, line: usize);
@@ -73,10 +79,13 @@ pub trait Port: Drop {
     fn dial(&mut self, what: Dial) -> Result<usize, PortFault>;
 
     /// Hands mail to another worker.
-    fn post(&mut self, worker: usize, mail: Mail) -> Result<(), PortFault>;
+    fn post(&mut self, worker: usize, mail: Self::Mail) -> Result<(), PortFault>;
 
     /// How many workers there are.
     fn workers(&self) -> usize;
+
+    /// How much mail waits for a worker, about: meanwhile some is read, and more handed in.
+    fn backlog(&self, worker: usize) -> usize;
 
     /// What the clocks read now.
     fn clocks(&mut self) -> Result<Clocks, PortFault>;
