@@ -70,6 +70,11 @@ impl<X: Attachment, C: Connection> Guest<X, C> {
         self.pipe.number()
     }
 
+    /// The place of its attachment.
+    pub fn place(&self) -> usize {
+        self.attachment.place()
+    }
+
     /// The connection.
     pub fn connection(&self) -> &C
         ensures { C.sent result.now ≡ self.now.outgoing.sent }
@@ -132,8 +137,8 @@ impl<X: Attachment, C: Connection> Guest<X, C> {
         self.attachment.offer(line).is_ok()
     }
 
-    /// Offers a line as it comes. Where it doesn't fit beside what is owed, the connection first takes what it can, by one
-    /// write. False where it doesn't fit even then.
+    /// Offers a line as it comes. Where it doesn't fit beside what is owed, the connection first takes what it can, by as many
+    /// writes as it takes until the line fits. False where it doesn't fit even then.
     pub fn offer<K: Kind, P: Carries<K, Connection = C>>(
         &mut self,
         port: &mut P,
@@ -145,12 +150,29 @@ impl<X: Attachment, C: Connection> Guest<X, C> {
             (handed self.new.outgoing ≡ handed self.old.outgoing) }
         ensures waiting { self.new.waiting ≡ self.old.waiting }
     {
-        if self.attach(line) {
-            return true;
+        for _ in 0..usize::MAX {
+            if self.attach(line) {
+                return true;
+            }
+            if !self.make_room::<K, P>(port) {
+                return false;
+            }
+        }
+        false
+    }
+
+    // Writes once, so that less is owed. False where nothing is owed, or the connection takes nothing.
+    fn make_room<K: Kind, P: Carries<K, Connection = C>>(&mut self, port: &mut P) -> bool
+        requires { ∥ BeginsOf K.may_be_told (handed self.old.outgoing) ∥₁ }
+        ensures handed { handed self.new.outgoing ≡ handed self.old.outgoing }
+        ensures waiting { self.new.waiting ≡ self.old.waiting }
+    {
+        if self.owed() == 0 {
+            return false;
         }
         match self.write::<K, P>(port) {
-            Pumped::All | Pumped::Some | Pumped::Blocked => self.attach(line),
-            Pumped::Closed | Pumped::Overrun | Pumped::NoMemory => false,
+            Pumped::All | Pumped::Some => true,
+            Pumped::Blocked | Pumped::Closed | Pumped::Overrun | Pumped::NoMemory => false,
         }
     }
 

@@ -1,0 +1,7 @@
+use Rattle.std.proofs.Common.{◌≡◌}
+use Rattle.work_lines.specs.Outgoing.{handed}
+use Rattle.work_lines.proofs.guest.Guest.offer.Given as goal
+
+abbrev pub invariant-loop : goal.invariant-loop
+invariant-loop g l =
+    (handed l.self.outgoing ≡ handed l.fn.self.outgoing) × (l.self.waiting ≡ l.fn.self.waiting)
