@@ -8,6 +8,7 @@ use chat_change::Moment;
 use client_directory::{Directory, Entry};
 use gossip_link::Terms;
 use std::alloc::Global;
+use std::sync::Arc;
 use upstream_session::{Channels, Config};
 
 /// What a worker knows of its node and of the time.
@@ -29,8 +30,8 @@ pub struct Site {
     pub directory: Directory,
     /// The networks of all accounts.
     pub networks: Vec<Config>,
-    /// The shared word, the node's own life, and the terms with each peer.
-    pub terms: Terms,
+    /// The shared word, the node's own life, and the terms with each peer. They never change, and connections share them.
+    pub terms: Arc<Terms>,
     /// For how many days messages are kept; 0 is for ever.
     pub retain_days: u32,
 }
