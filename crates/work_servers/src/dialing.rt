@@ -1,25 +1,37 @@
 //! How connections with networks' servers begin and end.
+ghost use Rattle.std.specs.Prelude.{◌≡◌, [], IfOk};
+ghost use Rattle.work_servers.specs.Owing.{Begins};
+
+use crate::dialogue::Dialogue;
 use crate::kind::ToServer;
 use crate::server::Server;
 use crate::servers::Servers;
-use crate::standing::{Standing, down_entry};
+use crate::standing::Standing;
 use bnc_ports::{Carries, Connection, Dial, Event, Port, Reason};
 use byte_text::{NoMemory, Text};
-use passed_lines::{NetworkSession, ServerEffects};
+use passed_lines::{NetworkEntry, NetworkSession, ServerEffects};
 use work_desk::{Desk, RETRY, Site};
 use work_timers::Timer;
 
 /// A server that sent nothing for so many milliseconds is given up.
 const QUIET: u64 = 300_000;
 
-// A session with a network's server, from that serial number on.
-fn session_of(site: &Site, network: usize, serial: u64) -> Result<NetworkSession, NoMemory> {
+// A new session with a network's server, from that serial number on, and what it begins with.
+fn new_session(
+    site: &Site,
+    network: usize,
+    serial: u64,
+) -> Result<(NetworkSession, ServerEffects), NoMemory>
+    ensures { IfOk result (λ begun. Begins begun.0 begun.1) }
+{
     let me = site.terms.me();
     let node = Text::new(site.alloc, me.node().as_bytes())?;
-    match site.config(network) {
-        Some(config) => { NetworkSession::new(site.alloc, config, node, me.incarnation(), serial) }
-        None => Err(NoMemory),
-    }
+    let Some(config) = site.config(network) else {
+        return Err(NoMemory);
+    };
+    let session = NetworkSession::new(site.alloc, config, node, me.incarnation(), serial)?;
+    let opening = session.start(site.alloc)?;
+    Ok((session, opening))
 }
 
 // The operator is told that the network is down, and a connection is tried again later.
@@ -59,16 +71,18 @@ impl<C: Connection> Servers<C> {
         put_off(desk, network, Reason::Unreachable);
     }
 
-    // The network's next session, for which there is room in the queue, and what it begins with.
+    // The network's next session, for which there is room in the queue, what it begins with, and how it stands.
     fn next_session(
         &mut self,
         site: &Site,
         network: usize,
-    ) -> Result<(NetworkSession, ServerEffects), NoMemory> {
+    ) -> Result<(NetworkSession, ServerEffects, NetworkEntry), NoMemory>
+        ensures { IfOk result (λ begun. Begins begun.0 begun.1) }
+    {
         self.make_room()?;
-        let session = session_of(site, network, self.serial_of(network))?;
-        let effects = session.start(site.alloc)?;
-        Ok((session, effects))
+        let (session, opening) = new_session(site, network, self.serial_of(network))?;
+        let entry = session.entry_now(site.alloc)?;
+        Ok((session, opening, entry))
     }
 
     // Takes up the network's session over a connection: what it begins with. For want of memory the connection comes back.
@@ -78,25 +92,27 @@ impl<C: Connection> Servers<C> {
         line: usize,
         connection: C,
         network: usize,
-    ) -> Result<ServerEffects, C> {
-        match self.next_session(site, network) {
-            Ok((session, effects)) => {
-                let server = Server::new(site.alloc, connection, network, session, site.now);
-                self.insert(line, server)?;
-                Ok(effects)
-            }
-            Err(NoMemory) => Err(connection),
-        }
+    ) -> Result<ServerEffects, C>
+        requires { C.sent connection ≡ [] }
+    {
+        let Ok((session, opening, entry)) = self.next_session(site, network) else {
+            return Err(connection);
+        };
+        let dialogue = Dialogue::new(site.alloc, connection, session, &opening);
+        let server = Server::new(site.alloc, dialogue, network, entry, site.now);
+        self.insert(line, server)?;
+        Ok(opening)
     }
 
     /// A connection with a network's server is there: what is to be done first. Where there is no memory it is closed, and
-    /// tried again later; where the port doesn't hand it out, it is tried again too.
+    /// tried again later; where the port doesn't hand it out, it is tried again too. One that had its number is closed.
     pub fn begin<P: Port + Carries<ToServer, Connection = C>>(
         &mut self,
         desk: &mut Desk<P>,
         line: usize,
         network: usize,
     ) -> Option<ServerEffects> {
+        let _ = self.close(desk, line, Reason::Closed);
         let Some(connection) = desk.port.open(line) else {
             self.retry(desk, network);
             return None;
@@ -104,6 +120,8 @@ impl<C: Connection> Servers<C> {
         match self.take_up(&desk.site, line, connection, network) {
             Ok(effects) => {
                 self.set_line(network, Some(line));
+                self.wake(line);
+                desk.timers.clear(Timer::RetryNetwork(network));
                 desk.set_timer(Timer::QuietUpstream(line), QUIET);
                 Some(effects)
             }
@@ -139,15 +157,15 @@ impl<C: Connection> Servers<C> {
         reason: Reason,
     ) -> Option<Standing> {
         let Server {
-            pipe,
+            dialogue,
             network,
             entry,
             ..
         } = self.remove(line)?;
-        desk.port.close(pipe.into_connection());
+        desk.port.close(dialogue.into_connection());
         desk.timers.clear(Timer::QuietUpstream(line));
         put_off(desk, network, reason);
-        let entry = down_entry(desk.site.alloc, entry);
+        let entry = entry.into_down(desk.site.alloc);
         Some(Standing { network, entry })
     }
 }

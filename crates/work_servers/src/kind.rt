@@ -1,9 +1,11 @@
 //! Connections with the servers of networks.
 use bnc_ports::Kind;
 
-/// The kind of connections with the servers of networks: anything may be told over one.
+/// The kind of connections with the servers of networks: all that is told over one is what its session sends.
 pub struct ToServer;
 
 impl Kind for ToServer {
-    ghost may_be_told = { λ _. Unit {0} };
+    ghost use Rattle.work_servers.specs.Sending.{IsToldByRight};
+
+    ghost may_be_told = { IsToldByRight };
 }

@@ -1,13 +1,20 @@
 //! A worker's servers: the connections with the servers of its networks, by their numbers.
 //!
 //! [`Servers`] begins these connections and closes them, reads and writes, and keeps each network's session. What a server's
-//! line comes to, or a client's line for it, is given to the caller as the session's effects ([`ServerStep::Do`], [`Said`]), which
-//! the caller carries out: it then calls [`Servers::owe`] and [`Servers::end`], and has all workers learn how the session
-//! stands ([`Standing`]). A server that has something to do stands in a queue, [`Servers::next_busy`].
+//! line comes to, or a client's line for it, is given to the caller as the session's effects ([`ServerStep::Do`],
+//! [`SaidStep`]), which the caller carries out: it puts changes, passes lines on, calls [`Servers::end`] where the session closes,
+//! and has all workers learn how the session stands ([`Standing`]). What the session sends waits for the server by then. A
+//! server that has something to do stands in a queue, [`Servers::next_busy`].
+//!
+//! Each byte that goes out over a server's connection is one that its own session sends ([`ToServer`]), by a line of the server
+//! or by one that a client said that is registered with the same account and network. [`laws`] says the same of the whole.
 #![tactic(auto)]
 
 mod dialing;
+mod dialogue;
 mod kind;
+pub mod laws;
+mod owing;
 mod server;
 mod servers;
 mod standing;
@@ -17,4 +24,4 @@ pub use kind::ToServer;
 pub use server::ServerStep;
 pub use servers::Servers;
 pub use standing::Standing;
-pub use turns::Said;
+pub use turns::SaidStep;

@@ -1,18 +1,17 @@
 //! One connection with the server of a network.
+use crate::dialogue::Dialogue;
 use crate::kind::ToServer;
 use crate::standing::is_same_entry;
 use bnc_ports::{Carries, Connection, Port, Reason};
-use byte_text::Text;
-use client_directory::Entry;
 use irc_line::Next;
-use passed_lines::{NetworkSession, ServerEffects};
+use passed_lines::{NetworkEntry, ServerEffects};
 use std::alloc::Global;
 use std::collections::VecDeque;
-use work_desk::{Desk, Fate};
-use work_lines::{Filled, Input, Pipe, Pumped};
+use work_desk::{Desk, Site};
+use work_lines::{Filled, Input, Pumped};
 
-/// The most bytes that wait for a server.
-const MOST_OWED: usize = 65_536;
+/// So often a line is tried again for which there was no memory, before the connection is closed.
+const TRIES: usize = 10;
 
 /// What a step of a server comes to.
 #[derive(Drop)]
@@ -31,38 +30,38 @@ pub enum ServerStep {
 #[derive(Drop)]
 pub(crate) struct Server<C: Connection> {
     pub(crate) input: Input,
-    pub(crate) pipe: Pipe<C>,
+    pub(crate) dialogue: Dialogue<C>,
     // whether it stands in the queue of those that have something to do
     pub(crate) is_queued: bool,
     // the place of its network among those of the node
     pub(crate) network: usize,
-    pub(crate) session: NetworkSession,
-    // how the session stands, as all workers know it
-    pub(crate) entry: Entry,
+    // how the session stood last, and whether all workers know that
+    pub(crate) entry: NetworkEntry,
+    pub(crate) is_known: bool,
     // when bytes came last, in milliseconds
     pub(crate) heard_at: u64,
-    pub(crate) fate: Fate,
+    // why it is closed, once what is owed is written
+    pub(crate) ends: Option<Reason>,
 }
 
 impl<C: Connection> Server<C> {
-    /// A session with a network's server that begins over a connection, at that moment. All workers know the network as down.
+    /// A session with a network's server that begins over a connection, at that moment. No worker knows yet how it stands.
     pub(crate) fn new(
         alloc: Global,
-        connection: C,
+        dialogue: Dialogue<C>,
         network: usize,
-        session: NetworkSession,
+        entry: NetworkEntry,
         now: u64,
     ) -> Server<C> {
-        let nick = Text::of(Vec::new(alloc));
         Server {
             input: Input::new(alloc),
-            pipe: Pipe::new(alloc, connection),
+            dialogue,
             is_queued: false,
             network,
-            session,
-            entry: Entry::new(false, nick, Vec::new(alloc), false),
+            entry,
+            is_known: false,
             heard_at: now,
-            fate: Fate::Stays,
+            ends: None,
         }
     }
 
@@ -73,56 +72,39 @@ impl<C: Connection> Server<C> {
         }
     }
 
-    /// Bytes wait for the server. Too many close the connection.
-    pub(crate) fn owe(&mut self, bytes: &[u8]) {
-        if self.pipe.owed().saturating_add(bytes.len()) > MOST_OWED {
-            self.fate = Fate::Lost(Reason::Overrun);
-        } else if self.pipe.owe(bytes).is_err() {
-            self.fate = Fate::Lost(Reason::NoMemory);
-        }
-    }
-
     /// Whether the session stands otherwise than all workers know.
     pub(crate) fn has_changed(&self) -> bool {
-        !is_same_entry(self.session.entry(), &self.entry)
+        !self.is_known || !is_same_entry(self.dialogue.session().entry(), &self.entry.entry)
     }
 
     /// All workers are to know the session as it stands now, which is answered. For want of memory nothing changes.
-    pub(crate) fn note_entry(&mut self, alloc: Global) -> Option<Entry> {
-        let entry = self.session.entry().try_clone(alloc).ok()?;
-        self.entry = self.session.entry().try_clone(alloc).ok()?;
+    pub(crate) fn note_entry(&mut self, alloc: Global) -> Option<NetworkEntry> {
+        let entry = self.dialogue.session().entry_now(alloc).ok()?;
+        self.entry = entry.try_clone(alloc).ok()?;
+        self.is_known = true;
         Some(entry)
     }
 
     /// Why the connection is to be closed after such a write, where it is.
     pub(crate) fn end_after(&self, pumped: Pumped) -> Option<Reason> {
-        let due = match self.fate {
-            Fate::Stays => None,
-            Fate::Ends(reason) | Fate::Lost(reason) => Some(reason),
-        };
         match pumped {
             Pumped::Some | Pumped::Blocked => None,
-            Pumped::All => due,
-            Pumped::Closed | Pumped::Overrun => Some(due.unwrap_or(Reason::Closed)),
-            Pumped::NoMemory => Some(due.unwrap_or(Reason::NoMemory)),
+            Pumped::All => self.ends,
+            Pumped::Closed | Pumped::Overrun => Some(self.ends.unwrap_or(Reason::Closed)),
+            Pumped::NoMemory => Some(self.ends.unwrap_or(Reason::NoMemory)),
         }
     }
 
-    /// What the next line comes to, or more bytes where there is none.
+    /// What the next line comes to, or more bytes where there is none. None where the connection is to be closed.
     pub(crate) fn step<P: Port + Carries<ToServer, Connection = C>>(
         &mut self,
         desk: &mut Desk<P>,
     ) -> ServerStep {
-        if self.fate != Fate::Stays {
+        if self.ends.is_some() || self.dialogue.lost().is_some() {
             return ServerStep::Rest;
         }
         match self.input.next_line() {
-            Next::Line(bytes) => {
-                match self.session.step(desk.site.alloc, bytes, desk.site.moment) {
-                    Ok(effects) => ServerStep::Do(effects),
-                    Err(_) => ServerStep::Over(Reason::NoMemory),
-                }
-            }
+            Next::Line(bytes) => hear(&mut self.dialogue, &desk.site, bytes),
             Next::TooLong => ServerStep::Again,
             Next::More => self.fill(desk),
         }
@@ -133,17 +115,9 @@ impl<C: Connection> Server<C> {
         &mut self,
         desk: &mut Desk<P>,
     ) -> ServerStep {
-        let Desk {
-            site,
-            port,
-            chunk,
-            feeders,
-            ..
-        } = desk;
-        let Server { input, pipe, .. } = self;
-        match pipe.fill::<ToServer, P>(input, port, chunk, feeders) {
+        match self.dialogue.fill(&mut self.input, desk) {
             Filled::More => {
-                self.heard_at = site.now;
+                self.heard_at = desk.site.now;
                 ServerStep::Again
             }
             Filled::Nothing => ServerStep::Rest,
@@ -151,4 +125,14 @@ impl<C: Connection> Server<C> {
             Filled::NoMemory => ServerStep::Over(Reason::NoMemory),
         }
     }
+}
+
+// What a line of the server comes to. A refused step leaves the session as it was, so that the line can be tried again.
+fn hear<C: Connection>(dialogue: &mut Dialogue<C>, site: &Site, bytes: &[u8]) -> ServerStep {
+    for _ in 0..TRIES {
+        if let Ok(effects) = dialogue.hear(site.alloc, bytes, site.moment) {
+            return ServerStep::Do(effects);
+        }
+    }
+    ServerStep::Over(Reason::NoMemory)
 }

@@ -2,9 +2,9 @@
 use crate::server::Server;
 use bnc_ports::{Connection, Reason};
 use byte_text::NoMemory;
+use passed_lines::{Live, ServerPut};
 use std::alloc::Global;
 use std::collections::{BTreeMap, VecDeque};
-use work_desk::Fate;
 
 // The serial number of the first id that the node makes for a network. Messages of one millisecond are ordered by the bytes of
 // their ids. So that they stand in the order in which they came, all numbers have 13 digits: the next longer one comes after 9
@@ -74,17 +74,14 @@ impl<C: Connection> Servers<C> {
         }
     }
 
-    /// A session with a network's server has begun over a connection. There is [room](Servers::make_room) for it. For want of
-    /// memory nothing changes, and the connection comes back.
+    /// A session with a network's server has begun over a connection, whose number no other has. There is
+    /// [room](Servers::make_room) for it. For want of memory nothing changes, and the connection comes back.
     pub(crate) fn insert(&mut self, line: usize, server: Server<C>) -> Result<(), C> {
         match self.all.insert(line, server) {
-            Ok(before) => {
-                drop(before);
-                Ok(())
-            }
+            Ok(_) => Ok(()),
             Err(refused) => {
                 let (_, server) = refused.value;
-                Err(server.pipe.into_connection())
+                Err(server.dialogue.into_connection())
             }
         }
     }
@@ -94,7 +91,7 @@ impl<C: Connection> Servers<C> {
         let server = self.all.remove(&line)?;
         if let Some(network_line) = self.networks.get_mut(server.network) {
             network_line.line = None;
-            network_line.serial = server.session.serial();
+            network_line.serial = server.dialogue.session().serial();
         }
         Some(server)
     }
@@ -106,7 +103,13 @@ impl<C: Connection> Servers<C> {
 
     /// The present nick of the session over that connection.
     pub fn nick(&self, line: usize) -> Option<&[u8]> {
-        Some(self.all.get(&line)?.session.entry().nick())
+        Some(self.all.get(&line)?.dialogue.session().entry().nick())
+    }
+
+    /// A message that the session over that connection put, as it is told. None where there is no such session, or where the
+    /// change is no message, or one of another network.
+    pub fn live<'a>(&self, line: usize, put: &ServerPut<'a>) -> Option<Live<'a>> {
+        self.all.get(&line)?.dialogue.session().live(put)
     }
 
     /// The server has something to do.
@@ -126,7 +129,7 @@ impl<C: Connection> Servers<C> {
                     server.input.mark_readable();
                 }
                 if writable {
-                    server.pipe.mark_writable();
+                    server.dialogue.mark_writable();
                 }
                 server.wake(busy, line);
                 true
@@ -135,21 +138,12 @@ impl<C: Connection> Servers<C> {
         }
     }
 
-    /// Bytes wait for the server. Too many close the connection, and so does want of memory.
-    pub fn owe(&mut self, line: usize, bytes: &[u8]) {
-        let Servers { all, busy, .. } = self;
-        if let Some(server) = all.get_mut(&line) {
-            server.owe(bytes);
-            server.wake(busy, line);
-        }
-    }
-
     /// The connection is closed once what is owed is written. No further line of the server is taken.
     pub fn end(&mut self, line: usize, reason: Reason) {
         let Servers { all, busy, .. } = self;
         if let Some(server) = all.get_mut(&line) {
-            if server.fate == Fate::Stays {
-                server.fate = Fate::Ends(reason);
+            if server.ends.is_none() {
+                server.ends = Some(reason);
             }
             server.wake(busy, line);
         }

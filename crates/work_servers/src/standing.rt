@@ -1,14 +1,14 @@
 //! How sessions with servers stand.
 use byte_text::Text;
 use client_directory::Entry;
-use std::alloc::Global;
+use passed_lines::NetworkEntry;
 
 /// How the session with a network's server stands from now on, which all workers are to learn.
 #[derive(Drop)]
 pub struct Standing {
     /// The place of the network among those of the node.
     pub network: usize,
-    pub entry: Entry,
+    pub entry: NetworkEntry,
 }
 
 fn has_same_channels(channels: &[Text], others: &[Text]) -> bool {
@@ -25,18 +25,4 @@ pub(crate) fn is_same_entry(entry: &Entry, other: &Entry) -> bool {
         && entry.takes_redact() == other.takes_redact()
         && entry.nick() == other.nick()
         && has_same_channels(entry.channels(), other.channels())
-}
-
-/// How a session stands once its connection has ended: the network is down, and only the nick stays. Where there is no memory
-/// the channels stay too.
-pub(crate) fn down_entry(alloc: Global, entry: Entry) -> Entry {
-    match Text::new(alloc, entry.nick()) {
-        Ok(nick) => Entry::new(false, nick, Vec::new(alloc), false),
-        Err(_) => {
-            let mut entry = entry;
-            entry.set_up(false);
-            entry.set_takes_redact(false);
-            entry
-        }
-    }
 }

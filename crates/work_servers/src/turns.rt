@@ -5,13 +5,13 @@ use crate::servers::Servers;
 use crate::standing::Standing;
 use bnc_ports::{Carries, Connection, Event, Port, Reason};
 use byte_text::NoMemory;
-use passed_lines::ServerEffects;
-use work_desk::{Desk, Fate, Site};
+use passed_lines::{Said, SayFault, ServerEffects};
+use work_desk::{Desk, Site};
 use work_lines::Pumped;
 
 /// What a client's line for a network's server comes to.
 #[derive(Drop)]
-pub struct Said {
+pub struct SaidStep {
     /// The connection with the server.
     pub line: usize,
     pub effects: Result<ServerEffects, NoMemory>,
@@ -48,10 +48,10 @@ impl<C: Connection> Servers<C> {
         line: usize,
     ) -> Option<Standing> {
         let server = self.all.get_mut(&line)?;
-        if let Fate::Lost(reason) = server.fate {
-            return self.close(desk, line, reason);
-        }
-        let pumped = server.pipe.pump::<ToServer, P>(&mut desk.port);
+        let pumped = match server.dialogue.pump(&mut desk.port) {
+            Ok(pumped) => pumped,
+            Err(reason) => return self.close(desk, line, reason),
+        };
         if let Some(reason) = server.end_after(pumped) {
             return self.close(desk, line, reason);
         }
@@ -61,23 +61,32 @@ impl<C: Connection> Servers<C> {
         None
     }
 
-    /// What a client's line for the network's server comes to. None where there is no connection with that server.
+    /// What a client's line for the network's server comes to. What the session sends waits for the server. None where there is
+    /// no connection with that server, where it is lost, or where the line is for the server of another account's network.
     pub fn say<P: Port>(
         &mut self,
         desk: &mut Desk<P>,
         network: usize,
-        bytes: &[u8],
-    ) -> Option<Said> {
+        said: &Said<'_>,
+    ) -> Option<SaidStep> {
         let line = self.line_of(network)?;
         let server = self.all.get_mut(&line)?;
-        let effects = server.session.say(desk.site.alloc, bytes, desk.site.moment);
-        Some(Said { line, effects })
+        if server.dialogue.lost().is_some() {
+            return None;
+        }
+        let effects = match server.dialogue.say(desk.site.alloc, said, desk.site.moment) {
+            Ok(effects) => Ok(effects),
+            Err(SayFault::NoMemory) => Err(NoMemory),
+            Err(SayFault::OtherServer) => return None,
+        };
+        self.wake(line);
+        Some(SaidStep { line, effects })
     }
 
     /// Takes back a list of effects, once they are done, so that the server's next line can be answered in its room.
     pub fn recycle(&mut self, line: usize, effects: ServerEffects) {
         if let Some(server) = self.all.get_mut(&line) {
-            server.session.recycle(effects);
+            server.dialogue.recycle(effects);
         }
     }
 
@@ -89,10 +98,10 @@ impl<C: Connection> Servers<C> {
             return None;
         }
         let network = server.network;
-        let was_up = server.entry.is_up();
+        let was_up = server.entry.entry.is_up();
         let entry = server.note_entry(desk.site.alloc)?;
-        if entry.is_up() && !was_up {
-            report_up(&mut desk.port, &desk.site, network, entry.nick());
+        if entry.entry.is_up() && !was_up {
+            report_up(&mut desk.port, &desk.site, network, entry.entry.nick());
         }
         Some(Standing { network, entry })
     }

@@ -1,0 +1,2 @@
+mod SendingLemmas
+mod ToldLemmas

@@ -1,0 +1,13 @@
+use Rattle.std.proofs.Math.Logic.{∥∥₁_map}
+use Rattle.upstream_session.specs.Events.{Line}
+use Rattle.work_lines.specs.Outgoing.{handed}
+use Rattle.work_servers.proofs.SendingLemmas.{goes_on}
+use Rattle.work_servers.proofs.dialogue.Dialogue.hear.Goals as goal
+
+pub invariant_of-self-2 : goal.invariant_of-self-2
+invariant_of-self-2 g c =
+    let self = c.args.self.now in
+    record {
+      by_right = ∥∥₁_map self.by_right (goes_on self.session (Line c.args.now c.args.bytes.now) self.lost c.owe_sends.new.lost (handed self.pipe) (handed c.owe_sends.new.pipe)
+          tt c.in_ok-effects.ensures.session c.in_ok-effects.ensures.effects c.owe_sends.ensures);
+    }

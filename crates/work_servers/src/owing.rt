@@ -1,0 +1,68 @@
+//! What is owed to a server.
+ghost use Rattle.std.specs.Prelude.{◌≡◌, ◌∷◌, ◌++◌, [], IfOk};
+ghost use Rattle.work_lines.specs.Outgoing.{handed};
+ghost use Rattle.work_servers.specs.Sending.{sends_of};
+ghost use Rattle.work_servers.specs.Owing.{IsOwed};
+
+use bnc_ports::{Connection, Reason};
+use byte_text::NoMemory;
+use passed_lines::ServerEffects;
+use upstream_session::UpEffect;
+use work_lines::Pipe;
+
+/// The most bytes that wait for a server.
+const MOST_OWED: usize = 65_536;
+
+// Bytes wait for the server. For too many there is no room.
+fn owe<C: Connection>(pipe: &mut Pipe<C>, bytes: &[u8]) -> Result<(), Reason>
+    ensures { IfOk result (λ _. handed pipe.new ≡ handed pipe.old ++ bytes.now) }
+{
+    if pipe.owed().saturating_add(bytes.len()) > MOST_OWED {
+        return Err(Reason::Overrun);
+    }
+    match pipe.owe(bytes) {
+        Ok(()) => Ok(()),
+        Err(NoMemory) => Err(Reason::NoMemory),
+    }
+}
+
+// What is next waits for the server, where that is a line to it.
+fn owe_effect<C: Connection>(pipe: &mut Pipe<C>, effect: &UpEffect) -> Result<(), Reason>
+    ensures { IfOk result (λ _.
+        handed pipe.new ≡ handed pipe.old ++ sends_of (effect.now ∷ [])) }
+{
+    match effect {
+        UpEffect::Send(text) => owe(pipe, text.as_bytes()),
+        UpEffect::Put(_) => Ok(()),
+        UpEffect::Relay(_, _) => Ok(()),
+        UpEffect::Close => Ok(()),
+    }
+}
+
+// All lines to the server among these wait for it, in their order.
+fn owe_all<C: Connection>(pipe: &mut Pipe<C>, effects: &[UpEffect]) -> Result<(), Reason>
+    ensures { IfOk result (λ _. handed pipe.new ≡ handed pipe.old ++ sends_of effects.now) }
+{
+    for effect in effects {
+        owe_effect(pipe, effect)?;
+    }
+    Ok(())
+}
+
+/// All lines to the server among these wait for it, in their order. Where one can't, and once one could not, the connection is
+/// lost.
+pub(crate) fn owe_sends<C: Connection>(
+    pipe: &mut Pipe<C>,
+    lost: &mut Option<Reason>,
+    effects: &ServerEffects,
+)
+    ensures { IsOwed lost.old (handed pipe.old) effects.now lost.new (handed pipe.new) }
+{
+    if lost.is_some() {
+        return;
+    }
+    match owe_all(pipe, effects.as_slice()) {
+        Ok(()) => {}
+        Err(reason) => *lost = Some(reason),
+    }
+}
