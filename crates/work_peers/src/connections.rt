@@ -1,10 +1,10 @@
 //! How connections with peers begin and end.
+ghost use Rattle.std.specs.Prelude.{◌≡◌, []};
+
 use crate::kind::ToPeer;
 use crate::peer::Peer;
 use crate::peers::Peers;
 use bnc_ports::{Carries, Connection, Event, Port, Reason};
-use gossip_link::Side;
-use peer_session::PeerSession;
 use std::net::SocketAddr;
 use work_desk::{Desk, PATIENCE, Site};
 use work_timers::Timer;
@@ -20,6 +20,9 @@ impl<C: Connection> Peers<C> {
     ) {
         // Where the port gives a number again, the connection that bore it before is closed.
         self.close(desk, line, Reason::Replaced);
+        if dialed.is_none() {
+            self.make_way(desk);
+        }
         let Some(connection) = desk.port.open(line) else {
             self.refuse(desk, None, Reason::Unreachable, dialed);
             return;
@@ -39,40 +42,41 @@ impl<C: Connection> Peers<C> {
         }
     }
 
-    // Takes a new connection in, with what is to be sent before any line came. For want of memory it is handed back.
+    // Takes a new connection in, over which nothing was sent, with what is to be sent before any line came. For want of memory
+    // it is handed back.
     fn open(
         &mut self,
         site: &Site,
         line: usize,
         connection: C,
         dialed: Option<usize>,
-    ) -> Result<(), C> {
-        let side = match dialed {
-            Some(place) => Side::Opener(place),
-            None => Side::Acceptor,
-        };
-        let session = PeerSession::new(side);
-        let mut peer = Peer::new(site.alloc, connection, session, dialed, site.now);
-        if self.make_room().is_err() || peer.open(&site.terms, &mut self.out).is_err() {
-            return Err(peer.pipe.into_connection());
+    ) -> Result<(), C>
+        requires { C.sent connection ≡ [] }
+    {
+        if self.make_room().is_err() {
+            return Err(connection);
         }
+        let peer = Peer::new(site, connection, dialed, &mut self.out)?;
         match self.add(line, peer) {
             Ok(()) => Ok(()),
-            Err(peer) => Err(peer.pipe.into_connection()),
+            Err(peer) => Err(peer.into_connection()),
         }
     }
 
     // Tells the operator of a connection that isn't taken in, and why. A peer to which this node opened it is dialed later.
     fn refuse<P: Port>(
-        &self,
+        &mut self,
         desk: &mut Desk<P>,
         address: Option<SocketAddr>,
         reason: Reason,
         dialed: Option<usize>,
     ) {
-        desk.port.report(&Event::PeerRefused { address, reason });
-        if let Some(place) = dialed {
-            self.dial_later(desk, place);
+        match dialed {
+            Some(place) => {
+                desk.port.report(&Event::PeerRefused { address, reason });
+                self.dial_later(desk, place);
+            }
+            None => self.tell_refused(&mut desk.port, address, reason),
         }
     }
 
@@ -83,7 +87,7 @@ impl<C: Connection> Peers<C> {
         line: usize,
     ) {
         let is_late = match self.all.get(&line) {
-            Some(peer) => peer.place.is_none(),
+            Some(peer) => peer.talk.noted.is_none(),
             None => false,
         };
         if is_late {
@@ -91,20 +95,15 @@ impl<C: Connection> Peers<C> {
         }
     }
 
-    /// A message of the peer at that place came over that connection. Where it is the first one, the peer's older
-    /// connection is closed. A connection that was opened to another peer is closed.
-    pub fn greet<P: Carries<ToPeer, Connection = C>>(
-        &mut self,
-        desk: &mut Desk<P>,
-        line: usize,
-        place: usize,
-    ) {
+    /// A message of a peer came over that connection. Where it is the first one, the peer's older connection is closed. A
+    /// connection that was opened to another peer is closed.
+    pub fn greet<P: Carries<ToPeer, Connection = C>>(&mut self, desk: &mut Desk<P>, line: usize) {
         let Some(peer) = self.all.get(&line) else {
             return;
         };
-        if peer.place.is_some() {
+        let Some(place) = peer.talk.newcomer() else {
             return;
-        }
+        };
         if peer.dialed.is_some() && peer.dialed != Some(place) {
             self.close(desk, line, Reason::UnknownNode);
             return;
@@ -132,18 +131,15 @@ impl<C: Connection> Peers<C> {
         desk.timers.clear(Timer::Unregistered(line));
         desk.timers.clear(Timer::UnansweredPacket(line));
         desk.timers.clear(Timer::QuietPeer(line));
-        let Peer {
-            pipe,
-            dialed,
-            place,
-            ..
-        } = peer;
-        let connection = pipe.into_connection();
+        let dialed = peer.dialed;
+        let place = peer.talk.noted;
+        let connection = peer.into_connection();
         let address = desk.port.address(&connection);
         desk.port.close(connection);
         match self.name(place) {
             Some(node) => desk.port.report(&Event::PeerDown { node, reason }),
-            None => desk.port.report(&Event::PeerRefused { address, reason }),
+            None if dialed.is_some() => desk.port.report(&Event::PeerRefused { address, reason }),
+            None => self.tell_refused(&mut desk.port, address, reason),
         }
         if let Some(place) = place {
             self.miss(desk, place);

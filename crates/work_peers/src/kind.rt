@@ -1,9 +1,11 @@
-//! What may be told to a peer.
+//! Connections with peers.
 use bnc_ports::Kind;
 
-/// The connections with peers. Everything may be told over them.
+/// The kind of connections with peers: all that is told over one is told by right.
 pub struct ToPeer;
 
 impl Kind for ToPeer {
-    ghost may_be_told = { λ _. Unit {0} };
+    ghost use Rattle.work_peers.specs.PeerCourse.{IsToldByRight};
+
+    ghost may_be_told = { IsToldByRight };
 }

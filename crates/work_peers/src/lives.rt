@@ -1,11 +1,17 @@
 //! Lives that are behind: a peer that says hello as an earlier life than the one that is known of it, and this node, where a
 //! peer knows a later life of it. That is so where a clock was set back before a start.
-use crate::peer::Peer;
+ghost use Rattle.std.specs.Prelude.{◌≡◌, ◌++◌, IfOk};
+ghost use Rattle.peer_lines.specs.Spelling.{written};
+ghost use Rattle.peer_lines.specs.declared.peer_line.PeerLine.TheVariants as line;
+ghost use Rattle.work_peers.specs.PeerCourse.{nothing_of};
+
 use crate::peers::Peers;
+use crate::talk::{Talk, owe};
 use bnc_ports::{Connection, Event, Port, Reason};
 use byte_text::NoMemory;
 use gossip_link::{Ack, Arrived, Life, NodeName, Terms, write_ack};
-use peer_session::Outcome;
+use peer_session::{Heard, Outcome};
+use std::alloc::Global;
 use work_desk::{Desk, Site};
 
 // Whether a life is one of this node that is later than its present one.
@@ -16,33 +22,56 @@ fn is_later(terms: &Terms, life: &Life) -> bool {
 
 // Appends an acknowledgement of nothing to that life of the peer of that name.
 fn acknowledge_nothing(
-    site: &Site,
+    alloc: Global,
+    terms: &Terms,
     name: &NodeName,
     incarnation: u64,
     out: &mut Vec<u8>,
-) -> Result<(), NoMemory> {
-    let me = site.terms.me().try_clone(site.alloc)?;
-    let life = Life::new(name.try_clone(site.alloc)?, incarnation);
+) -> Result<(), NoMemory>
+    ensures { IfOk result (λ _. out.new.items ≡ out.old.items ++ written (line.Ack
+        (nothing_of terms.now.me (record { node = name.now; incarnation = incarnation })))) }
+{
+    let me = terms.me().try_clone(alloc)?;
+    let life = Life::new(name.try_clone(alloc)?, incarnation);
     match write_ack(&Ack::new(me, life, 0), out) {
         Ok(()) => Ok(()),
         Err(_) => Err(NoMemory),
     }
 }
 
-impl<C: Connection> Peer<C> {
+impl<C: Connection> Talk<C> {
     // The peer is to see that it is behind its life of that incarnation: by an acknowledgement of nothing to that life.
-    fn owe_last_life(&mut self, site: &Site, name: &NodeName, incarnation: u64, out: &mut Vec<u8>) {
-        out.clear();
-        match acknowledge_nothing(site, name, incarnation, out) {
-            Ok(()) => self.owe(out.as_slice(), site.now),
-            Err(NoMemory) => self.lost = Some(Reason::NoMemory),
+    fn remind(&mut self, site: &Site, name: &NodeName, incarnation: u64, out: &mut Vec<u8>) {
+        if self.lost.is_some() {
+            return;
         }
+        let Some(_) = self.noted else {
+            return;
+        };
+        out.clear();
+        let Ok(()) = acknowledge_nothing(site.alloc, &self.terms, name, incarnation, out) else {
+            self.lost = Some(Reason::NoMemory);
+            return;
+        };
+        self.lost = owe(&mut self.pipe, &mut self.said_at, out.as_slice(), site.now);
     }
 }
 
 impl<C: Connection> Peers<C> {
-    /// Notes what a message of the peer at that place, which came to that, says of lives.
+    /// Notes what a message, which came over that connection and came to that, says of lives.
     pub(crate) fn note_lives<P: Port>(
+        &mut self,
+        desk: &mut Desk<P>,
+        line: usize,
+        message: Heard,
+        outcome: Outcome,
+    ) {
+        if let Heard::Message(place, arrived) = &message {
+            self.note_lives_in(desk, line, *place, arrived, outcome);
+        }
+    }
+
+    fn note_lives_in<P: Port>(
         &mut self,
         desk: &mut Desk<P>,
         line: usize,
@@ -93,7 +122,8 @@ impl<C: Connection> Peers<C> {
             desk.port.report(&Event::PeerGreeted { node, incarnation });
         } else {
             desk.port.report(&Event::PeerBehind { node, incarnation });
-            peer.owe_last_life(&desk.site, &neighbour.name, incarnation, out);
+            peer.talk
+                .remind(&desk.site, &neighbour.name, incarnation, out);
         }
     }
 

@@ -1,33 +1,25 @@
 //! A connection with a peer.
-use bnc_ports::{Connection, Reason};
-use byte_text::NoMemory;
-use gossip_link::Terms;
-use peer_session::PeerSession;
-use std::alloc::Global;
-use std::collections::VecDeque;
-use work_lines::{Input, Pipe};
+ghost use Rattle.std.specs.Prelude.{◌≡◌, []};
 
-/// The most bytes that wait for a peer: some packets.
-const MOST_OWED: usize = 1_048_576;
+use crate::talk::Talk;
+use bnc_ports::Connection;
+use std::collections::VecDeque;
+use work_desk::Site;
+use work_lines::Input;
 
 /// A connection with a peer.
 #[derive(Drop)]
 pub(crate) struct Peer<C: Connection> {
     pub(crate) input: Input,
-    pub(crate) pipe: Pipe<C>,
+    pub(crate) talk: Talk<C>,
     // Whether it stands in its worker's queue.
     is_queued: bool,
-    pub(crate) session: PeerSession,
     /// The place of the peer to which this node connected.
     pub(crate) dialed: Option<usize>,
-    /// The place of the peer that said hello.
-    pub(crate) place: Option<usize>,
-    /// Why it is to be closed at once, where it is.
-    pub(crate) lost: Option<Reason>,
+    /// When it came to be there, in milliseconds.
+    pub(crate) came_at: u64,
     /// When bytes last came, in milliseconds.
     pub(crate) heard_at: u64,
-    /// When the peer was last owed bytes, in milliseconds.
-    pub(crate) said_at: u64,
     /// Whether the operator was told what the peer's hello came to.
     pub(crate) is_judged: bool,
     /// Whether the operator was told that the peer knows a later life of this node.
@@ -35,27 +27,37 @@ pub(crate) struct Peer<C: Connection> {
 }
 
 impl<C: Connection> Peer<C> {
-    /// A new connection, to the peer at that place where this node opened it. It is there from that moment on.
+    /// A new connection, to the peer at that place where this node opened it. What is said first is written into the room, and
+    /// waits for the peer. For want of memory the connection comes back.
     pub(crate) fn new(
-        alloc: Global,
+        site: &Site,
         connection: C,
-        session: PeerSession,
         dialed: Option<usize>,
-        now: u64,
-    ) -> Peer<C> {
-        Peer {
-            input: Input::new(alloc),
-            pipe: Pipe::new(alloc, connection),
+        room: &mut Vec<u8>,
+    ) -> Result<Peer<C>, C>
+        requires { C.sent connection ≡ [] }
+    {
+        let talk = Talk::new(site, connection, dialed, room)?;
+        Ok(Peer {
+            input: Input::new(site.alloc),
+            talk,
             is_queued: false,
-            session,
             dialed,
-            place: None,
-            lost: None,
-            heard_at: now,
-            said_at: now,
+            came_at: site.now,
+            heard_at: site.now,
             is_judged: false,
             is_behind: false,
-        }
+        })
+    }
+
+    /// Its connection, without the peer.
+    pub(crate) fn into_connection(self) -> C {
+        self.talk.into_connection()
+    }
+
+    /// Whether the other end opened it, and no peer has said hello over it.
+    pub(crate) fn is_stranger(&self) -> bool {
+        self.dialed.is_none() && self.talk.noted.is_none()
     }
 
     /// Stands in the queue.
@@ -76,27 +78,7 @@ impl<C: Connection> Peer<C> {
             self.input.mark_readable();
         }
         if writable {
-            self.pipe.mark_writable();
-        }
-    }
-
-    /// What is to be sent before any line came waits for the peer. It is written into the room.
-    pub(crate) fn open(&mut self, terms: &Terms, room: &mut Vec<u8>) -> Result<(), NoMemory> {
-        room.clear();
-        self.session.open(terms, room)?;
-        self.pipe.owe(room.as_slice())
-    }
-
-    /// Bytes wait for the peer from that moment on. Too many close the connection.
-    pub(crate) fn owe(&mut self, bytes: &[u8], now: u64) {
-        if bytes.is_empty() {
-            return;
-        }
-        self.said_at = now;
-        if self.pipe.owed().saturating_add(bytes.len()) > MOST_OWED {
-            self.lost = Some(Reason::Overrun);
-        } else if self.pipe.owe(bytes).is_err() {
-            self.lost = Some(Reason::NoMemory);
+            self.talk.mark_writable();
         }
     }
 }

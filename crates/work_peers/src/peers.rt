@@ -1,7 +1,7 @@
 //! A worker's peers, by the numbers of their connections.
 use crate::neighbour::Neighbour;
 use crate::peer::Peer;
-use bnc_ports::Connection;
+use bnc_ports::{Connection, Refusals};
 use byte_text::NoMemory;
 use gossip_link::{NodeName, Terms};
 use std::alloc::{AllocError, Global};
@@ -17,6 +17,8 @@ pub struct Peers<C: Connection> {
     busy: VecDeque<usize>,
     /// What is to be sent, as it is written.
     pub(crate) out: Vec<u8>,
+    // Strangers that were closed.
+    pub(crate) refusals: Refusals,
 }
 
 impl<C: Connection> Peers<C> {
@@ -32,6 +34,7 @@ impl<C: Connection> Peers<C> {
             neighbours,
             busy: VecDeque::new(alloc),
             out: Vec::new(alloc),
+            refusals: Refusals::new(),
         })
     }
 
@@ -65,7 +68,7 @@ impl<C: Connection> Peers<C> {
     /// The peer at that place said hello over that connection: the connection over which it did so before.
     pub(crate) fn settle(&mut self, line: usize, place: usize) -> Option<usize> {
         if let Some(peer) = self.all.get_mut(&line) {
-            peer.place = Some(place);
+            peer.talk.note();
         }
         let neighbour = self.neighbours.get_mut(place)?;
         let before = neighbour.line;
@@ -121,6 +124,11 @@ impl<C: Connection> Peers<C> {
     /// Whether a connection has something to do.
     pub fn is_busy(&self) -> bool {
         !self.busy.is_empty()
+    }
+
+    /// How many connections have something to do.
+    pub fn busy_count(&self) -> usize {
+        self.busy.len()
     }
 
     /// The next connection that has something to do. It may have been closed since.

@@ -3,13 +3,8 @@ use crate::kind::ToPeer;
 use crate::peer::Peer;
 use crate::peers::Peers;
 use bnc_ports::{Carries, Connection, Event, Port, Reason};
-use byte_text::NoMemory;
-use peer_session::say_hello_again;
-use work_desk::{Desk, Site};
+use work_desk::Desk;
 use work_timers::Timer;
-
-/// The hello is said again to a peer that was owed nothing for so many milliseconds.
-const HELLO_AGAIN: u64 = 60_000;
 
 /// A peer from which nothing came for so many milliseconds is taken for gone.
 const GONE: u64 = 300_000;
@@ -18,26 +13,9 @@ const GONE: u64 = 300_000;
 const ABSENT: u64 = 120_000;
 
 impl<C: Connection> Peer<C> {
-    // When the hello is to be said again, where nothing else is sent until then.
-    fn hello_due(&self) -> u64 {
-        self.said_at.saturating_add(HELLO_AGAIN)
-    }
-
     // When the peer is taken for gone, where nothing comes until then.
     fn gone_at(&self) -> u64 {
         self.heard_at.saturating_add(GONE)
-    }
-
-    // Says the own hello again to the peer at that place, where it is due.
-    fn repeat_hello(&mut self, site: &Site, place: usize, out: &mut Vec<u8>) {
-        if site.now < self.hello_due() {
-            return;
-        }
-        out.clear();
-        match say_hello_again(&site.terms, place, out) {
-            Ok(()) => self.owe(out.as_slice(), site.now),
-            Err(NoMemory) => self.lost = Some(Reason::NoMemory),
-        }
     }
 }
 
@@ -53,15 +31,15 @@ impl<C: Connection> Peers<C> {
         let Some(peer) = all.get_mut(&line) else {
             return;
         };
-        let Some(place) = peer.place else {
+        if peer.talk.noted.is_none() {
             return;
-        };
+        }
         if peer.gone_at() <= desk.site.now {
             self.close(desk, line, Reason::Unheard);
             return;
         }
-        peer.repeat_hello(&desk.site, place, out);
-        let next = peer.hello_due().min(peer.gone_at());
+        peer.talk.repeat_hello(desk.site.now, out);
+        let next = peer.talk.hello_due().min(peer.gone_at());
         desk.timers.set(Timer::QuietPeer(line), next);
         self.wake(line);
     }

@@ -2,19 +2,17 @@
 use crate::kind::ToPeer;
 use crate::peer::Peer;
 use crate::peers::Peers;
+use crate::talk::Talk;
 use bnc_ports::{Carries, Connection, Reason};
-use byte_text::NoMemory;
-use gossip_link::Arrived;
 use irc_line::Next;
-use peer_session::Heard;
 use work_desk::Desk;
 use work_lines::{Filled, Pumped};
 
 /// What a step of a peer comes to.
-#[derive(Drop)]
+#[derive(Clone, Copy, Debug, PartialEq, Eq)]
 pub enum PeerStep {
-    /// A message of the peer at that place is to be carried out.
-    Take(usize, Arrived),
+    /// A message came ([`Peers::message`]), which is to be carried out by [`Peers::greet`] and then [`Peers::arrive`].
+    Take,
     /// A further step can be made.
     Again,
     /// Nothing is there for now.
@@ -24,20 +22,11 @@ pub enum PeerStep {
 }
 
 // Why a connection is closed that said this, before a peer said hello over it or afterwards.
-fn reason_of(place: Option<usize>, bytes: &[u8]) -> Reason {
-    match (place, bytes) {
+fn reason_of(noted: Option<usize>, bytes: &[u8]) -> Reason {
+    match (noted, bytes) {
         (None, [b'W', b' ', ..]) => Reason::WrongWord,
         (None, [b'H', b' ', ..]) => Reason::UnknownNode,
         _ => Reason::BadLine,
-    }
-}
-
-fn step_of(heard: Result<Heard, NoMemory>, reason: Reason) -> PeerStep {
-    match heard {
-        Ok(Heard::Nothing) => PeerStep::Again,
-        Ok(Heard::Message(place, arrived)) => PeerStep::Take(place, arrived),
-        Ok(Heard::Close) => PeerStep::Over(reason),
-        Err(NoMemory) => PeerStep::Over(Reason::NoMemory),
     }
 }
 
@@ -50,15 +39,29 @@ fn step_of_fill(filled: Filled) -> PeerStep {
     }
 }
 
+impl<C: Connection> Talk<C> {
+    // What is to be done before the next line is heard, where that is anything.
+    fn next_step(&self) -> PeerStep {
+        match self.lost {
+            Some(reason) => PeerStep::Over(reason),
+            None if self.has_message() => PeerStep::Take,
+            None => PeerStep::Again,
+        }
+    }
+}
+
 impl<C: Connection> Peer<C> {
-    // The next line, or more bytes for it. What is to be sent because of it is appended.
+    // Hears the next line, or takes in more bytes for it. What is to be sent because of the line waits for the peer.
     fn step<P: Carries<ToPeer, Connection = C>>(
         &mut self,
         desk: &mut Desk<P>,
         out: &mut Vec<u8>,
     ) -> PeerStep {
-        if let Some(reason) = self.lost {
+        if let Some(reason) = self.talk.lost {
             return PeerStep::Over(reason);
+        }
+        if self.talk.has_message() {
+            return PeerStep::Take;
         }
         let Desk {
             site,
@@ -67,28 +70,22 @@ impl<C: Connection> Peer<C> {
             feeders,
             ..
         } = desk;
-        let Peer {
-            input,
-            pipe,
-            session,
-            place,
-            heard_at,
-            ..
-        } = self;
-        match input.next_line() {
+        match self.input.next_line() {
             Next::Line(bytes) => {
-                let reason = reason_of(*place, bytes);
-                let heard = session.hear(site.alloc, &site.terms, Some(bytes), out);
-                step_of(heard, reason)
+                let reason = reason_of(self.talk.noted, bytes);
+                self.talk.hear(site, Some(bytes), reason, out);
+                self.talk.next_step()
             }
             Next::TooLong => {
-                let heard = session.hear(site.alloc, &site.terms, None, out);
-                step_of(heard, Reason::BadLine)
+                self.talk.hear(site, None, Reason::BadLine, out);
+                self.talk.next_step()
             }
             Next::More => {
-                let filled = pipe.fill::<ToPeer, P>(input, port, chunk.as_mut_slice(), feeders);
+                let filled = self
+                    .talk
+                    .fill(&mut self.input, port, chunk.as_mut_slice(), feeders);
                 if filled == Filled::More {
-                    *heard_at = site.now;
+                    self.heard_at = site.now;
                 }
                 step_of_fill(filled)
             }
@@ -98,33 +95,31 @@ impl<C: Connection> Peer<C> {
 
 impl<C: Connection> Peers<C> {
     /// Takes the next line that came over a connection, or more bytes for it. What is to be sent because of the line waits
-    /// for the peer.
+    /// for the peer. Nothing is heard before the message that came is carried out.
     pub fn step<P: Carries<ToPeer, Connection = C>>(
         &mut self,
         desk: &mut Desk<P>,
         line: usize,
     ) -> PeerStep {
         let Peers { all, out, .. } = self;
-        let Some(peer) = all.get_mut(&line) else {
-            return PeerStep::Rest;
-        };
-        out.clear();
-        let step = peer.step(desk, out);
-        peer.owe(out.as_slice(), desk.site.now);
-        step
+        match all.get_mut(&line) {
+            Some(peer) => peer.step(desk, out),
+            None => PeerStep::Rest,
+        }
     }
 
-    /// Sends what waits for the peer, by one write. The connection is closed where it can't be.
+    /// Sends what waits for the peer, by one write. The connection is closed where it can't be, and where it is lost.
     pub fn finish<P: Carries<ToPeer, Connection = C>>(&mut self, desk: &mut Desk<P>, line: usize) {
         let pumped = match self.all.get_mut(&line) {
-            Some(peer) => peer.pipe.pump::<ToPeer, P>(&mut desk.port),
+            Some(peer) => peer.talk.pump(&mut desk.port),
             None => return,
         };
         match pumped {
-            Pumped::All | Pumped::Blocked => {}
-            Pumped::Some => self.wake(line),
-            Pumped::Closed | Pumped::Overrun => self.close(desk, line, Reason::Closed),
-            Pumped::NoMemory => self.close(desk, line, Reason::NoMemory),
+            Ok(Pumped::All | Pumped::Blocked) => {}
+            Ok(Pumped::Some) => self.wake(line),
+            Ok(Pumped::Closed | Pumped::Overrun) => self.close(desk, line, Reason::Closed),
+            Ok(Pumped::NoMemory) => self.close(desk, line, Reason::NoMemory),
+            Err(reason) => self.close(desk, line, reason),
         }
     }
 }

@@ -1,0 +1,16 @@
+use Rattle.std.proofs.Common.{rules, ◌≡◌, ◌∙◌, false}
+use Rattle.std.specs.Prelude.{is_some}
+use Rattle.std.proofs.Math.Logic.{∥∥₁_map}
+use Rattle.work_peers.proofs.CourseLemmas.{owed, by_terms, hears}
+use Rattle.work_peers.proofs.talk.Talk.hear.Goals as goal
+
+pub invariant_of-self-2 : goal.invariant_of-self-2
+invariant_of-self-2 g c =
+    let lost : is_some c.args.self.now.lost ≡ false = search rules in
+    let same : c.deref.result.now ≡ c.args.self.now.terms.value = search rules in
+    let s = c.in-Ok.ensures.step in
+    record {
+      by_right = ∥∥₁_map c.args.self.now.by_right (owed c.args.self.now.lost c.owe-self.result lost c.owe-self.ensures
+          (λ owes. by_terms same (hears s.0 c.requires s.2.0 s.2.1 (c.is_close-is_over.ensures c.if-is_over.false)
+          c.clear.ensures.items (c.as_slice.ensures.value ∙ s.2.2) owes)));
+    }

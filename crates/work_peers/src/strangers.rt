@@ -1,0 +1,61 @@
+//! Strangers at the peers' door: those who connected and haven't said hello as a peer.
+use crate::kind::ToPeer;
+use crate::peers::Peers;
+use bnc_ports::{Carries, Connection, Event, Port, Reason};
+use std::net::SocketAddr;
+use work_desk::Desk;
+
+/// So many strangers there may be beside two for each peer.
+const SPARE: usize = 8;
+
+impl<C: Connection> Peers<C> {
+    /// There is to be one more stranger. Where there are too many, the one that came first is closed.
+    pub(crate) fn make_way<P: Carries<ToPeer, Connection = C>>(&mut self, desk: &mut Desk<P>) {
+        let most = self
+            .neighbours
+            .len()
+            .saturating_mul(2)
+            .saturating_add(SPARE);
+        let (count, first) = self.strangers();
+        if let Some(line) = first {
+            if count >= most {
+                self.close(desk, line, Reason::GaveWay);
+            }
+        }
+    }
+
+    // How many strangers there are, and who of them came first.
+    fn strangers(&self) -> (usize, Option<usize>) {
+        let mut count: usize = 0;
+        let mut first: Option<(u64, usize)> = None;
+        for (line, peer) in self.all.iter() {
+            if peer.is_stranger() {
+                count = count.saturating_add(1);
+                if first.is_none_or(|(came_at, _)| peer.came_at < came_at) {
+                    first = Some((peer.came_at, *line));
+                }
+            }
+        }
+        (count, first.map(|(_, line)| line))
+    }
+
+    /// The operator is told of a connection that another node opened, and that ended before a peer said hello, or that there
+    /// was one more of many.
+    pub(crate) fn tell_refused<P: Port>(
+        &mut self,
+        port: &mut P,
+        address: Option<SocketAddr>,
+        reason: Reason,
+    ) {
+        if self.refusals.add() {
+            port.report(&Event::PeerRefused { address, reason });
+        }
+    }
+
+    /// The operator is told once a minute how many more strangers were refused than were told one by one.
+    pub fn tell_refusals<P: Port>(&mut self, desk: &mut Desk<P>) {
+        if let Some(count) = self.refusals.take_untold(desk.site.now) {
+            desk.port.report(&Event::PeersRefused { count });
+        }
+    }
+}
