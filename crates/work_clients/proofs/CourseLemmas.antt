@@ -1,91 +1,161 @@
 -- What was told in a course is told by right, and how a course goes on.
-use Rattle.std.proofs.Common.{◌≡◌, ℕ, Bool, true, false, MatchBool, List, [], ◌∷◌, ◌++◌, Some, sym, ◌∙◌, ap, subst, append-nil}
+use Rattle.std.proofs.Common.{◌≡◌, ℕ, Bool, true, false, ◌&&◌, MatchBool, List, [], ◌∷◌, ◌++◌, Some, sym, ◌∙◌, ap, subst, append-nil}
+use Rattle.std.specs.Prelude.{not, ◌||◌}
+use Rattle.std.specs.Str.{bytes_eq}
+use Rattle.std.proofs.Math.Logic.{∥∥₁_map}
+use Rattle.std.proofs.lemmas.Bool.{and_parts}
+use Rattle.std.proofs.lemmas.Slice.Eq.{bytes_eq-Decides}
+use Rattle.irc_reply.specs.ToClient.{no_nick, marker_question}
 use Rattle.chat_change.specs.Record.{Record}
+use Rattle.chat_change.specs.declared.change.Change.{Change}
 use Rattle.chat_batch.specs.declared.facts.Answered.{Answered}
 use Rattle.chat_batch.specs.declared.facts.Facts.{Facts}
 use Rattle.chat_batch.specs.Message.{live_text}
 use Rattle.irc_caps.specs.declared.recipients.Recipients.{Recipients}
 use Rattle.client_directory.specs.Directory.{Directory}
 use Rattle.client_session.specs.declared.effect.Effect.{Effect}
-use Rattle.client_session.specs.declared.effect.Effect.TheVariants.{Send, Ask}
+use Rattle.client_session.specs.declared.effect.Effect.TheVariants.{Send, Put, Ask}
 use Rattle.client_session.specs.declared.stage.Stage.{Stage}
-use Rattle.client_session.specs.Hearers.{hears_message, hears_line}
+use Rattle.client_session.specs.Hearers.{hears_message, hears_line, is_recipient, is_of}
 use Rattle.client_session.specs.Session.{new, step, too_long, facts_in, session_after}
 use Rattle.client_session.specs.Step.{Step}
 use Rattle.bnc_ports.specs.Outgoing.{BeginsOf}
-use Rattle.passed_lines.specs.Passing.{IsPassedOn}
+use Rattle.passed_lines.specs.Passing.{IsPassedOn, IsNickOf, IsLive}
 use Rattle.work_lines.specs.Outgoing.{Told, Moves, handed}
 use Rattle.work_clients.specs.Nick.{nick_line}
 use Rattle.work_clients.specs.Question.{IsAnswerTo, IsUnanswerable}
-use Rattle.work_clients.specs.Course.{Course, Connects, Hears, HearsCut, Says, Answers, Skips, Acts, Goes, Stays, Comes, Relays, Renames, Informs, IsAct, IsToldByRight}
+use Rattle.work_clients.specs.Source.{Source, OfMessage, OfLine, OfNick, IsByRight}
+use Rattle.work_clients.specs.Course.{Course, Connects, Hears, HearsCut, Says, Answers, Skips, Acts, Goes, Stays, Comes, Relays, Knows, Renames, Learns, Informs, IsAct, IsToldByRight}
 
 -- what was handed over so far
-pub told_so_far : {session : Stage} {todo : List Effect} {told : Told} → Course session todo told → BeginsOf IsToldByRight (handed told.outgoing)
-told_so_far {session} {todo} {told} c = record {
+pub told_so_far : {session : Stage} {todo : List Effect} {told : Told} {nick : List ℕ} → Course IsByRight session todo told nick → BeginsOf IsToldByRight (handed told.outgoing)
+told_so_far {session} {todo} {told} {nick} c = record {
   rest = [];
-  whole = record { session = session; todo = todo; told = told; course = c; all = sym (append-nil (handed told.outgoing)) };
+  whole = record { session = session; todo = todo; told = told; nick = nick; course = c; all = sym (append-nil (handed told.outgoing)) };
 }
 
 -- and what waits
-pub told_and_waiting : {session : Stage} {todo : List Effect} {told : Told} → Course session todo told → BeginsOf IsToldByRight (handed told.outgoing ++ told.waiting)
-told_and_waiting {session} {todo} {told} c =
+pub told_and_waiting : {session : Stage} {todo : List Effect} {told : Told} {nick : List ℕ} → Course IsByRight session todo told nick → BeginsOf IsToldByRight (handed told.outgoing ++ told.waiting)
+told_and_waiting {session} {todo} {told} {nick} c =
     let after : Told = record { outgoing = record { sent = handed told.outgoing ++ told.waiting; owed = [] }; waiting = [] } in
     let moves : Moves told after = record { moved = told.waiting; waited = sym (append-nil told.waiting); went = append-nil (handed told.outgoing ++ told.waiting) } in
     subst (BeginsOf IsToldByRight) (append-nil (handed told.outgoing ++ told.waiting)) (told_so_far (Goes after moves c))
 
 -- a client is there, and nothing was told
-pub connected : {session : Stage} {told : Told} (cluster : List ℕ) (maximum : ℕ) → session ≡ new cluster maximum → told.waiting ≡ [] → handed told.outgoing ≡ [] → Course session [] told
-connected {session} {told} cluster maximum is waits went =
-    subst (λ (s : Stage). Course s [] told) (sym is) (Connects cluster maximum told waits went)
+pub connected : {session : Stage} {told : Told} {nick : List ℕ} (cluster : List ℕ) (maximum : ℕ) → session ≡ new cluster maximum → nick ≡ no_nick → told.waiting ≡ [] → handed told.outgoing ≡ [] → Course IsByRight session [] told nick
+connected {session} {told} {nick} cluster maximum is none waits went =
+    subst (λ (n : List ℕ). Course IsByRight session [] told n) (sym none)
+    (subst (λ (s : Stage). Course IsByRight s [] told no_nick) (sym is) (Connects cluster maximum told waits went))
 
 -- a line of the client came
-pub heard : {session next : Stage} {todo : List Effect} {told : Told} (effects : List Effect) (directory : Directory) (shown : Bool) (bytes : List ℕ) → todo ≡ [] → (let s : Step = record { session = next; effects = effects } in s) ≡ step directory shown session bytes → Course session todo told → Course next effects told
-heard {session} {next} {todo} {told} effects directory shown bytes e f c =
-    subst (λ (s : Step). Course s.session s.effects told) (sym f) (Hears directory shown bytes (subst (λ (t : List Effect). Course session t told) e c))
+pub heard : {session next : Stage} {todo : List Effect} {told : Told} {nick : List ℕ} (effects : List Effect) (directory : Directory) (shown : Bool) (bytes : List ℕ) → todo ≡ [] → (let s : Step = record { session = next; effects = effects } in s) ≡ step directory shown session bytes → Course IsByRight session todo told nick → Course IsByRight next effects told nick
+heard {session} {next} {todo} {told} {nick} effects directory shown bytes e f c =
+    subst (λ (s : Step). Course IsByRight s.session s.effects told nick) (sym f) (Hears directory shown bytes (subst (λ (t : List Effect). Course IsByRight session t told nick) e c))
 
 -- a line came that was too long
-pub heard_cut : {session next : Stage} {todo : List Effect} {told : Told} (effects : List Effect) (directory : Directory) → todo ≡ [] → (let s : Step = record { session = next; effects = effects } in s) ≡ too_long directory session → Course session todo told → Course next effects told
-heard_cut {session} {next} {todo} {told} effects directory e f c =
-    subst (λ (s : Step). Course s.session s.effects told) (sym f) (HearsCut directory (subst (λ (t : List Effect). Course session t told) e c))
+pub heard_cut : {session next : Stage} {todo : List Effect} {told : Told} {nick : List ℕ} (effects : List Effect) (directory : Directory) → todo ≡ [] → (let s : Step = record { session = next; effects = effects } in s) ≡ too_long directory session → Course IsByRight session todo told nick → Course IsByRight next effects told nick
+heard_cut {session} {next} {todo} {told} {nick} effects directory e f c =
+    subst (λ (s : Step). Course IsByRight s.session s.effects told nick) (sym f) (HearsCut directory (subst (λ (t : List Effect). Course IsByRight session t told nick) e c))
+
+-- what is left to do is this
+todo_is : {session : Stage} {todo other : List Effect} {told : Told} {nick : List ℕ} → todo ≡ other → Course IsByRight session todo told nick → Course IsByRight session other told nick
+todo_is {session} {todo} {other} {told} {nick} e c = subst (λ (t : List Effect). Course IsByRight session t told nick) e c
+
+-- the next effect is this one
+next_is : (first effect : Effect) (rest todo : List Effect) → todo ≡ first ∷ rest → first ≡ effect → todo ≡ effect ∷ rest
+next_is first effect rest todo e is = e ∙ ap (λ (f : Effect). f ∷ rest) is
 
 -- the session's next line waits
-pub said : {session : Stage} {todo rest : List Effect} {before : Told} (text : List ℕ) (after : Told) → todo ≡ Send text ∷ rest → after.waiting ≡ before.waiting ++ text → after.outgoing ≡ before.outgoing → Course session todo before → Course session rest after
-said {session} {todo} {rest} {before} text after e waits same c =
-    Says text after (waits, ap handed same) (subst (λ (t : List Effect). Course session t before) e c)
+pub said : {session : Stage} {todo rest : List Effect} {before : Told} {nick : List ℕ} (effect : Effect) (text : List ℕ) (after : Told) → todo ≡ effect ∷ rest → effect ≡ Send text → after.waiting ≡ before.waiting ++ text → after.outgoing ≡ before.outgoing → Course IsByRight session todo before nick → Course IsByRight session rest after nick
+said {session} {todo} {rest} effect text after e is waits same c =
+    Says text after (waits, ap handed same) (todo_is (next_is effect (Send text) rest todo e is) c)
 
 -- the session's next question is answered
-pub answered_next : {session next : Stage} {todo rest : List Effect} {before : Told} (question text : List ℕ) (answered : Answered) (after : Told) → todo ≡ Ask question ∷ rest → next ≡ session_after session answered → IsAnswerTo session question text answered → after.waiting ≡ before.waiting ++ text → after.outgoing ≡ before.outgoing → Course session todo before → Course next rest after
-answered_next {session} {next} {todo} {rest} {before} question text answered after e is answers waits same c =
-    subst (λ (s : Stage). Course s rest after) (sym is) (Answers question text answered after answers (waits, ap handed same) (subst (λ (t : List Effect). Course session t before) e c))
+pub answered_next : {session next : Stage} {todo rest : List Effect} {before : Told} {nick : List ℕ} (effect : Effect) (question text : List ℕ) (answered : Answered) (after : Told) → todo ≡ effect ∷ rest → effect ≡ Ask question → next ≡ session_after session answered → IsAnswerTo session question text answered → after.waiting ≡ before.waiting ++ text → after.outgoing ≡ before.outgoing → Course IsByRight session todo before nick → Course IsByRight next rest after nick
+answered_next {session} {next} {todo} {rest} {before} {nick} effect question text answered after e is goes answer waits same c =
+    subst (λ (s : Stage). Course IsByRight s rest after nick) (sym goes)
+    (Answers question text answered after answer tt (waits, ap handed same) (todo_is (next_is effect (Ask question) rest todo e is) c))
 
 -- the session's next question has no answer
-pub skipped : {session : Stage} {todo rest : List Effect} {told : Told} (question : List ℕ) → todo ≡ Ask question ∷ rest → IsUnanswerable session question → Course session todo told → Course session rest told
-skipped {session} {todo} {rest} {told} question e is c = Skips question is (subst (λ (t : List Effect). Course session t told) e c)
+pub skipped : {session : Stage} {todo rest : List Effect} {told : Told} {nick : List ℕ} (effect : Effect) (question : List ℕ) → todo ≡ effect ∷ rest → effect ≡ Ask question → IsUnanswerable session question → Course IsByRight session todo told nick → Course IsByRight session rest told nick
+skipped {session} {todo} {rest} effect question e is none c = Skips question none (todo_is (next_is effect (Ask question) rest todo e is) c)
 
 -- what was next is done
-pub acted : {session : Stage} {todo rest : List Effect} {told : Told} (effect : Effect) → todo ≡ effect ∷ rest → IsAct effect → Course session todo told → Course session rest told
-acted {session} {todo} {rest} {told} effect e is c = Acts effect is (subst (λ (t : List Effect). Course session t told) e c)
+pub acted : {session : Stage} {todo rest : List Effect} {told : Told} {nick : List ℕ} (effect : Effect) → todo ≡ effect ∷ rest → IsAct effect → Course IsByRight session todo told nick → Course IsByRight session rest told nick
+acted effect e is c = Acts effect is (todo_is e c)
+
+-- the marker that was next is handed out
+pub put_taken : {session : Stage} {todo rest : List Effect} {told : Told} {nick : List ℕ} (effect : Effect) (change : Change) → todo ≡ effect ∷ rest → effect ≡ Put change → Course IsByRight session todo told nick → Course IsByRight session rest told nick
+put_taken {session} {todo} {rest} effect change e is c = Acts (Put change) tt (todo_is (next_is effect (Put change) rest todo e is) c)
 
 -- nothing was told meanwhile
-pub stayed : {session : Stage} {todo : List Effect} {before : Told} (after : Told) → after.waiting ≡ before.waiting → handed after.outgoing ≡ handed before.outgoing → Course session todo before → Course session todo after
+pub stayed : {session : Stage} {todo : List Effect} {before : Told} {nick : List ℕ} (after : Told) → after.waiting ≡ before.waiting → handed after.outgoing ≡ handed before.outgoing → Course IsByRight session todo before nick → Course IsByRight session todo after nick
 stayed {session} {todo} {before} after waits went c = Stays after (waits, went ∙ sym (append-nil (handed before.outgoing))) c
 
+-- ---- the names of a network and of a session of it
+
+-- they are equal where the test says so
+same_bytes : (a b : List ℕ) → bytes_eq a b ≡ true → b ≡ a
+same_bytes a b e = sym ((bytes_eq-Decides a b).0 e)
+
+-- what is so of a network is so under equal names
+under : {account network other_account other_network : List ℕ} (P : List ℕ → List ℕ → Type 0) → account ≡ other_account → network ≡ other_network → P account network → P other_account other_network
+under {account} {network} {other_account} {other_network} P a n p = subst (λ (x : List ℕ). P x other_network) a (subst (λ (y : List ℕ). P account y) n p)
+
+-- a session hears a message of its own network alone
+pub live_is_own : (facts : Facts) (account network : List ℕ) (is_own : Bool) (message : Record) → hears_message is_own message facts ≡ true → message.buffer.account ≡ account → message.buffer.network ≡ network → IsLive account network is_own message → IsLive facts.account facts.network is_own message
+live_is_own facts account network is_own message hears a n live =
+    let names = and_parts (bytes_eq facts.account message.buffer.account) (bytes_eq facts.network message.buffer.network)
+    (and_parts (is_of message.buffer.account message.buffer.network facts) (facts.caps.echo_message || not is_own) hears).0 in
+    under (λ (x y : List ℕ). IsLive x y is_own message) (sym a ∙ same_bytes facts.account message.buffer.account names.0) (sym n ∙ same_bytes facts.network message.buffer.network names.1) live
+
+-- a session that a line goes to is one of its network
+of_network : {given_account given_network account network : List ℕ} (facts : Facts) (to : Recipients) → given_account ≡ account → given_network ≡ network → hears_line given_account given_network to facts ≡ true → (account ≡ facts.account) × (network ≡ facts.network) × (is_recipient to facts ≡ true)
+of_network {given_account} {given_network} {account} {network} facts to a n hears =
+    let parts = and_parts (is_of given_account given_network facts) (is_recipient to facts) hears in
+    let names = and_parts (bytes_eq facts.account given_account) (bytes_eq facts.network given_network) parts.0 in
+    (sym a ∙ same_bytes facts.account given_account names.0, sym n ∙ same_bytes facts.network given_network names.1, parts.1)
+
+-- ---- what is told as it comes
+
 -- a message came that the session hears: its line was handed over, or didn't fit
-pub came : {session : Stage} {todo : List Effect} {before : Told} (facts : Facts) (message : Record) (is_own : Bool) (text : List ℕ) (fits : Bool) (after : Told) → facts_in session ≡ Some facts → hears_message is_own message facts ≡ true → text ≡ live_text facts.caps message → after.waiting ≡ before.waiting → MatchBool fits (handed after.outgoing ≡ handed before.outgoing ++ text) (handed after.outgoing ≡ handed before.outgoing) → Course session todo before → Course session todo after
-came {session} {todo} {before} facts message is_own text true after knows hears is_text waits went c = Comes facts message is_own after knows hears (waits, went ∙ ap (λ (t : List ℕ). handed before.outgoing ++ t) is_text) c
-came {session} {todo} {before} facts message is_own text false after knows hears is_text waits went c = stayed after waits went c
+pub came : {session : Stage} {todo : List Effect} {before : Told} {nick : List ℕ} (facts : Facts) (account network : List ℕ) (is_own : Bool) (message : Record) (text : List ℕ) (fits : Bool) (after : Told) → facts_in session ≡ Some facts → hears_message is_own message facts ≡ true → (IsLive account network is_own message → (message.buffer.account ≡ account) × (message.buffer.network ≡ network)) → ∥ IsLive account network is_own message ∥₁ → text ≡ live_text facts.caps message → after.waiting ≡ before.waiting → MatchBool fits (handed after.outgoing ≡ handed before.outgoing ++ text) (handed after.outgoing ≡ handed before.outgoing) → Course IsByRight session todo before nick → Course IsByRight session todo after nick
+came {session} {todo} {before} facts account network is_own message text true after knows hears named live is_text waits went c =
+    Comes facts message is_own after knows hears
+    (∥∥₁_map live (λ l. live_is_own facts account network is_own message hears (named l).0 (named l).1 l))
+    (waits, went ∙ ap (λ (t : List ℕ). handed before.outgoing ++ t) is_text) c
+came facts account network is_own message text false after knows hears named live is_text waits went c = stayed after waits went c
 
 -- a line was passed on to a session that hears it: it was handed over, or didn't fit
-pub relayed : {session : Stage} {todo : List Effect} {before : Told} (facts : Facts) (account network : List ℕ) (to : Recipients) (text : List ℕ) (fits : Bool) (after : Told) → facts_in session ≡ Some facts → hears_line account network to facts ≡ true → ∥ IsPassedOn account network to text ∥₁ → after.waiting ≡ before.waiting → MatchBool fits (handed after.outgoing ≡ handed before.outgoing ++ text) (handed after.outgoing ≡ handed before.outgoing) → Course session todo before → Course session todo after
-relayed {session} {todo} {before} facts account network to text true after knows hears passed waits went c = Relays facts account network to text after knows hears passed (waits, went) c
-relayed {session} {todo} {before} facts account network to text false after knows hears passed waits went c = stayed after waits went c
+pub relayed : {session : Stage} {todo : List Effect} {before : Told} {nick given_account given_network account network : List ℕ} (facts : Facts) (to : Recipients) (text : List ℕ) (fits : Bool) (after : Told) → facts_in session ≡ Some facts → given_account ≡ account → given_network ≡ network → hears_line given_account given_network to facts ≡ true → ∥ IsPassedOn account network to text ∥₁ → after.waiting ≡ before.waiting → MatchBool fits (handed after.outgoing ≡ handed before.outgoing ++ text) (handed after.outgoing ≡ handed before.outgoing) → Course IsByRight session todo before nick → Course IsByRight session todo after nick
+relayed facts to text true after knows a n hears passed waits went c =
+    let own = of_network facts to a n hears in
+    Relays facts to text after knows own.2 (under (λ (x y : List ℕ). IsByRight (OfLine x y to text)) own.0 own.1 passed) (waits, went) c
+relayed facts to text false after knows a n hears passed waits went c = stayed after waits went c
 
--- the nick is another one: the line that says so was handed over, or didn't fit
-pub renamed : {session : Stage} {todo : List Effect} {before : Told} (facts : Facts) (old nick text : List ℕ) (fits : Bool) (after : Told) → facts_in session ≡ Some facts → text ≡ nick_line old nick → after.waiting ≡ before.waiting → MatchBool fits (handed after.outgoing ≡ handed before.outgoing ++ text) (handed after.outgoing ≡ handed before.outgoing) → Course session todo before → Course session todo after
-renamed {session} {todo} {before} facts old nick text true after knows is_text waits went c = Renames facts old nick after knows (waits, went ∙ ap (λ (t : List ℕ). handed before.outgoing ++ t) is_text) c
-renamed {session} {todo} {before} facts old nick text false after knows is_text waits went c = stayed after waits went c
+-- ---- the nick that the client knows
 
--- the answer to a line that the session didn't send was handed over
-pub informed : {session next : Stage} {todo : List Effect} {before : Told} (question text : List ℕ) (answered : Answered) (after : Told) → next ≡ session_after session answered → IsAnswerTo session question text answered → after.waiting ≡ before.waiting → handed after.outgoing ≡ handed before.outgoing ++ text → Course session todo before → Course next todo after
-informed {session} {next} {todo} {before} question text answered after is answers waits went c =
-    subst (λ (s : Stage). Course s todo after) (sym is) (Informs question text answered after answers (waits, went) c)
+-- the nick of its session
+pub knows_own : {session : Stage} {todo : List Effect} {told : Told} {nick other : List ℕ} (facts : Facts) → facts_in session ≡ Some facts → other ≡ facts.nick → Course IsByRight session todo told nick → Course IsByRight session todo told other
+knows_own {session} {todo} {told} facts knows is c = subst (λ (n : List ℕ). Course IsByRight session todo told n) (sym is) (Knows facts knows c)
+
+-- a nick of its network, of which the client was told
+pub renamed : {session : Stage} {todo : List Effect} {before : Told} {old given_account given_network account network : List ℕ} (facts : Facts) (to : Recipients) (nick text : List ℕ) (after : Told) → facts_in session ≡ Some facts → given_account ≡ account → given_network ≡ network → hears_line given_account given_network to facts ≡ true → ∥ IsNickOf account network nick ∥₁ → text ≡ nick_line old nick → after.waiting ≡ before.waiting → handed after.outgoing ≡ handed before.outgoing ++ text → Course IsByRight session todo before old → Course IsByRight session todo after nick
+renamed {session} {todo} {before} facts to nick text after knows a n hears theirs is_text waits went c =
+    let own = of_network facts to a n hears in
+    Renames facts nick after knows (under (λ (x y : List ℕ). IsByRight (OfNick x y nick)) own.0 own.1 theirs)
+    (waits, went ∙ ap (λ (t : List ℕ). handed before.outgoing ++ t) is_text) c
+
+-- one of which a line that is passed on tells
+pub learned : {session : Stage} {todo : List Effect} {told : Told} {old given_account given_network account network : List ℕ} (facts : Facts) (to : Recipients) (nick : List ℕ) → facts_in session ≡ Some facts → given_account ≡ account → given_network ≡ network → hears_line given_account given_network to facts ≡ true → ∥ IsNickOf account network nick ∥₁ → Course IsByRight session todo told old → Course IsByRight session todo told nick
+learned facts to nick knows a n hears theirs c =
+    let own = of_network facts to a n hears in
+    Learns facts nick knows (under (λ (x y : List ℕ). IsByRight (OfNick x y nick)) own.0 own.1 theirs) c
+
+-- ---- markers
+
+-- the answer about a marker that the session didn't ask for was handed over
+pub informed : {session next : Stage} {todo : List Effect} {before : Told} {nick : List ℕ} (target question text : List ℕ) (answered : Answered) (after : Told) → question ≡ marker_question target → next ≡ session_after session answered → IsAnswerTo session question text answered → after.waiting ≡ before.waiting → handed after.outgoing ≡ handed before.outgoing ++ text → Course IsByRight session todo before nick → Course IsByRight next todo after nick
+informed {session} {next} {todo} {before} {nick} target question text answered after asks goes answer waits went c =
+    let answer_to : IsAnswerTo session (marker_question target) text answered = subst (λ (q : List ℕ). IsAnswerTo session q text answered) asks answer in
+    subst (λ (s : Stage). Course IsByRight s todo after nick) (sym goes) (Informs target text answered after answer_to tt (waits, went) c)

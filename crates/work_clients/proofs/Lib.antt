@@ -1,2 +1,4 @@
 pub mod CourseLemmas
 pub mod SaidLemmas
+pub mod LeftLemmas
+pub mod OwnLemmas

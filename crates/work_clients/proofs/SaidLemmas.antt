@@ -10,10 +10,11 @@ use Rattle.client_session.specs.declared.stage.Stage.TheVariants.{Waiting, Regis
 use Rattle.client_session.specs.Events.{ClientEvent, Line, CutLine, Answer, run, after, effects_of, IsRegistered}
 use Rattle.client_session.specs.Session.{new, facts_in, session_after}
 use Rattle.work_lines.specs.Outgoing.{Told, handed}
-use Rattle.work_clients.specs.Course.{Course, Connects, Hears, HearsCut, Says, Answers, Skips, Acts, Goes, Stays, Comes, Relays, Renames, Informs, IsAct}
+use Rattle.work_clients.specs.Source.{Source}
+use Rattle.work_clients.specs.Course.{Course, Connects, Hears, HearsCut, Says, Answers, Skips, Acts, Goes, Stays, Comes, Relays, Knows, Renames, Learns, Informs, IsAct}
 use Rattle.work_clients.specs.Said.{lines_of, said_by, IsNeverRegistered, HearsItsSessionAlone}
 
-run_one_more : (session : Stage) (events : List ClientEvent) (event : ClientEvent) → run session (events ++ event ∷ []) ≡ after (run session events) event
+pub run_one_more : (session : Stage) (events : List ClientEvent) (event : ClientEvent) → run session (events ++ event ∷ []) ≡ after (run session events) event
 run_one_more session [] event = refl
 run_one_more session (first ∷ events) event = run_one_more (after session first) events event
 
@@ -108,7 +109,7 @@ by_other {session} {todo} {rest} {before} later w same = record {
   alone = λ never. same never ∙ w.alone never;
 }
 
-pub hears_alone : {session : Stage} {todo : List Effect} {told : Told} → Course session todo told → HearsItsSessionAlone session todo told
+pub hears_alone : {IsThere : Source → Type 0} {session : Stage} {todo : List Effect} {told : Told} {nick : List ℕ} → Course IsThere session todo told nick → HearsItsSessionAlone session todo told
 hears_alone (Connects cluster maximum told waits went) = record {
   cluster = cluster;
   maximum = maximum;
@@ -120,15 +121,17 @@ hears_alone (Hears directory shown bytes c) = by_line (Line directory shown byte
 hears_alone (HearsCut directory c) = by_line (CutLine directory) (hears_alone c)
 hears_alone (Says {session} {todo} {before} text later kept c) =
     by_other later (hears_alone c) (λ never. one_more_waits (handed before.outgoing) before.waiting text (lines_of todo) (handed later.outgoing) later.waiting kept.0 kept.1)
-hears_alone (Answers question text answered later is kept c) = by_answer later answered is.facts is.knows (hears_alone c)
-hears_alone (Skips {session} {todo} {told} question is c) = by_other told (hears_alone c) (λ never. refl)
+hears_alone (Answers question text answered later answer there kept c) = by_answer later answered answer.facts answer.knows (hears_alone c)
+hears_alone (Skips {session} {todo} {told} question none c) = by_other told (hears_alone c) (λ never. refl)
 hears_alone (Acts {session} {todo} {told} effect is c) =
     by_other told (hears_alone c) (λ never. ap (λ (t : List ℕ). (handed told.outgoing ++ told.waiting) ++ t) (sym (acts_say_nothing effect todo is)))
 hears_alone (Goes {session} {todo} {before} later moves c) =
     by_other later (hears_alone c) (λ never. ap (λ (t : List ℕ). t ++ lines_of todo) (some_go (handed before.outgoing) before.waiting moves.moved (handed later.outgoing) later.waiting moves.waited moves.went))
 hears_alone (Stays {session} {todo} {before} later same c) =
     by_other later (hears_alone c) (λ never. ap (λ (t : List ℕ). t ++ lines_of todo) (none_go (handed before.outgoing) before.waiting (handed later.outgoing) later.waiting same.0 same.1))
-hears_alone (Comes facts message is_own later knows hears given c) = by_other later (hears_alone c) (by_registered (hears_alone c) facts knows)
-hears_alone (Relays facts account network to text later knows hears passed given c) = by_other later (hears_alone c) (by_registered (hears_alone c) facts knows)
-hears_alone (Renames facts old nick later knows given c) = by_other later (hears_alone c) (by_registered (hears_alone c) facts knows)
-hears_alone (Informs question text answered later is given c) = by_answer later answered is.facts is.knows (hears_alone c)
+hears_alone (Comes facts message is_own later knows hears there given c) = by_other later (hears_alone c) (by_registered (hears_alone c) facts knows)
+hears_alone (Relays facts to text later knows hears there given c) = by_other later (hears_alone c) (by_registered (hears_alone c) facts knows)
+hears_alone (Knows {session} {todo} {told} facts knows c) = by_other told (hears_alone c) (λ never. refl)
+hears_alone (Renames facts nick later knows there given c) = by_other later (hears_alone c) (by_registered (hears_alone c) facts knows)
+hears_alone (Learns {session} {todo} {told} facts nick knows there c) = by_other told (hears_alone c) (λ never. refl)
+hears_alone (Informs target text answered later answer there given c) = by_answer later answered answer.facts answer.knows (hears_alone c)

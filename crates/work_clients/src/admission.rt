@@ -2,8 +2,10 @@
 use crate::client::Client;
 use crate::clients::Clients;
 use crate::kind::ToClient;
+use crate::registrations::{Registration, Registrations};
 use attach::Attachment;
 use bnc_ports::{Carries, Connection, Event, Port, Reason};
+use std::net::SocketAddr;
 use std::sync::Wait;
 use work_desk::{Desk, Fate, PATIENCE};
 use work_timers::Timer;
@@ -19,7 +21,14 @@ impl<X: Attachment, C: Connection> Client<X, C> {
     }
 
     // Known from now on by its network, where its session has just registered.
-    fn register<P: Carries<ToClient, Connection = C>>(&mut self, desk: &mut Desk<P>) {
+    fn register<P: Carries<ToClient, Connection = C>>(
+        &mut self,
+        desk: &mut Desk<P>,
+        registrations: &mut Registrations,
+    ) {
+        if self.know_nick(desk.site.alloc).is_err() {
+            self.fate = Fate::Lost(Reason::NoMemory);
+        }
         let Some(facts) = self.session.facts() else {
             return;
         };
@@ -29,11 +38,15 @@ impl<X: Attachment, C: Connection> Client<X, C> {
             self.fate = Fate::Lost(Reason::NoEntry);
             return;
         };
+        let registration = Registration {
+            network: place,
+            line: self.guest.number(),
+        };
+        let Ok(()) = registrations.enter(registration) else {
+            self.fate = Fate::Lost(Reason::NoMemory);
+            return;
+        };
         self.network = Some(place);
-        match facts.nick.try_clone(desk.site.alloc) {
-            Ok(nick) => self.told = nick,
-            Err(_) => self.fate = Fate::Lost(Reason::NoMemory),
-        }
         desk.timers.clear(Timer::Unregistered(self.guest.number()));
         let address = desk.port.address(self.guest.connection());
         desk.port.report(&Event::ClientIn {
@@ -44,14 +57,33 @@ impl<X: Attachment, C: Connection> Client<X, C> {
     }
 }
 
-// A connection over which no client can be served is closed. The operator is told.
-fn refuse<P: Carries<ToClient>>(port: &mut P, connection: P::Connection, reason: Reason) {
-    let address = port.address(&connection);
-    port.close(connection);
-    port.report(&Event::ClientRefused { address, reason });
-}
-
 impl<X: Attachment, C: Connection> Clients<X, C> {
+    // The operator is told of a client that is gone and had not registered, or that there was one more of many.
+    fn tell_refused<P: Port>(&mut self, port: &mut P, address: Option<SocketAddr>, reason: Reason) {
+        if self.refusals.add() {
+            port.report(&Event::ClientRefused { address, reason });
+        }
+    }
+
+    /// The operator is told once a minute how many more clients were refused than were told one by one.
+    pub fn tell_refusals<P: Port>(&mut self, desk: &mut Desk<P>) {
+        if let Some(count) = self.refusals.take_untold(desk.site.now) {
+            desk.port.report(&Event::ClientsRefused { count });
+        }
+    }
+
+    // A connection over which no client can be served is closed. The operator is told.
+    fn refuse<P: Carries<ToClient>>(
+        &mut self,
+        port: &mut P,
+        connection: P::Connection,
+        reason: Reason,
+    ) {
+        let address = port.address(&connection);
+        port.close(connection);
+        self.tell_refused(port, address, reason);
+    }
+
     /// A client came, whose attachment is under a ticket. Where it can't be taken in its connection is closed.
     pub fn admit<W: Wait, P: Carries<ToClient, Connection = C>>(
         &mut self,
@@ -62,16 +94,13 @@ impl<X: Attachment, C: Connection> Clients<X, C> {
     ) {
         let attachment = self.lobby.admit(rt, ticket);
         let Some(connection) = desk.port.open(line) else {
-            let address = None;
-            let reason = Reason::Closed;
-            desk.port.report(&Event::ClientRefused { address, reason });
-            return;
+            return self.tell_refused(&mut desk.port, None, Reason::Closed);
         };
         let Some(attachment) = attachment else {
-            return refuse(&mut desk.port, connection, Reason::NoPlace);
+            return self.refuse(&mut desk.port, connection, Reason::NoPlace);
         };
-        if let Err(connection) = self.begin(&desk.site, connection, attachment) {
-            return refuse(&mut desk.port, connection, Reason::NoMemory);
+        if let Err(connection) = self.begin(&desk.site, connection, attachment, ticket) {
+            return self.refuse(&mut desk.port, connection, Reason::NoMemory);
         }
         self.wake(line);
         if desk.set_patience(line, PATIENCE).is_err() {
@@ -86,19 +115,31 @@ impl<X: Attachment, C: Connection> Clients<X, C> {
         desk: &mut Desk<P>,
         line: usize,
     ) {
-        if let Some(client) = self.all.get_mut(&line) {
+        let Clients {
+            all,
+            registrations,
+            lobby,
+            ..
+        } = self;
+        if let Some(client) = all.get_mut(&line) {
             if client.network.is_none() {
-                client.register(desk);
+                client.register(desk, registrations);
+                if client.network.is_some() {
+                    lobby.note_registered(client.guest.place());
+                }
             }
         }
     }
 
-    /// A client that had long enough to register, or to read what it was owed, is closed.
+    /// A client that had long enough to register, or to read what it was owed, is closed. One that is turned away is told so.
     pub fn check_registered<P: Carries<ToClient, Connection = C>>(
         &mut self,
         desk: &mut Desk<P>,
         line: usize,
     ) {
+        if self.release(line) {
+            return;
+        }
         let Some(client) = self.all.get(&line) else {
             return;
         };
@@ -125,7 +166,7 @@ impl<X: Attachment, C: Connection> Clients<X, C> {
         line: usize,
         reason: Reason,
     ) {
-        let Some(client) = self.all.remove(&line) else {
+        let Some(client) = self.remove(line) else {
             return;
         };
         let network = client.network;
@@ -146,7 +187,7 @@ impl<X: Attachment, C: Connection> Clients<X, C> {
                 address,
                 reason,
             }),
-            None => port.report(&Event::ClientRefused { address, reason }),
+            None => self.tell_refused(port, address, reason),
         }
     }
 }

@@ -1,15 +1,17 @@
 //! What clients are answered.
-ghost use Rattle.std.specs.Prelude.{◌≡◌, IfOk, IfSome, MatchOption, drop, length, ◌∷◌, ◌+◌, ◌<◌};
+ghost use Rattle.std.specs.Prelude.{IfOk, MatchOption};
 ghost use Rattle.work_clients.specs.Question.{IsAnswerTo, IsUnanswerable};
 
-use crate::client::{Client, Delivery, delivery_of};
+use crate::client::{Client, Delivery};
 use crate::clients::Clients;
+use crate::effects::effect_at;
 use crate::kind::ToClient;
 use attach::Attachment;
 use bnc_ports::{Carries, Connection, Port, Reason};
 use chat_batch::Answered;
 use client_session::{Effect, Session};
 use irc_line::{TagLimit, read_line};
+use irc_reply::to_client::marker_question;
 use shared_node::{AskFault, Naming, Pass};
 use std::alloc::Global;
 use work_desk::Desk;
@@ -18,21 +20,6 @@ fn reason_of(fault: AskFault) -> Reason {
     match fault {
         AskFault::NoEntry => Reason::NoEntry,
         AskFault::NoMemory | AskFault::Write => Reason::NoMemory,
-    }
-}
-
-// The question, where that is next of what a line comes to.
-fn question_at(effects: &[Effect], done: usize) -> Option<&[u8]>
-    ensures next { IfSome result (λ question. drop done effects.now
-        ≡ Effect.Ask question.now ∷ drop (done + 1) effects.now) }
-    ensures inside { IfSome result (λ _. done < length effects.now) }
-{
-    if done >= effects.len() {
-        return None;
-    }
-    match &effects[done] {
-        Effect::Ask(question) => Some(question.as_bytes()),
-        _ => None,
     }
 }
 
@@ -70,9 +57,10 @@ impl<X: Attachment, C: Connection> Client<X, C> {
         pass: &mut Pass<J>,
         room: &mut Vec<u8>,
     ) -> Result<(), Reason> {
-        let Some(question) = question_at(self.effects.as_slice(), self.done) else {
+        let Some(Effect::Ask(question)) = effect_at(self.effects.as_slice(), self.done) else {
             return Ok(());
         };
+        let question = question.as_bytes();
         let Some(answered) = write_answer(&self.session, alloc, pass, question, room)? else {
             self.done += 1;
             return Ok(());
@@ -85,14 +73,19 @@ impl<X: Attachment, C: Connection> Client<X, C> {
         Ok(())
     }
 
-    // The client is told what it would be answered to a line.
-    fn tell_answer<J: Naming, P: Carries<ToClient, Connection = C>>(
+    // The client is told the read marker of a target: what it would be answered if it asked. For want of memory for the
+    // question it isn't told.
+    fn tell_marker<J: Naming, P: Carries<ToClient, Connection = C>>(
         &mut self,
         desk: &mut Desk<P>,
         pass: &mut Pass<J>,
-        question: &[u8],
+        target: &[u8],
         room: &mut Vec<u8>,
     ) -> Delivery {
+        let Ok(question) = marker_question(desk.site.alloc, target) else {
+            return Delivery::Skipped;
+        };
+        let question = question.as_bytes();
         match write_answer(&self.session, desk.site.alloc, pass, question, room) {
             Ok(Some(answered)) => {
                 if !self
@@ -125,13 +118,13 @@ impl<X: Attachment, C: Connection> Clients<X, C> {
         }
     }
 
-    /// Tells a client what it would be answered to a line, which stands without its ending. The caller asked the gate.
-    pub fn tell_answer<J: Naming, P: Carries<ToClient, Connection = C>>(
+    /// Tells a client the read marker of a target (IRCv3 draft/read-marker). The caller asked the gate.
+    pub fn tell_marker<J: Naming, P: Carries<ToClient, Connection = C>>(
         &mut self,
         desk: &mut Desk<P>,
         pass: &mut Pass<J>,
         line: usize,
-        question: &[u8],
+        target: &[u8],
     ) {
         let Clients {
             all,
@@ -140,7 +133,7 @@ impl<X: Attachment, C: Connection> Clients<X, C> {
             ..
         } = self;
         if let Some(client) = all.get_mut(&line) {
-            let delivery = client.tell_answer(desk, pass, question, answer);
+            let delivery = client.tell_marker(desk, pass, target, answer);
             client.note(delivery, busy, line);
         }
     }

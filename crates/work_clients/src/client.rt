@@ -1,7 +1,9 @@
 //! One client.
 ghost use Rattle.std.specs.Prelude.{◌≡◌, [], IfOk, OnErr, IfSome, drop};
 ghost use Rattle.work_clients.specs.Course.{Course};
+ghost use Rattle.work_clients.specs.Source.{IsByRight};
 
+use crate::turned_away::TurnedAway;
 use attach::Attachment;
 use bnc_ports::{Connection, Reason};
 use byte_text::Text;
@@ -24,9 +26,12 @@ pub(crate) struct Client<X: Attachment, C: Connection> {
     /// The nick that the client knows as its own.
     pub(crate) told: Text,
     pub(crate) fate: Fate,
+    pub(crate) turned_away: TurnedAway,
+    /// The ticket under which it came.
+    pub(crate) ticket: u64,
     /// Whether it stands in the queue of those that have something to do.
     pub(crate) is_queued: bool,
-    ghost by_right: { ∥ Course session (drop done effects.items) guest ∥₁ },
+    ghost by_right: { ∥ Course IsByRight session (drop done effects.items) guest told ∥₁ },
 }
 
 /// What came of telling a client something as it happens.
@@ -70,6 +75,8 @@ impl<X: Attachment, C: Connection> Client<X, C> {
             network: None,
             told,
             fate: Fate::Stays,
+            turned_away: TurnedAway::No,
+            ticket: 0,
             is_queued: false,
         })
     }

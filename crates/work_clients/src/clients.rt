@@ -3,8 +3,9 @@ ghost use Rattle.std.specs.Prelude.{◌≡◌, []};
 
 use crate::client::Client;
 use crate::live_text::LiveText;
+use crate::registrations::{Registration, Registrations};
 use attach::Attachment;
-use bnc_ports::{Connection, Lobby};
+use bnc_ports::{Connection, Lobby, Refusals};
 use std::alloc::Global;
 use std::collections::{BTreeMap, VecDeque};
 use work_desk::Site;
@@ -13,12 +14,16 @@ use work_desk::Site;
 #[derive(Drop)]
 pub struct Clients<X: Attachment, C: Connection> {
     pub(crate) all: BTreeMap<usize, Client<X, C>>,
+    // those among them that are registered
+    pub(crate) registrations: Registrations,
     pub(crate) lobby: Lobby<X>,
     // those that have something to do
     pub(crate) busy: VecDeque<usize>,
     // a text for a client, as it is written
     pub(crate) answer: Vec<u8>,
     pub(crate) live: LiveText,
+    // those that were closed before they registered
+    pub(crate) refusals: Refusals,
 }
 
 impl<X: Attachment, C: Connection> Clients<X, C> {
@@ -26,16 +31,24 @@ impl<X: Attachment, C: Connection> Clients<X, C> {
     pub fn new(alloc: Global, lobby: Lobby<X>) -> Clients<X, C> {
         Clients {
             all: BTreeMap::new(alloc),
+            registrations: Registrations::new(alloc),
             lobby,
             busy: VecDeque::new(alloc),
             answer: Vec::new(alloc),
             live: LiveText::new(alloc),
+            refusals: Refusals::new(),
         }
     }
 
-    /// A client begins its session over a connection, to which nothing was told, with an attachment to which nothing is owed.
-    /// For want of memory the connection comes back, and the attachment is let go.
-    pub(crate) fn begin(&mut self, site: &Site, connection: C, attachment: X) -> Result<(), C>
+    /// A client that came under that ticket begins its session over a connection, to which nothing was told, with an attachment
+    /// to which nothing is owed. For want of memory the connection comes back, and the attachment is let go.
+    pub(crate) fn begin(
+        &mut self,
+        site: &Site,
+        connection: C,
+        attachment: X,
+        ticket: u64,
+    ) -> Result<(), C>
         requires sent { C.sent connection ≡ [] }
         requires owed { (X.state attachment).owed ≡ [] }
     {
@@ -44,7 +57,8 @@ impl<X: Attachment, C: Connection> Clients<X, C> {
             return Err(connection);
         }
         let line = connection.number();
-        let client = Client::new(site, connection, attachment)?;
+        let mut client = Client::new(site, connection, attachment)?;
+        client.ticket = ticket;
         match self.all.insert(line, client) {
             Ok(before) => {
                 drop(before);
@@ -52,6 +66,15 @@ impl<X: Attachment, C: Connection> Clients<X, C> {
             }
             Err(refused) => Err(refused.value.1.into_connection()),
         }
+    }
+
+    // The client isn't there any more.
+    pub(crate) fn remove(&mut self, line: usize) -> Option<Client<X, C>> {
+        let client = self.all.remove(&line)?;
+        if let Some(network) = client.network {
+            self.registrations.leave(Registration { network, line });
+        }
+        Some(client)
     }
 
     /// The place of the client's network among those of the node, once it is registered.
@@ -85,6 +108,11 @@ impl<X: Attachment, C: Connection> Clients<X, C> {
         !self.busy.is_empty()
     }
 
+    /// How many clients have something to do.
+    pub fn busy_count(&self) -> usize {
+        self.busy.len()
+    }
+
     /// The next client that has something to do.
     pub fn next_busy(&mut self) -> Option<usize> {
         let line = self.busy.pop_front()?;
@@ -102,11 +130,20 @@ impl<X: Attachment, C: Connection> Clients<X, C> {
         network: usize,
         except: Option<usize>,
     ) -> Option<usize> {
-        for (line, client) in self.all.range(from..) {
-            if client.follows_markers(network) && except != Some(*line) {
-                return Some(*line);
+        for registration in self.registrations.of(network, from) {
+            let line = registration.line;
+            if except != Some(line) && self.follows_markers(network, line) {
+                return Some(line);
             }
         }
         None
+    }
+
+    // Whether the client is told of read markers of the network's account.
+    fn follows_markers(&self, network: usize, line: usize) -> bool {
+        match self.all.get(&line) {
+            Some(client) => client.follows_markers(network),
+            None => false,
+        }
     }
 }

@@ -1,6 +1,8 @@
 //! What a client's line comes to, one thing after the other.
-ghost use Rattle.std.specs.Prelude.{◌≡◌, IfSome, drop, length, ◌∷◌, ◌+◌, ◌<◌};
+ghost use Rattle.std.specs.Prelude.{◌≡◌, true, IfSome, drop, length, ◌∷◌, ◌+◌, ◌<◌};
+ghost use Rattle.passed_lines.specs.Saying.{IsSaidFor};
 ghost use Rattle.work_clients.specs.Course.{IsAct};
+ghost use Rattle.work_clients.specs.Marking.{IsMarkedBy};
 
 use crate::client::Client;
 use crate::clients::Clients;
@@ -9,79 +11,61 @@ use bnc_ports::{Connection, Reason};
 use byte_text::NoMemory;
 use chat_change::Change;
 use client_session::Effect;
+use client_session::laws::{each_reaches_its_own_past_alone, nothing_happens_before_the_door};
+use passed_lines::Said;
 use std::alloc::Global;
 use std::mem;
 
-/// What is next of what a client's line comes to. Its caller does that, and says so ([`Clients::effect_done`]).
+/// What is next of what a client's line comes to. Its caller does that.
 #[derive(Drop)]
 pub enum ClientEffect {
     /// This marker is put.
-    Put(Change),
+    Put(ClientPut),
     /// The client's question is answered, by [`Clients::answer`].
     Ask,
-    /// A line goes to the network's server ([`Clients::line_for_server`]).
+    /// A line goes to the network's server ([`Clients::line_for_server`]), and then is done ([`Clients::line_done`]).
     Upstream,
     /// The connection is closed once what is owed is written.
     Close,
 }
 
-// The line of the session's own, where that is next.
-fn text_at(effects: &[Effect], done: usize) -> Option<&[u8]>
-    ensures next { IfSome result (λ text. drop done effects.now
-        ≡ Effect.Send text.now ∷ drop (done + 1) effects.now) }
-    ensures inside { IfSome result (λ _. done < length effects.now) }
-{
-    if done >= effects.len() {
-        return None;
-    }
-    match &effects[done] {
-        Effect::Send(text) => Some(text.as_bytes()),
-        _ => None,
-    }
+/// A marker that a registered session of a client puts. There is one for each time that it puts one: as it is handed out, that
+/// is done.
+#[derive(Drop)]
+pub struct ClientPut {
+    pub change: Change,
+    pub ghost is_put: { ∥ IsMarkedBy change ∥₁ },
 }
 
-// What is next, where it tells the client nothing.
-fn act_at(effects: &[Effect], done: usize) -> Option<&Effect>
-    ensures next { IfSome result (λ act. drop done effects.now
-        ≡ act.now ∷ drop (done + 1) effects.now) }
-    ensures act { IfSome result (λ act. IsAct act.now) }
+/// What is next, where there is something.
+pub(crate) fn effect_at(effects: &[Effect], done: usize) -> Option<&Effect>
+    ensures next { IfSome result (λ effect. drop done effects.now
+        ≡ effect.now ∷ drop (done + 1) effects.now) }
     ensures inside { IfSome result (λ _. done < length effects.now) }
 {
     if done >= effects.len() {
         return None;
     }
-    let effect = &effects[done];
+    Some(&effects[done])
+}
+
+// Whether the client is told nothing of it.
+fn is_act(effect: &Effect) -> bool
+    ensures { result ≡ true → IsAct effect.now }
+{
     match effect {
-        Effect::Put(_) => Some(effect),
-        Effect::Upstream(_) => Some(effect),
-        Effect::Close => Some(effect),
-        Effect::Send(_) => None,
-        Effect::Ask(_) => None,
+        Effect::Put(_) | Effect::Upstream(_) | Effect::Close => true,
+        Effect::Send(_) | Effect::Ask(_) => false,
     }
-}
-
-// What is next that isn't a line of the session's own. None where a line is, or nothing.
-fn effect_at(effects: &[Effect], done: usize) -> Result<Option<ClientEffect>, Reason> {
-    let effect = match effects.get(done) {
-        None | Some(Effect::Send(_)) => return Ok(None),
-        Some(Effect::Put(change)) => match change.try_clone() {
-            Ok(change) => ClientEffect::Put(change),
-            Err(_) => return Err(Reason::NoMemory),
-        },
-        Some(Effect::Ask(_)) => ClientEffect::Ask,
-        Some(Effect::Upstream(_)) => ClientEffect::Upstream,
-        Some(Effect::Close) => ClientEffect::Close,
-    };
-    Ok(Some(effect))
 }
 
 impl<X: Attachment, C: Connection> Client<X, C> {
     // The next line of the session's own waits for the client. False where something else is next, or nothing.
     fn say(&mut self) -> Result<bool, NoMemory> {
-        let Some(text) = text_at(self.effects.as_slice(), self.done) else {
+        let Some(Effect::Send(text)) = effect_at(self.effects.as_slice(), self.done) else {
             return Ok(false);
         };
-        self.guest.owe(text)?;
+        self.guest.owe(text.as_bytes())?;
         self.done += 1;
         Ok(true)
     }
@@ -107,40 +91,77 @@ impl<X: Attachment, C: Connection> Client<X, C> {
         self.session.recycle(effects);
     }
 
+    // What was next, and told the client nothing, is done.
+    fn act_done(&mut self) {
+        let Some(effect) = effect_at(self.effects.as_slice(), self.done) else {
+            return;
+        };
+        if is_act(effect) {
+            self.done += 1;
+        }
+    }
+
+    // The marker that is next, where one is. It is done with that.
+    fn take_put(&mut self) -> Result<Option<ClientEffect>, Reason> {
+        let Some(Effect::Put(change)) = effect_at(self.effects.as_slice(), self.done) else {
+            return Ok(None);
+        };
+        let Ok(change) = change.try_clone() else {
+            return Err(Reason::NoMemory);
+        };
+        // Only a registered session puts something.
+        nothing_happens_before_the_door();
+        self.done += 1;
+        Ok(Some(ClientEffect::Put(ClientPut { change })))
+    }
+
     // What is next, once the session's own lines before it wait. None where all is done.
     fn next_effect(&mut self, alloc: Global) -> Result<Option<ClientEffect>, Reason> {
         if self.say_all().is_err() {
             return Err(Reason::NoMemory);
         }
-        match effect_at(self.effects.as_slice(), self.done)? {
-            Some(effect) => Ok(Some(effect)),
-            None => {
+        match effect_at(self.effects.as_slice(), self.done) {
+            Some(Effect::Put(_)) => self.take_put(),
+            Some(Effect::Ask(_)) => Ok(Some(ClientEffect::Ask)),
+            Some(Effect::Upstream(_)) => Ok(Some(ClientEffect::Upstream)),
+            Some(Effect::Close) => {
+                self.act_done();
+                Ok(Some(ClientEffect::Close))
+            }
+            Some(Effect::Send(_)) | None => {
                 self.recycle(alloc);
                 Ok(None)
             }
         }
     }
 
-    // What was next, and told the client nothing, is done.
-    fn effect_done(&mut self) {
-        let Some(_) = act_at(self.effects.as_slice(), self.done) else {
-            return;
+    // The line for the network's server, where that is next.
+    fn line_for_server(&self) -> Option<Said<'_>> {
+        let facts = self.session.facts()?;
+        let Some(Effect::Upstream(text)) = effect_at(self.effects.as_slice(), self.done) else {
+            return None;
         };
-        self.done += 1;
+        // Only a registered session has one, and its account and network never change.
+        nothing_happens_before_the_door();
+        each_reaches_its_own_past_alone();
+        Some(Said {
+            account: facts.account.as_bytes(),
+            network: facts.network.as_bytes(),
+            text: text.as_bytes(),
+        })
     }
 
-    // The line for the network's server, where that is next.
-    fn line_for_server(&self) -> Option<&[u8]> {
-        match self.effects.get(self.done)? {
-            Effect::Upstream(text) => Some(text.as_bytes()),
-            _ => None,
+    // The line for the network's server, where that was next, is done.
+    fn line_done(&mut self) {
+        if let Some(Effect::Upstream(_)) = effect_at(self.effects.as_slice(), self.done) {
+            self.act_done();
         }
     }
 }
 
 impl<X: Attachment, C: Connection> Clients<X, C> {
     /// What is next of what a client's line comes to. The session's own lines before it wait for the client, and go out as
-    /// there is room. None where all is done; the next line of the client can be heard then.
+    /// there is room. A marker is handed out once. None where all is done; the next line of the client can be heard then.
     pub fn next_effect(
         &mut self,
         alloc: Global,
@@ -152,15 +173,15 @@ impl<X: Attachment, C: Connection> Clients<X, C> {
         }
     }
 
-    /// What was next is done, where it wasn't a question.
-    pub fn effect_done(&mut self, line: usize) {
-        if let Some(client) = self.all.get_mut(&line) {
-            client.effect_done();
-        }
+    /// The client's line for the network's server, where that is next.
+    pub fn line_for_server(&self, line: usize) -> Option<Said<'_>> {
+        self.all.get(&line)?.line_for_server()
     }
 
-    /// The client's line for the network's server, where that is next.
-    pub fn line_for_server(&self, line: usize) -> Option<&[u8]> {
-        self.all.get(&line)?.line_for_server()
+    /// The client's line for the network's server, where that was next, is done.
+    pub fn line_done(&mut self, line: usize) {
+        if let Some(client) = self.all.get_mut(&line) {
+            client.line_done();
+        }
     }
 }

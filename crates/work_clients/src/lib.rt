@@ -6,9 +6,10 @@
 //! [`Clients::next_effect`] says what is next.
 //!
 //! Each byte that goes out over a client's connection is one that its course gives ([`ToClient`]): a line that its own session
-//! said; an answer, with its own facts, to its own question or to one that the worker asks in its place; a message that its
-//! session hears; a line of its network that is passed on to it; or the line that its nick is another one. [`laws`] says what
-//! a client hears before its registration.
+//! said; an answer, with its own facts, to its own question; the answer about a read marker; a message of its network that its
+//! session hears; a line of its network that is passed on to it; or the line that its nick is another one of its network.
+//! [`laws`] says that it is told nothing of another account or network, and what it hears before its registration. The markers
+//! that it puts ([`ClientPut`]) and its lines for the network's server bear that its session called for them.
 #![tactic(auto)]
 
 mod admission;
@@ -18,11 +19,14 @@ mod clients;
 mod effects;
 mod kind;
 pub mod laws;
+mod leaving;
 mod live_text;
+mod registrations;
 mod telling;
+mod turned_away;
 mod turns;
 
 pub use clients::Clients;
-pub use effects::ClientEffect;
+pub use effects::{ClientEffect, ClientPut};
 pub use kind::ToClient;
 pub use turns::ClientStep;

@@ -9,42 +9,45 @@ use crate::client::{Client, Delivery, delivery_of};
 use crate::clients::Clients;
 use crate::kind::ToClient;
 use crate::live_text::LiveText;
+use crate::registrations::Registration;
 use attach::Attachment;
 use bnc_ports::{Carries, Connection, Reason};
 use byte_text::{NoMemory, Text};
 use chat_batch::Facts;
-use chat_change::Record;
 use client_session::{Session, hears_line, hears_message};
-use passed_lines::Passed;
+use irc_caps::Recipients;
+use passed_lines::laws::what_is_put_is_of_its_network;
+use passed_lines::{Live, NetworkEntry, Passed};
 use std::alloc::Global;
 use work_desk::Desk;
 
 // The facts of the session, where it hears the message.
-fn message_hearer<'a>(session: &'a Session, is_own: bool, message: &Record) -> Option<&'a Facts>
+fn message_hearer<'a>(session: &'a Session, message: &Live<'_>) -> Option<&'a Facts>
     ensures facts { IfSome result (λ f. facts_in session.now ≡ Some f.now) }
-    ensures hears { IfSome result (λ f. spec.hears_message is_own message.now f.now ≡ true) }
+    ensures hears { IfSome result (λ f.
+        spec.hears_message message.now.is_own message.now.message.now f.now ≡ true) }
 {
     let facts = session.facts()?;
-    if hears_message(is_own, message, facts) {
+    if hears_message(message.is_own, message.message, facts) {
         Some(facts)
     } else {
         None
     }
 }
 
-// The facts of the session, where it hears a line that is passed on.
-fn passed_hearer<'a>(session: &'a Session, passed: &Passed<'_>) -> Option<&'a Facts>
+// The facts of the session, where it is of that account and network, and one of the recipients.
+fn recipient<'a>(
+    session: &'a Session,
+    account: &[u8],
+    network: &[u8],
+    to: Recipients,
+) -> Option<&'a Facts>
     ensures facts { IfSome result (λ f. facts_in session.now ≡ Some f.now) }
     ensures hears { IfSome result (λ f.
-        spec.hears_line passed.now.account.now passed.now.network.now passed.now.to f.now ≡ true) }
+        spec.hears_line account.now network.now to f.now ≡ true) }
 {
     let facts = session.facts()?;
-    if hears_line(
-        passed.account.as_bytes(),
-        passed.network.as_bytes(),
-        passed.to,
-        facts,
-    ) {
+    if hears_line(account, network, to, facts) {
         Some(facts)
     } else {
         None
@@ -56,17 +59,18 @@ impl<X: Attachment, C: Connection> Client<X, C> {
     fn take_message<P: Carries<ToClient, Connection = C>>(
         &mut self,
         port: &mut P,
-        is_own: bool,
-        message: &Record,
+        message: &Live<'_>,
         live: &mut LiveText,
     ) -> Delivery
-        requires { IsLineOf message.now live.old.caps live.old.text.items }
-        ensures { IsLineOf message.now live.new.caps live.new.text.items }
+        requires { IsLineOf message.now.message.now live.old.caps live.old.text.items }
+        ensures { IsLineOf message.now.message.now live.new.caps live.new.text.items }
     {
-        let Some(facts) = message_hearer(&self.session, is_own, message) else {
+        // The network that it is of is that of its buffer.
+        what_is_put_is_of_its_network();
+        let Some(facts) = message_hearer(&self.session, message) else {
             return Delivery::Skipped;
         };
-        let Ok(()) = live.write(message, facts.caps) else {
+        let Ok(()) = live.write(message.message, facts.caps) else {
             return Delivery::Refused(Reason::NoMemory);
         };
         delivery_of(self.guest.offer::<ToClient, P>(port, live.as_bytes()))
@@ -78,50 +82,74 @@ impl<X: Attachment, C: Connection> Client<X, C> {
         port: &mut P,
         passed: &Passed<'_>,
     ) -> Delivery {
-        let Some(_) = passed_hearer(&self.session, passed) else {
+        let (account, network) = (passed.account.as_bytes(), passed.network.as_bytes());
+        let Some(_) = recipient(&self.session, account, network, passed.to) else {
             return Delivery::Skipped;
         };
         delivery_of(self.guest.offer::<ToClient, P>(port, passed.text))
     }
 
-    // The client is told that its nick is that from now on.
-    fn tell_nick<P: Carries<ToClient, Connection = C>>(
-        &mut self,
-        port: &mut P,
-        nick: &[u8],
-        room: &mut Vec<u8>,
-    ) -> Delivery {
-        let Some(_) = self.session.facts() else {
-            return Delivery::Skipped;
+    /// The client knows the nick of its session as its own from now on, where that is registered.
+    pub(crate) fn know_nick(&mut self, alloc: Global) -> Result<(), NoMemory> {
+        let Some(facts) = self.session.facts() else {
+            return Ok(());
         };
-        let Ok(()) = write_nick(room, self.told.as_bytes(), nick) else {
-            return Delivery::Refused(Reason::NoMemory);
-        };
-        delivery_of(self.guest.offer::<ToClient, P>(port, room.as_slice()))
-    }
-
-    // The client knows that nick as its own from now on.
-    fn know_nick(&mut self, alloc: Global, nick: &[u8]) -> Result<(), NoMemory> {
-        self.told = Text::new(alloc, nick)?;
+        self.told = facts.nick.try_clone(alloc)?;
         Ok(())
     }
 
-    // The client knows that nick as its own from now on. Unless a line that says so is passed on anyway, it is told.
-    fn learn_nick<P: Carries<ToClient, Connection = C>>(
+    // The client is told that its nick is that one of its network from now on, and knows it.
+    fn tell_nick<P: Carries<ToClient, Connection = C>>(
+        &mut self,
+        port: &mut P,
+        entry: &NetworkEntry,
+        nick: Text,
+        room: &mut Vec<u8>,
+    ) -> Delivery
+        requires { nick ≡ entry.now.entry.nick }
+    {
+        let (account, network) = (entry.account.as_bytes(), entry.network.as_bytes());
+        let Some(_) = recipient(&self.session, account, network, Recipients::All) else {
+            return Delivery::Skipped;
+        };
+        let Ok(()) = write_nick(room, self.told.as_bytes(), nick.as_bytes()) else {
+            return Delivery::Refused(Reason::NoMemory);
+        };
+        if !self.guest.offer::<ToClient, P>(port, room.as_slice()) {
+            return Delivery::Refused(Reason::Overrun);
+        }
+        self.told = nick;
+        Delivery::Taken
+    }
+
+    // The client knows that nick of its network as its own from now on. A line that is passed on says so.
+    fn learn_nick(&mut self, entry: &NetworkEntry, nick: Text) -> Delivery
+        requires { nick ≡ entry.now.entry.nick }
+    {
+        let (account, network) = (entry.account.as_bytes(), entry.network.as_bytes());
+        let Some(_) = recipient(&self.session, account, network, Recipients::All) else {
+            return Delivery::Skipped;
+        };
+        self.told = nick;
+        Delivery::Taken
+    }
+
+    // The nick of the session with the network's server is another one than the client knows as its own. Unless a line that
+    // says so is passed on anyway, it is told.
+    fn take_nick<P: Carries<ToClient, Connection = C>>(
         &mut self,
         desk: &mut Desk<P>,
-        nick: &[u8],
+        entry: &NetworkEntry,
         is_passed_on: bool,
         room: &mut Vec<u8>,
     ) -> Delivery {
-        let delivery = if is_passed_on {
-            Delivery::Taken
-        } else {
-            self.tell_nick(&mut desk.port, nick, room)
+        let Ok(nick) = Text::new(desk.site.alloc, entry.entry.nick()) else {
+            return Delivery::Refused(Reason::NoMemory);
         };
-        match self.know_nick(desk.site.alloc, nick) {
-            Ok(()) => delivery,
-            Err(NoMemory) => Delivery::Refused(Reason::NoMemory),
+        if is_passed_on {
+            self.learn_nick(entry, nick)
+        } else {
+            self.tell_nick(&mut desk.port, entry, nick, room)
         }
     }
 
@@ -137,19 +165,19 @@ impl<X: Attachment, C: Connection> Clients<X, C> {
         &mut self,
         desk: &mut Desk<P>,
         network: usize,
-        is_own: bool,
-        message: &Record,
+        message: &Live<'_>,
     ) {
         let Clients {
             all,
+            registrations,
             busy,
             live,
             ..
         } = self;
         live.clear();
-        for (line, client) in all.iter_mut() {
-            if client.network == Some(network) {
-                let delivery = client.take_message(&mut desk.port, is_own, message, live);
+        for Registration { line, .. } in registrations.of(network, 0) {
+            if let Some(client) = all.get_mut(line) {
+                let delivery = client.take_message(&mut desk.port, message, live);
                 client.note(delivery, busy, *line);
             }
         }
@@ -162,34 +190,44 @@ impl<X: Attachment, C: Connection> Clients<X, C> {
         network: usize,
         passed: &Passed<'_>,
     ) {
-        let Clients { all, busy, .. } = self;
-        for (line, client) in all.iter_mut() {
-            if client.network == Some(network) {
+        let Clients {
+            all,
+            registrations,
+            busy,
+            ..
+        } = self;
+        for Registration { line, .. } in registrations.of(network, 0) {
+            if let Some(client) = all.get_mut(line) {
                 let delivery = client.take_line(&mut desk.port, passed);
                 client.note(delivery, busy, *line);
             }
         }
     }
 
-    /// The present nick of the network is told to the sessions that know another as their own, unless a line that says so
-    /// is passed on anyway.
+    /// The nick of the session with the network's server is told to the sessions of the network that know another as their
+    /// own, unless a line that says so is passed on anyway.
     pub fn tell_nick<P: Carries<ToClient, Connection = C>>(
         &mut self,
         desk: &mut Desk<P>,
         network: usize,
-        nick: &[u8],
+        entry: &NetworkEntry,
         is_passed_on: bool,
     ) {
         let Clients {
             all,
+            registrations,
             busy,
             answer,
             ..
         } = self;
-        for (line, client) in all.iter_mut() {
-            if client.network == Some(network) && client.knows_another_nick(nick) {
-                let delivery = client.learn_nick(desk, nick, is_passed_on, answer);
-                client.note(delivery, busy, *line);
+        let nick = entry.entry.nick();
+        for Registration { line, .. } in registrations.of(network, 0) {
+            match all.get_mut(line) {
+                Some(client) if client.knows_another_nick(nick) => {
+                    let delivery = client.take_nick(desk, entry, is_passed_on, answer);
+                    client.note(delivery, busy, *line);
+                }
+                _ => {}
             }
         }
     }

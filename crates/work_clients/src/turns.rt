@@ -93,7 +93,11 @@ impl<X: Attachment, C: Connection> Client<X, C> {
         if self.guest.waits() {
             return ClientStep::Wait;
         }
-        self.hear(desk, peek)
+        if self.is_held() {
+            return ClientStep::Rest;
+        }
+        let step = self.hear(desk, peek);
+        self.hold(desk, step)
     }
 
     // The client's next line, once all of the line before is done, or more bytes for it.

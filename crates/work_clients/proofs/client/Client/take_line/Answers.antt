@@ -9,6 +9,6 @@ pub invariant_of-self : goal.invariant_of-self
 invariant_of-self g c =
     let passed = c.args.passed.now in
     record {
-      by_right = ∥∥₁_map c.args.self.now.by_right (relayed c.in-Some.field-0.now passed.account.now passed.network.now passed.to passed.text.now c.offer.result c.offer.new.self
-          c.in-Some.ensures.facts c.in-Some.ensures.hears passed.is_passed_on c.offer.ensures.waiting c.offer.ensures.handed);
+      by_right = ∥∥₁_map c.args.self.now.by_right (relayed c.in-Some.field-0.now passed.to passed.text.now c.offer.result c.offer.new.self
+          c.in-Some.ensures.facts c.as_bytes-account.ensures c.as_bytes-network.ensures c.in-Some.ensures.hears passed.is_passed_on c.offer.ensures.waiting c.offer.ensures.handed);
     }

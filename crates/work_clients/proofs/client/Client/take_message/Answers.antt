@@ -7,7 +7,10 @@ pub offer-requires : goal.offer-requires
 offer-requires g c = ∥∥₁_map c.args.self.now.by_right told_so_far
 
 pub invariant_of-self : goal.invariant_of-self
-invariant_of-self g c = record {
-  by_right = ∥∥₁_map c.args.self.now.by_right (came c.in-Some.facts.now c.args.message.now c.args.is_own c.as_bytes.result.now c.offer.result c.offer.new.self
-      c.in-Some.ensures.facts c.in-Some.ensures.hears (c.as_bytes.ensures ∙ c.in-Ok.ensures.ok) c.offer.ensures.waiting c.offer.ensures.handed);
-}
+invariant_of-self g c =
+    let message = c.args.message.now in
+    let named = c.what_is_put_is_of_its_network.ensures.live message.account.now message.network.now message.is_own message.message.now in
+    record {
+      by_right = ∥∥₁_map c.args.self.now.by_right (came c.in-Some.facts.now message.account.now message.network.now message.is_own message.message.now c.as_bytes.result.now c.offer.result c.offer.new.self
+          c.in-Some.ensures.facts c.in-Some.ensures.hears named message.is_live (c.as_bytes.ensures ∙ c.in-Ok.ensures.ok) c.offer.ensures.waiting c.offer.ensures.handed);
+    }

@@ -5,4 +5,4 @@ abbrev pub invariant-loop-line : goal.invariant-loop-line
 invariant-loop-line g l =
     (goal.iterator-loop-line g).can_next l.line-iterator ×
     (goal.iterator-loop-line g).is_finite l.line-iterator ×
-    IsLineOf l.fn.message l.live.caps l.live.text.items
+    IsLineOf l.fn.message.message.now l.live.caps l.live.text.items

@@ -1,8 +1,8 @@
-use Rattle.std.proofs.Common.{ℕ, List, sym, subst}
+use Rattle.std.proofs.Common.{ℕ, List, sym, ◌∙◌, subst}
 use Rattle.std.proofs.Math.Logic.{∥∥₁_map}
 use Rattle.work_clients.specs.Question.{IsAnswerTo}
 use Rattle.work_clients.proofs.CourseLemmas.{told_so_far, stayed, informed}
-use Rattle.work_clients.proofs.client.Client.tell_answer.Goals as goal
+use Rattle.work_clients.proofs.client.Client.tell_marker.Goals as goal
 
 pub offer-requires : goal.offer-requires
 offer-requires g c = ∥∥₁_map c.args.self.now.by_right told_so_far
@@ -14,11 +14,11 @@ invariant_of-self g c = record {
 
 pub invariant_of-self-in-Ok-Some : goal.invariant_of-self-in-Ok-Some
 invariant_of-self-in-Ok-Some g c =
-    let question = c.args.question.now in
+    let question = c.as_bytes-question.result.now in
     let text = c.as_slice.result.now in
     let answered = c.in-Ok-Some.answered in
     let answers : IsAnswerTo c.args.self.now.session question text answered = subst (λ (t : List ℕ). IsAnswerTo c.args.self.now.session question t answered) (sym c.as_slice.ensures.value) (rw c.in-Ok-Some.field-0-is at c.in-Ok-Some.ensures) in
     record {
-      by_right = ∥∥₁_map c.args.self.now.by_right (informed question text answered c.offer.new.self
-          c.answered.ensures answers c.if-not-offer.ensures.waiting c.if-not-offer.ensures.handed);
+      by_right = ∥∥₁_map c.args.self.now.by_right (informed c.args.target.now question text answered c.offer.new.self
+          (c.as_bytes-question.ensures ∙ c.in-Ok.ensures) c.answered.ensures answers c.if-not-offer.ensures.waiting c.if-not-offer.ensures.handed);
     }

@@ -1,0 +1,64 @@
+//! Clients that are turned away. One that gave a wrong account, network or secret is told so a second later, and isn't read
+//! meanwhile: so each secret that somebody tries takes a connection, and a second of its place.
+use crate::client::Client;
+use crate::clients::Clients;
+use crate::turns::ClientStep;
+use attach::Attachment;
+use bnc_ports::{Connection, Port, Reason};
+use byte_text::NoMemory;
+use client_session::Effect;
+use work_desk::Desk;
+
+/// After so many milliseconds a client is told that it is turned away.
+const SECOND: u64 = 1000;
+
+/// How far a client is that is turned away.
+#[derive(Clone, Copy, Debug, PartialEq, Eq)]
+pub(crate) enum TurnedAway {
+    /// It isn't turned away, as far as is known.
+    No,
+    /// It is, and isn't told yet.
+    Waits,
+    /// It is, and may be told.
+    IsTold,
+}
+
+// Whether a line came to this: the session is closed, and says why before its last line. After a QUIT it says its last line
+// alone.
+fn turns_away(effects: &[Effect]) -> bool {
+    matches!(effects, [Effect::Send(_), Effect::Send(_), Effect::Close])
+}
+
+impl<X: Attachment, C: Connection> Client<X, C> {
+    /// Whether it is turned away, and isn't told yet.
+    pub(crate) fn is_held(&self) -> bool {
+        self.turned_away == TurnedAway::Waits
+    }
+
+    /// What the client is to do next, where its line came to that. One that is turned away waits.
+    pub(crate) fn hold<P: Port>(&mut self, desk: &mut Desk<P>, step: ClientStep) -> ClientStep {
+        let is_new = self.turned_away == TurnedAway::No && self.network.is_none();
+        if step != ClientStep::Do || !is_new || !turns_away(self.effects.as_slice()) {
+            return step;
+        }
+        self.turned_away = TurnedAway::Waits;
+        match desk.set_patience(self.guest.number(), SECOND) {
+            Ok(()) => ClientStep::Rest,
+            Err(NoMemory) => ClientStep::Over(Reason::NoMemory),
+        }
+    }
+}
+
+impl<X: Attachment, C: Connection> Clients<X, C> {
+    /// A client that waited until it may be told that it is turned away is told now. False where it doesn't wait for that.
+    pub(crate) fn release(&mut self, line: usize) -> bool {
+        match self.all.get_mut(&line) {
+            Some(client) if client.is_held() => {
+                client.turned_away = TurnedAway::IsTold;
+                client.wake(&mut self.busy, line);
+                true
+            }
+            _ => false,
+        }
+    }
+}
