@@ -1,6 +1,6 @@
-//! What other threads hand in to a worker.
+//! What other threads hand in to a worker: mail of other workers, and those who connect.
 use attach::{Attachment, Boxed};
-use bnc_ports::{Arrival, Mail, PortFault};
+use bnc_ports::{Arrival, PortFault};
 use crossbeam_channel::{SendError, Sender};
 use mio::Waker;
 use mio::net::TcpStream;
@@ -8,9 +8,18 @@ use std::alloc::AllocError;
 use std::net::SocketAddr;
 use std::sync::{Arc, Wait};
 
-/// What reaches a worker from another thread.
+/// What reaches a worker from another one. Workers tell each other an `M`.
 #[derive(Drop)]
-pub enum Parcel {
+pub enum Parcel<M> {
+    /// What another worker tells.
+    Mail(M),
+    /// The worker is to end.
+    Stop,
+}
+
+/// Who comes in at a worker's door, or is to leave.
+#[derive(Drop)]
+pub enum Newcomer {
     /// A client, whose attachment was sent to the lobby under the ticket before.
     Client {
         stream: TcpStream,
@@ -22,10 +31,10 @@ pub enum Parcel {
         stream: TcpStream,
         address: SocketAddr,
     },
-    /// What another worker tells.
-    Mail(Mail),
-    /// The worker is to end.
-    Stop,
+    /// The client that came under the ticket is to go, if it isn't registered.
+    Leave {
+        ticket: u64,
+    },
 }
 
 // Whether the channel took what was sent. What it didn't take is dropped.
@@ -38,71 +47,101 @@ fn sent<T: Drop>(taken: Result<(), SendError<T>>) -> Result<(), PortFault> {
 
 /// Where parcels for one worker are handed in.
 #[derive(Drop)]
-pub struct Mailbox {
-    parcels: Sender<Parcel>,
+pub struct Mailbox<M> {
+    parcels: Sender<Parcel<M>>,
     waker: Arc<Waker>,
 }
 
-impl Mailbox {
+impl<M: Drop> Mailbox<M> {
     /// A mailbox at that channel, to whose other end the waker wakes.
-    pub fn new(parcels: Sender<Parcel>, waker: Arc<Waker>) -> Mailbox {
+    pub fn new(parcels: Sender<Parcel<M>>, waker: Arc<Waker>) -> Mailbox<M> {
         Mailbox { parcels, waker }
     }
 
     /// Another owner of the same mailbox.
-    pub fn try_clone(&self) -> Result<Mailbox, AllocError> {
+    pub fn try_clone(&self) -> Result<Mailbox<M>, AllocError> {
         Ok(Mailbox {
             parcels: self.parcels.clone()?,
             waker: self.waker.clone()?,
         })
     }
 
-    /// Hands a parcel in, and wakes the worker then, so that it finds the parcel. A wake that the system refuses costs time
-    /// alone: a worker looks for parcels at least once a second.
-    pub fn hand<R: Wait>(&self, rt: &R, parcel: Parcel) -> Result<(), PortFault> {
+    /// Hands a parcel in, and wakes the worker.
+    pub fn hand<R: Wait>(&self, rt: &R, parcel: Parcel<M>) -> Result<(), PortFault> {
         sent(self.parcels.send(rt, parcel))?;
-        let _ = self.waker.wake();
+        self.wake();
         Ok(())
+    }
+
+    /// How many parcels wait for the worker just now.
+    pub fn waiting(&self) -> usize {
+        self.parcels.len()
+    }
+
+    // Wakes the worker, so that it finds what was handed in before. A wake that the system refuses costs time alone: a worker
+    // looks for what was handed in at least once a second.
+    fn wake(&self) {
+        let _ = self.waker.wake();
     }
 }
 
-/// Where clients for one worker are handed in.
+/// Where those who connect are handed in to one worker.
 #[derive(Drop)]
-pub struct Door<X = Boxed> {
-    mailbox: Mailbox,
+pub struct Door<M, X = Boxed> {
+    mailbox: Mailbox<M>,
+    newcomers: Sender<Newcomer>,
     arrivals: Sender<Arrival<X>>,
     ticket: u64,
 }
 
-impl<X: Attachment> Door<X> {
-    /// A door to the worker of that mailbox, whose lobby is at the other end of the channel.
-    pub fn new(mailbox: Mailbox, arrivals: Sender<Arrival<X>>) -> Door<X> {
+impl<M: Drop, X: Attachment> Door<M, X> {
+    /// A door to the worker of that mailbox, whose port is at the other end of the one channel, and its lobby at that of the
+    /// other.
+    pub fn new(
+        mailbox: Mailbox<M>,
+        newcomers: Sender<Newcomer>,
+        arrivals: Sender<Arrival<X>>,
+    ) -> Door<M, X> {
         Door {
             mailbox,
+            newcomers,
             arrivals,
             ticket: 0,
         }
     }
 
-    /// Hands a client in: its attachment first, and then its stream.
+    // Hands somebody in, and wakes the worker.
+    fn hand<R: Wait>(&self, rt: &R, newcomer: Newcomer) -> Result<(), PortFault> {
+        sent(self.newcomers.send(rt, newcomer))?;
+        self.mailbox.wake();
+        Ok(())
+    }
+
+    /// Hands a client in: its attachment first, and then its stream. Its ticket is answered.
     pub fn hand_client<R: Wait>(
         &mut self,
         rt: &R,
         stream: TcpStream,
         address: SocketAddr,
         attachment: X,
-    ) -> Result<(), PortFault> {
+    ) -> Result<u64, PortFault> {
         self.ticket = self.ticket.wrapping_add(1);
         let ticket = self.ticket;
         sent(self.arrivals.send(rt, Arrival { ticket, attachment }))?;
-        self.mailbox.hand(
+        self.hand(
             rt,
-            Parcel::Client {
+            Newcomer::Client {
                 stream,
                 address,
                 ticket,
             },
-        )
+        )?;
+        Ok(ticket)
+    }
+
+    /// Asks the client of that ticket to leave, if it isn't registered.
+    pub fn ask_to_leave<R: Wait>(&self, rt: &R, ticket: u64) -> Result<(), PortFault> {
+        self.hand(rt, Newcomer::Leave { ticket })
     }
 
     /// Hands a node that connected in.
@@ -112,7 +151,7 @@ impl<X: Attachment> Door<X> {
         stream: TcpStream,
         address: SocketAddr,
     ) -> Result<(), PortFault> {
-        self.mailbox.hand(rt, Parcel::Peer { stream, address })
+        self.hand(rt, Newcomer::Peer { stream, address })
     }
 
     /// Tells the worker to end.

@@ -1,9 +1,9 @@
 //! The connections of a worker, over sockets.
 //!
 //! A [`SocketPort`] is the port of one worker: it waits for its sockets, and for what other threads hand in. A
-//! [`SocketConnection`] is one connection, which knows what went out over it. A [`Mailbox`] is where parcels for a worker are
-//! handed in, and a [`Door`] is where clients are. A port that ends stops all workers whose
-//! mailboxes it has: a node whose worker ended ends.
+//! [`SocketConnection`] is one connection, which knows what went out over it. A [`Mailbox`] is where parcels of other workers
+//! are handed in, and a [`Door`] is where those who connect are. Sockets, parcels and newcomers take turns, and none keeps
+//! another waiting. A port that ends stops all workers whose mailboxes it has: a node whose worker ended ends.
 #![tactic(auto)]
 
 mod connection;
@@ -12,5 +12,5 @@ mod line;
 mod socket_port;
 
 pub use connection::SocketConnection;
-pub use handing::{Door, Mailbox, Parcel};
-pub use socket_port::{Addresses, SocketPort, now_ms, report, waker_of};
+pub use handing::{Door, Mailbox, Newcomer, Parcel};
+pub use socket_port::{Addresses, SocketPort, monotonic_ms, now_ms, report, waker_of};

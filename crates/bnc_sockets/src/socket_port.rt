@@ -3,11 +3,9 @@ ghost use Rattle.std.specs.Prelude.{◌≡◌, ◌≤◌, ◌++◌, [], length, 
 ghost use Rattle.bnc_ports.specs.Outgoing.{BeginsOf};
 
 use crate::connection::SocketConnection;
-use crate::handing::{Mailbox, Parcel};
+use crate::handing::{Mailbox, Newcomer, Parcel};
 use crate::line::{Line, Outcome, Stage};
-use bnc_ports::{
-    Carries, Clocks, Connection, Dial, Event, Halt, Happening, Kind, Mail, Port, PortFault,
-};
+use bnc_ports::{Carries, Clocks, Connection, Dial, Event, Halt, Happening, Kind, Port, PortFault};
 use bstr::BStr;
 use crossbeam_channel::Receiver;
 use irc_time::{Moment, write_time};
@@ -26,10 +24,11 @@ use std::{fmt, io};
 const WAKER: Token = Token(usize::MAX);
 
 // How many events the system tells at once.
-const EVENTS: usize = 256;
+const EVENTS: usize = 32;
 
-// How many parcels are taken before the sockets are looked at again.
-const PARCELS: usize = 256;
+// After so many happenings the sockets are looked at again. Each other turn is theirs, so all that the system told before is
+// handed out by then.
+const BETWEEN_LOOKS: usize = 2 * EVENTS;
 
 // How long a worker waits at most, in milliseconds.
 const PATIENCE: u64 = 1000;
@@ -58,26 +57,30 @@ impl Addresses {
     }
 }
 
-/// The connections of one worker, over sockets. As it is dropped, the workers of all its mailboxes are told to end.
-pub struct SocketPort<R: Wait + Drop> {
+/// The connections of one worker, over sockets; workers tell each other an `M`. As it is dropped, the workers of all its
+/// mailboxes are told to end.
+pub struct SocketPort<R: Wait + Drop, M: Drop> {
     rt: R,
     poll: Poll,
     events: Events,
     // The next event to be looked at.
     at: usize,
-    // Whether a parcel may be there: until none was found since the last wait.
-    may_have_parcels: bool,
-    // How many parcels were taken since the last wait.
-    parcels_taken: usize,
-    // Whether an event is looked at before the next parcel, so that neither keeps the other waiting.
+    // How much has happened since the sockets were looked at.
+    taken: usize,
+    // Whether the sockets were looked at since the worker was told that nothing is there.
+    has_looked: bool,
+    // Whether an event comes next, before what was handed in.
     is_turn_of_events: bool,
-    parcels: Receiver<Parcel>,
-    mailboxes: Vec<Mailbox>,
+    // Whether a parcel comes next of what was handed in, before a newcomer.
+    is_turn_of_parcels: bool,
+    parcels: Receiver<Parcel<M>>,
+    newcomers: Receiver<Newcomer>,
+    mailboxes: Vec<Mailbox<M>>,
     lines: Slab<Line>,
     addresses: Addresses,
 }
 
-impl<R: Wait + Drop> Drop for SocketPort<R> {
+impl<R: Wait + Drop, M: Drop> Drop for SocketPort<R, M> {
     fn drop(self) {
         self.stop_all();
         let Self {
@@ -85,10 +88,12 @@ impl<R: Wait + Drop> Drop for SocketPort<R> {
             poll: _,
             events: _,
             at: _,
-            may_have_parcels: _,
-            parcels_taken: _,
+            taken: _,
+            has_looked: _,
             is_turn_of_events: _,
+            is_turn_of_parcels: _,
             parcels: _,
+            newcomers: _,
             mailboxes: _,
             lines: _,
             addresses: _,
@@ -96,7 +101,7 @@ impl<R: Wait + Drop> Drop for SocketPort<R> {
     }
 }
 
-impl<R: Wait + Drop> SocketPort<R> {
+impl<R: Wait + Drop, M: Drop> SocketPort<R, M> {
     // Tells all workers to end.
     fn stop_all(&self) {
         for mailbox in self.mailboxes.iter() {
@@ -105,16 +110,17 @@ impl<R: Wait + Drop> SocketPort<R> {
     }
 }
 
-impl<R: Net + Wait + Clock + Eprint + AllocGlobal + Drop> SocketPort<R> {
-    /// The port of the worker whose parcels come over that channel, and whose poll has the waker of [`waker_of`]. `mailboxes`
-    /// are those of all workers, in their order.
+impl<R: Net + Wait + Clock + Eprint + AllocGlobal + Drop, M: Drop> SocketPort<R, M> {
+    /// The port of the worker whose parcels and newcomers come over those channels, and whose poll has the waker of
+    /// [`waker_of`]. `mailboxes` are those of all workers, in their order.
     pub fn new(
         rt: R,
         poll: Poll,
-        parcels: Receiver<Parcel>,
-        mailboxes: Vec<Mailbox>,
+        parcels: Receiver<Parcel<M>>,
+        newcomers: Receiver<Newcomer>,
+        mailboxes: Vec<Mailbox<M>>,
         addresses: Addresses,
-    ) -> Result<SocketPort<R>, AllocError> {
+    ) -> Result<SocketPort<R, M>, AllocError> {
         let events = Events::with_capacity(rt.alloc(), EVENTS)?;
         let lines = Slab::new(rt.alloc());
         Ok(SocketPort {
@@ -122,10 +128,12 @@ impl<R: Net + Wait + Clock + Eprint + AllocGlobal + Drop> SocketPort<R> {
             poll,
             events,
             at: 0,
-            may_have_parcels: true,
-            parcels_taken: 0,
-            is_turn_of_events: false,
+            taken: 0,
+            has_looked: false,
+            is_turn_of_events: true,
+            is_turn_of_parcels: true,
             parcels,
+            newcomers,
             mailboxes,
             lines,
             addresses,
@@ -167,121 +175,160 @@ impl<R: Net + Wait + Clock + Eprint + AllocGlobal + Drop> SocketPort<R> {
         drop(self.lines.try_remove(number));
     }
 
-    fn unpack(&mut self, parcel: Parcel) -> Happening {
-        match parcel {
-            Parcel::Client {
+    // What another worker handed in next.
+    fn next_parcel(&self) -> Option<Happening<M>> {
+        match self.parcels.try_recv(&self.rt) {
+            Ok(Parcel::Mail(mail)) => Some(Happening::Mail(mail)),
+            Ok(Parcel::Stop) => Some(Happening::Ended),
+            Err(_) => None,
+        }
+    }
+
+    // Who came in next. Somebody for whom there is no memory is closed.
+    fn next_newcomer(&mut self) -> Option<Happening<M>> {
+        for _ in 0..usize::MAX {
+            let Ok(newcomer) = self.newcomers.try_recv(&self.rt) else {
+                return None;
+            };
+            let happening = self.let_in(newcomer);
+            if happening.is_some() {
+                return happening;
+            }
+        }
+        None
+    }
+
+    fn let_in(&mut self, newcomer: Newcomer) -> Option<Happening<M>> {
+        match newcomer {
+            Newcomer::Client {
                 stream,
                 address,
                 ticket,
             } => {
-                match self.add(stream, address, Stage::Connected) {
-                    Some(line) => Happening::Client { line, ticket },
-                    None => Happening::Nothing,
-                }
+                let line = self.add(stream, address, Stage::Connected)?;
+                Some(Happening::Client { line, ticket })
             }
-            Parcel::Peer { stream, address } => match self.add(stream, address, Stage::Connected) {
-                Some(line) => Happening::Peer { line },
-                None => Happening::Nothing,
-            },
-            Parcel::Mail(mail) => Happening::Mail(mail),
-            Parcel::Stop => Happening::Ended,
+            Newcomer::Peer { stream, address } => {
+                let line = self.add(stream, address, Stage::Connected)?;
+                Some(Happening::Peer { line })
+            }
+            Newcomer::Leave { ticket } => Some(Happening::Leave { ticket }),
         }
     }
 
-    // The next parcel that was handed in, where one is there, and not too many were taken since the last wait.
-    fn next_parcel(&mut self) -> Option<Happening> {
-        if !self.may_have_parcels || self.parcels_taken >= PARCELS {
+    // What was handed in next: parcels and newcomers by turns, as long as both are there.
+    fn next_handed(&mut self) -> Option<Happening<M>> {
+        let is_turn_of_parcels = self.is_turn_of_parcels;
+        self.is_turn_of_parcels = !is_turn_of_parcels;
+        if is_turn_of_parcels {
+            match self.next_parcel() {
+                Some(happening) => Some(happening),
+                None => self.next_newcomer(),
+            }
+        } else {
+            match self.next_newcomer() {
+                Some(happening) => Some(happening),
+                None => self.next_parcel(),
+            }
+        }
+    }
+
+    // What the next event that the system told says, where one is left that says something.
+    fn next_event(&mut self) -> Option<Happening<M>> {
+        for _ in 0..EVENTS {
+            let event = self.events.iter().as_slice().get(self.at).copied()?;
+            self.at = self.at.saturating_add(1);
+            let happening = self.read_event(&event);
+            if happening.is_some() {
+                return happening;
+            }
+        }
+        None
+    }
+
+    // What is there: events, and what was handed in, by turns, as long as both are there.
+    fn next_there(&mut self) -> Option<Happening<M>> {
+        let is_turn_of_events = self.is_turn_of_events;
+        self.is_turn_of_events = !is_turn_of_events;
+        self.taken = self.taken.saturating_add(1);
+        if is_turn_of_events {
+            match self.next_event() {
+                Some(happening) => Some(happening),
+                None => self.next_handed(),
+            }
+        } else {
+            match self.next_handed() {
+                Some(happening) => Some(happening),
+                None => self.next_event(),
+            }
+        }
+    }
+
+    // An event may be an old one, of a line that is gone or whose number another one has now. None where it says nothing.
+    fn read_event(&mut self, event: &Readiness) -> Option<Happening<M>> {
+        if event.token() == WAKER {
             return None;
         }
-        match self.parcels.try_recv(&self.rt) {
-            Ok(parcel) => {
-                self.parcels_taken = self.parcels_taken.saturating_add(1);
-                Some(self.unpack(parcel))
-            }
-            Err(_) => {
-                self.may_have_parcels = false;
-                None
-            }
-        }
-    }
-
-    // What the next event that the system told says, where one is left.
-    fn next_event(&mut self) -> Option<Happening> {
-        let event = self.events.iter().as_slice().get(self.at).copied()?;
-        self.at = self.at.saturating_add(1);
-        Some(self.read_event(&event))
-    }
-
-    // An event may be an old one, of a line that is gone or whose number another one has now.
-    fn read_event(&mut self, event: &Readiness) -> Happening {
-        if event.token() == WAKER {
-            return Happening::Nothing;
-        }
         let line = event.token().0;
-        let Some(kept) = self.lines.get_mut(line) else {
-            return Happening::Nothing;
-        };
+        let kept = self.lines.get_mut(line)?;
         if let Stage::Connecting(what) = kept.stage {
             return self.read_outcome(line, what);
         }
-        Happening::Ready {
+        Some(Happening::Ready {
             line,
             readable: event.is_readable() || event.is_read_closed() || event.is_error(),
             writable: event.is_writable() || event.is_write_closed(),
-        }
+        })
     }
 
-    fn read_outcome(&mut self, line: usize, what: Dial) -> Happening {
-        let Some(kept) = self.lines.get_mut(line) else {
-            return Happening::Nothing;
-        };
+    fn read_outcome(&mut self, line: usize, what: Dial) -> Option<Happening<M>> {
+        let kept = self.lines.get_mut(line)?;
         match kept.outcome() {
-            Outcome::Pending => Happening::Nothing,
+            Outcome::Pending => None,
             Outcome::Connected => {
                 kept.stage = Stage::Connected;
-                Happening::Opened { line, what }
+                Some(Happening::Opened { line, what })
             }
             Outcome::Failed => {
                 self.close_line(line);
-                Happening::Refused { line, what }
+                Some(Happening::Refused { line, what })
             }
         }
     }
 
-    // Waits for events. A signal ends the wait as if the time were up. Parcels are looked for after each wait, so a wake that
-    // was lost costs the patience.
-    fn wait(&mut self, patience: u64) -> Result<(), PortFault> {
+    // Looks at the sockets, and waits for so long where nothing is there. A signal ends the wait as if the time were up. What
+    // was handed in is looked for after each wait, so a wake that was lost costs the patience.
+    fn look(&mut self, patience: u64) -> Result<(), PortFault> {
         self.at = 0;
-        let patience = if self.may_have_parcels {
-            0
-        } else {
-            patience.min(PATIENCE)
-        };
-        let patience = Duration::from_millis(patience);
-        if self.poll.poll(&mut self.events, Some(patience)).is_err() {
-            return Err(PortFault);
+        self.taken = 0;
+        self.has_looked = true;
+        let patience = Duration::from_millis(patience.min(PATIENCE));
+        match self.poll.poll(&mut self.events, Some(patience)) {
+            Ok(()) => Ok(()),
+            Err(_) => Err(PortFault),
         }
-        self.may_have_parcels = true;
-        self.parcels_taken = 0;
-        Ok(())
     }
 }
 
-impl<R: Net + Wait + Clock + Eprint + AllocGlobal + Drop> Port for SocketPort<R> {
-    fn next(&mut self, patience: u64) -> Result<Happening, PortFault> {
-        self.is_turn_of_events = !self.is_turn_of_events;
-        if self.is_turn_of_events {
-            if let Some(happening) = self.next_event() {
+impl<R: Net + Wait + Clock + Eprint + AllocGlobal + Drop, M: Drop> Port for SocketPort<R, M> {
+    type Mail = M;
+
+    // The sockets are looked at before each `Nothing`, and after some happenings at the latest: so in each turn of a worker that
+    // takes as many at once.
+    fn next(&mut self, patience: u64) -> Result<Happening<M>, PortFault> {
+        if self.taken >= BETWEEN_LOOKS {
+            self.look(0)?;
+        }
+        if let Some(happening) = self.next_there() {
+            return Ok(happening);
+        }
+        if !self.has_looked {
+            self.look(patience)?;
+            if let Some(happening) = self.next_there() {
                 return Ok(happening);
             }
         }
-        if let Some(happening) = self.next_parcel() {
-            return Ok(happening);
-        }
-        if let Some(happening) = self.next_event() {
-            return Ok(happening);
-        }
-        self.wait(patience)?;
+        self.has_looked = false;
         Ok(Happening::Nothing)
     }
 
@@ -306,7 +353,7 @@ impl<R: Net + Wait + Clock + Eprint + AllocGlobal + Drop> Port for SocketPort<R>
         }
     }
 
-    fn post(&mut self, worker: usize, mail: Mail) -> Result<(), PortFault> {
+    fn post(&mut self, worker: usize, mail: M) -> Result<(), PortFault> {
         let Some(mailbox) = self.mailboxes.get(worker) else {
             drop(mail);
             return Err(PortFault);
@@ -316,6 +363,13 @@ impl<R: Net + Wait + Clock + Eprint + AllocGlobal + Drop> Port for SocketPort<R>
 
     fn workers(&self) -> usize {
         self.mailboxes.len()
+    }
+
+    fn backlog(&self, worker: usize) -> usize {
+        match self.mailboxes.get(worker) {
+            Some(mailbox) => mailbox.waiting(),
+            None => 0,
+        }
     }
 
     fn clocks(&mut self) -> Result<Clocks, PortFault> {
@@ -330,7 +384,8 @@ impl<R: Net + Wait + Clock + Eprint + AllocGlobal + Drop> Port for SocketPort<R>
     }
 }
 
-impl<K: Kind, R: Net + Wait + Clock + Eprint + AllocGlobal + Drop> Carries<K> for SocketPort<R> {
+impl<K: Kind, R: Net + Wait + Clock + Eprint + AllocGlobal + Drop, M: Drop> Carries<K>
+    for SocketPort<R, M> {
     type Connection = SocketConnection;
 
     fn open(&mut self, line: usize) -> Option<SocketConnection> {
@@ -380,8 +435,8 @@ pub fn now_ms<R: Clock>(rt: &R) -> Option<u64> {
     u64::try_from(now.as_millis()).ok()
 }
 
-// Milliseconds by the system's monotonic clock. None where it has none.
-fn monotonic_ms<R: Clock>(rt: &R) -> Option<u64> {
+/// Milliseconds by the system's monotonic clock. None where it has none.
+pub fn monotonic_ms<R: Clock>(rt: &R) -> Option<u64> {
     let now = rt.monotonic().ok()?;
     u64::try_from(now.as_millis()).ok()
 }
