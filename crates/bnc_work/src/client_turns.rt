@@ -1,13 +1,13 @@
 //! The turns of clients.
+use crate::mail::Mail;
 use crate::node::Node;
 use crate::station::WorkEnd;
 use crate::work_port::WorkPort;
 use crate::worker::Worker;
 use attach::Attachment;
-use bnc_ports::{Mail, Reason};
-use chat_change::Change;
-use std::slice;
-use work_clients::{ClientEffect, ClientStep};
+use bnc_ports::Reason;
+use passed_lines::SaidLine;
+use work_clients::{ClientEffect, ClientPut, ClientStep};
 
 /// So many steps a client has before the others have their turn.
 const STEPS: usize = 64;
@@ -66,7 +66,7 @@ impl<N: Node, X: Attachment, P: WorkPort> Worker<N, X, P> {
                 Ok(None) => return Ok(Ok(())),
                 Err(reason) => return Ok(Err(reason)),
             };
-            let done = self.do_client_effect(line, &effect)?;
+            let done = self.do_client_effect(line, effect)?;
             if done.is_err() {
                 return Ok(done);
             }
@@ -78,31 +78,31 @@ impl<N: Node, X: Attachment, P: WorkPort> Worker<N, X, P> {
     fn do_client_effect(
         &mut self,
         line: usize,
-        effect: &ClientEffect,
+        effect: ClientEffect,
     ) -> Result<Result<(), Reason>, WorkEnd> {
-        let done = match effect {
-            // A question that is answered is done.
-            ClientEffect::Ask => return self.answer(line),
-            ClientEffect::Put(change) => self.put_for(line, change)?,
-            ClientEffect::Upstream => self.hand_up(line)?,
+        match effect {
+            ClientEffect::Ask => self.answer(line),
+            ClientEffect::Put(put) => self.put_for(line, put),
+            ClientEffect::Upstream => {
+                let done = self.hand_up(line)?;
+                self.clients.line_done(line);
+                Ok(done)
+            }
             ClientEffect::Close => {
                 self.clients.end(&mut self.desk, line, Reason::Ended);
-                Ok(())
+                Ok(Ok(()))
             }
-        };
-        self.clients.effect_done(line);
-        Ok(done)
+        }
     }
 
     // Puts a client's marker, and tells the other sessions. Where it waits to be published, nobody can be told yet, and the
     // client can't be answered.
-    fn put_for(&mut self, line: usize, change: &Change) -> Result<Result<(), Reason>, WorkEnd> {
-        let changes = slice::from_ref(change);
-        if self.put(changes).is_err() {
+    fn put_for(&mut self, line: usize, put: ClientPut) -> Result<Result<(), Reason>, WorkEnd> {
+        let Ok(change) = self.put_of_client(put) else {
             return Ok(Err(Reason::NoMemory));
-        }
+        };
         self.publish();
-        self.tell_marks(changes, Some(line))?;
+        self.tell_put(&change, Some(line))?;
         Ok(Ok(()))
     }
 
@@ -124,18 +124,18 @@ impl<N: Node, X: Attachment, P: WorkPort> Worker<N, X, P> {
             servers,
             ..
         } = self;
-        let Some(text) = clients.line_for_server(line) else {
+        let Some(said) = clients.line_for_server(line) else {
             return Ok(Ok(()));
         };
         if worker == desk.site.worker {
-            let said = servers.say(desk, network, text);
-            self.do_said(said)?;
+            let step = servers.say(desk, network, &said);
+            self.do_said(step)?;
             return Ok(Ok(()));
         }
-        let Ok(line) = desk.share(text) else {
+        let Ok(said) = SaidLine::new(desk.site.alloc, &said) else {
             return Ok(Err(Reason::NoMemory));
         };
-        let _ = desk.port.post(worker, Mail::Say { network, line });
+        let _ = desk.port.post(worker, Mail::Say { network, said });
         Ok(Ok(()))
     }
 }

@@ -1,5 +1,6 @@
 //! The floors that are due: what is older than the node keeps messages is let go, once an hour.
 use crate::node::Node;
+use crate::putting::due_floors;
 use crate::work_port::WorkPort;
 use crate::worker::Worker;
 use attach::Attachment;
@@ -33,11 +34,7 @@ impl<N: Node, X: Attachment, P: WorkPort> Worker<N, X, P> {
     // Puts the floors that are due, and tells the operator. They are all at one moment.
     fn put_floors(&mut self) {
         let Worker { node, desk, .. } = self;
-        let site = &desk.site;
-        let Ok(floors) = node
-            .pass()
-            .due_floors(site.alloc, site.moment, site.retain_days)
-        else {
+        let Ok(floors) = due_floors(node, &desk.site) else {
             return;
         };
         let Some(Change::Floor { at, .. }) = floors.first() else {

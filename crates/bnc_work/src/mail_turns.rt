@@ -1,19 +1,12 @@
 //! What workers tell each other, and what is done for the whole node.
+use crate::mail::Mail;
 use crate::node::Node;
 use crate::station::WorkEnd;
 use crate::work_port::WorkPort;
 use crate::worker::Worker;
 use attach::Attachment;
-use bnc_ports::Mail;
-use chat_change::Change;
-use client_directory::Entry;
-use passed_lines::Passed;
-use shared_node::PutFault;
+use passed_lines::{NetworkEntry, Passed};
 use work_servers::Standing;
-use work_timers::Timer;
-
-/// What waits to be published is tried again after so many milliseconds.
-const SECOND: u64 = 1000;
 
 impl<N: Node, X: Attachment, P: WorkPort> Worker<N, X, P> {
     /// What another worker tells.
@@ -24,20 +17,16 @@ impl<N: Node, X: Attachment, P: WorkPort> Worker<N, X, P> {
                 entry,
                 is_passed_on,
             } => self.take_entry(network, entry, is_passed_on),
-            Mail::Live {
-                network,
-                is_own,
-                message,
-            } => {
+            Mail::Live { network, live } => {
                 self.clients
-                    .tell_message(&mut self.desk, network, is_own, &message);
+                    .tell_message(&mut self.desk, network, &live.lend());
             }
             Mail::Relay { network, line } => return self.pass_on_here(network, &line.lend()),
-            Mail::Say { network, line } => return self.say(network, line.as_bytes()),
+            Mail::Say { network, said } => return self.say(network, &said.lend()),
             Mail::Marked { network, target } => {
                 return self.tell_mark(network, target.as_bytes(), None);
             }
-            Mail::Published => self.publish_to_peers(),
+            Mail::Published => self.publish(),
         }
         Ok(())
     }
@@ -53,12 +42,12 @@ impl<N: Node, X: Attachment, P: WorkPort> Worker<N, X, P> {
     }
 
     // How the session with a network's server stands now.
-    fn take_entry(&mut self, network: usize, entry: Entry, is_passed_on: bool) {
+    fn take_entry(&mut self, network: usize, entry: NetworkEntry, is_passed_on: bool) {
         let Worker { desk, clients, .. } = self;
-        if entry.is_up() {
-            clients.tell_nick(desk, network, entry.nick(), is_passed_on);
+        if entry.entry.is_up() {
+            clients.tell_nick(desk, network, &entry, is_passed_on);
         }
-        desk.site.set_entry(network, entry);
+        desk.site.set_entry(network, entry.entry);
     }
 
     /// All workers learn how the session with a network's server stands now, and whether a line that says so is passed on.
@@ -83,30 +72,5 @@ impl<N: Node, X: Attachment, P: WorkPort> Worker<N, X, P> {
             is_passed_on,
         };
         let _ = self.desk.port.post(worker, mail);
-    }
-
-    /// Puts changes. Where they only wait to be published, that is tried again a second later.
-    pub(crate) fn put(&mut self, changes: &[Change]) -> Result<(), PutFault> {
-        match self.node.put(changes) {
-            Ok(_) => Ok(()),
-            Err(fault) => {
-                if fault == PutFault::Waiting {
-                    self.publish_later();
-                }
-                Err(fault)
-            }
-        }
-    }
-
-    /// Tries a second later to publish what waits.
-    pub(crate) fn publish_later(&mut self) {
-        self.desk.set_timer(Timer::Publish, SECOND);
-    }
-
-    /// Publishes what waits, or tries that again a second later.
-    pub(crate) fn publish_waiting(&mut self) {
-        if self.put(&[]).is_ok() {
-            self.publish();
-        }
     }
 }

@@ -1,14 +1,14 @@
 //! Sessions are told of read markers (IRCv3 draft/read-marker).
+use crate::mail::Mail;
 use crate::node::Node;
 use crate::station::WorkEnd;
 use crate::work_port::WorkPort;
 use crate::worker::Worker;
 use attach::Attachment;
-use bnc_ports::Mail;
-use byte_text::{NoMemory, Text};
-use chat_change::Change;
+use byte_text::Text;
+use chat_change::{Buffer, Change};
 use irc_line::{TagLimit, read_line};
-use std::alloc::Global;
+use std::alloc::{AllocError, Global};
 
 // A line by which somebody joins a channel (RFC 2812, section 3.2.1).
 #[derive(Clone, Copy)]
@@ -30,13 +30,66 @@ fn join_of(bytes: &[u8]) -> Option<Join<'_>> {
     Some(Join { nick, channel })
 }
 
-// The question for the read marker of a target.
-fn marker_question(alloc: Global, target: &[u8]) -> Result<Text, NoMemory> {
-    let mut line = Vec::from_slice(alloc, b"MARKREAD ")?;
-    match line.extend_from_slice(target) {
-        Ok(()) => Ok(Text::of(line)),
-        Err(_) => Err(NoMemory),
+/// A buffer whose marker changes that come bring further, and the node's marker before they are taken, in milliseconds.
+#[derive(Drop)]
+pub(crate) struct MarkAhead {
+    buffer: Buffer,
+    before: Option<u64>,
+}
+
+// Whether a marker is further than it was.
+fn is_further(now: Option<u64>, before: Option<u64>) -> bool {
+    match (now, before) {
+        (Some(now), Some(before)) => now > before,
+        (Some(_), None) => true,
+        (None, _) => false,
     }
+}
+
+fn has_buffer(marks: &[MarkAhead], buffer: &Buffer) -> bool {
+    marks.iter().any(|mark| mark.buffer.is_same(buffer))
+}
+
+// The node's marker of a buffer, in milliseconds. None also where the node can't be read.
+fn mark_now<N: Node>(node: &mut N, buffer: &Buffer) -> Option<u64> {
+    match node.pass().marker(buffer) {
+        Ok(Some(mark)) => Some(mark.ms()),
+        Ok(None) | Err(_) => None,
+    }
+}
+
+// Notes a buffer whose marker is further at that moment, in milliseconds, than in the node, once.
+fn note_ahead<N: Node>(
+    node: &mut N,
+    ahead: &mut Vec<MarkAhead>,
+    buffer: &Buffer,
+    at: u64,
+) -> Result<(), AllocError> {
+    let before = mark_now(node, buffer);
+    if is_further(Some(at), before) && !has_buffer(ahead, buffer) {
+        let buffer = buffer.try_clone()?;
+        ahead.push(MarkAhead { buffer, before })?;
+    }
+    Ok(())
+}
+
+/// The buffers whose markers are further in these changes than in the node, each once, in the order of the changes. What the
+/// node holds beside them isn't looked at. Where there is no memory for the list, the rest is left out: sessions read these
+/// markers when they next ask.
+pub(crate) fn marks_ahead<N: Node>(
+    node: &mut N,
+    alloc: Global,
+    changes: &[Change],
+) -> Vec<MarkAhead> {
+    let mut ahead = Vec::new(alloc);
+    for change in changes {
+        if let Change::Mark { buffer, at } = change {
+            if note_ahead(node, &mut ahead, buffer, at.ms()).is_err() {
+                return ahead;
+            }
+        }
+    }
+    ahead
 }
 
 impl<N: Node, X: Attachment, P: WorkPort> Worker<N, X, P> {
@@ -60,22 +113,39 @@ impl<N: Node, X: Attachment, P: WorkPort> Worker<N, X, P> {
         }
     }
 
-    /// All workers' sessions are told of the markers among the changes, but for one client.
-    pub(crate) fn tell_marks(
+    /// All workers' sessions are told of what was put, where it is a marker, but for one client.
+    pub(crate) fn tell_put(
         &mut self,
-        changes: &[Change],
+        change: &Change,
         except: Option<usize>,
     ) -> Result<(), WorkEnd> {
-        for change in changes {
-            if let Change::Mark { buffer, .. } = change {
-                let network = self
-                    .desk
-                    .site
-                    .network_of(buffer.account(), buffer.network());
-                if let Some(network) = network {
-                    self.post_mark(network, buffer.target());
-                    self.tell_mark(network, buffer.target(), except)?;
-                }
+        match change {
+            Change::Mark { buffer, .. } => self.tell_mark_of(buffer, except),
+            _ => Ok(()),
+        }
+    }
+
+    // All workers' sessions are told of a buffer's marker, but for one client.
+    fn tell_mark_of(&mut self, buffer: &Buffer, except: Option<usize>) -> Result<(), WorkEnd> {
+        let network = self
+            .desk
+            .site
+            .network_of(buffer.account(), buffer.network());
+        match network {
+            Some(network) => {
+                self.post_mark(network, buffer.target());
+                self.tell_mark(network, buffer.target(), except)
+            }
+            None => Ok(()),
+        }
+    }
+
+    /// All workers' sessions are told of those of these markers that the node has further by now. One that a client of another
+    /// worker put meanwhile is told by that put too, in the same words.
+    pub(crate) fn tell_risen(&mut self, marks: &[MarkAhead]) -> Result<(), WorkEnd> {
+        for mark in marks {
+            if is_further(mark_now(&mut self.node, &mark.buffer), mark.before) {
+                self.tell_mark_of(&mark.buffer, None)?;
             }
         }
         Ok(())
@@ -102,19 +172,6 @@ impl<N: Node, X: Attachment, P: WorkPort> Worker<N, X, P> {
         target: &[u8],
         except: Option<usize>,
     ) -> Result<(), WorkEnd> {
-        match marker_question(self.desk.site.alloc, target) {
-            Ok(question) => self.tell_followers(network, question.as_bytes(), except),
-            Err(NoMemory) => Ok(()),
-        }
-    }
-
-    // This worker's sessions of the network that follow read markers are told the answer to a question, but for one client.
-    fn tell_followers(
-        &mut self,
-        network: usize,
-        question: &[u8],
-        except: Option<usize>,
-    ) -> Result<(), WorkEnd> {
         let mut from = 0;
         for _ in 0..usize::MAX {
             let Some(line) = self.clients.next_follower(from, network, except) else {
@@ -127,7 +184,7 @@ impl<N: Node, X: Attachment, P: WorkPort> Worker<N, X, P> {
                 clients,
                 ..
             } = self;
-            clients.tell_answer(desk, node.pass(), line, question);
+            clients.tell_marker(desk, node.pass(), line, target);
             let Some(next) = line.checked_add(1) else {
                 return Ok(());
             };

@@ -1,24 +1,48 @@
 //! What a worker asks of its node.
-ghost use Rattle.std.specs.Prelude.{◌≡◌};
+ghost use Rattle.std.specs.Prelude.{◌≡◌, ◌⊎◌, List, ℕ, IfOk, OnErr};
+ghost use Rattle.chat_change.specs.declared.change.Change.{Change as Piece};
 ghost use Rattle.shared_node.specs.Lists.{changes_in};
+ghost use Rattle.work_peers.specs.Taking.{IsTakenFromPeer};
+ghost use Rattle.bnc_work.specs.Putting.{MayBePut};
 
-use bnc_ports::Gate;
+use bnc_ports::{Connection, Gate, Port};
+use byte_text::NoMemory;
 use chat_change::Change;
-use gossip_delta::{NotTaken, Taker};
+use peer_session::Outcome;
 use shared_node::{Naming, NodeTaker, Pass, PutFault};
-use std::alloc::Global;
 use std::sync::Wait;
+use work_desk::{Desk, Site};
+use work_peers::Peers;
 
-/// A worker's way into its node. It may wait.
-pub(crate) trait Node: Taker + Wait + Drop {
+/// A worker's way into its node. It may wait. What comes into the node by it is put by right, or was sent by a peer that had
+/// greeted: there is no other call that brings changes.
+pub(crate) trait Node: Wait + Drop {
+    /// What it has taken so far, as a [`Taker`](gossip_delta::Taker) says it.
+    ghost holds: { Self → ℕ → List Piece → Type 0 };
+
+    /// What others may give it meanwhile.
+    ghost may_add: { Self → List Piece → Type 0 };
+
     /// The name of the node.
     type Name: Naming;
 
     /// What the worker reads by.
     fn pass(&mut self) -> &mut Pass<Self::Name>;
 
-    /// Puts the changes ([`NodeTaker::put`]).
-    fn put(&mut self, changes: &[Change]) -> Result<(), PutFault>;
+    /// Puts changes that may be put at the moment of the site ([`NodeTaker::put`]).
+    fn put(&mut self, site: &Site, changes: &[Change]) -> Result<(), PutFault>
+        requires { ∥ MayBePut site.now.moment site.now.retain_days changes.now ∥₁ };
+
+    /// Takes what a peer sent over that connection, once the two have greeted each other ([`Peers::arrive`]).
+    fn take<C: Connection, P: Port>(
+        &mut self,
+        peers: &mut Peers<C>,
+        desk: &mut Desk<P>,
+        line: usize,
+    ) -> Result<Outcome, NoMemory>
+        ensures taken { IfOk result (IsTakenFromPeer holds may_add self.old self.new) }
+        ensures err { OnErr result (IsTakenFromPeer holds may_add self.old self.new Outcome.Ignored
+            ⊎ IsTakenFromPeer holds may_add self.old self.new Outcome.Taken) };
 
     /// Whether the worker may answer.
     fn may_answer(&self, worker: usize) -> bool;
@@ -33,28 +57,31 @@ pub(crate) struct GatedNode<'a, J: Naming, R: Wait + Drop, W: Wait, G: Gate> {
 
 impl<'a, J: Naming, R: Wait + Drop, W: Wait, G: Gate> Wait for GatedNode<'a, J, R, W, G> {}
 
-impl<'a, J: Naming, R: Wait + Drop, W: Wait, G: Gate> Taker for GatedNode<'a, J, R, W, G> {
+impl<'a, J: Naming, R: Wait + Drop, W: Wait, G: Gate> Node for GatedNode<'a, J, R, W, G> {
     ghost holds = { λ n start list. (start ≡ 0) × (list ≡ changes_in n.taker.pass.list) };
 
     ghost may_add = { λ _ _. Unit {0} };
 
-    fn take(&mut self, alloc: Global, changes: &[Change]) -> Result<(), NotTaken> {
-        self.taker.take(alloc, changes)
-    }
-}
-
-impl<'a, J: Naming, R: Wait + Drop, W: Wait, G: Gate> Node for GatedNode<'a, J, R, W, G> {
     type Name = J;
 
     fn pass(&mut self) -> &mut Pass<J> {
         &mut self.taker.pass
     }
 
-    fn put(&mut self, changes: &[Change]) -> Result<(), PutFault> {
+    fn put(&mut self, _site: &Site, changes: &[Change]) -> Result<(), PutFault> {
         match self.taker.put(changes) {
             Ok(_receipt) => Ok(()),
             Err(fault) => Err(fault),
         }
+    }
+
+    fn take<C: Connection, P: Port>(
+        &mut self,
+        peers: &mut Peers<C>,
+        desk: &mut Desk<P>,
+        line: usize,
+    ) -> Result<Outcome, NoMemory> {
+        peers.arrive(desk, line, &mut self.taker)
     }
 
     fn may_answer(&self, worker: usize) -> bool {

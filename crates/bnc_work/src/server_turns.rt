@@ -1,26 +1,25 @@
 //! The turns of networks' servers.
+use crate::mail::Mail;
 use crate::node::Node;
 use crate::station::WorkEnd;
 use crate::work_port::WorkPort;
 use crate::worker::Worker;
 use attach::Attachment;
-use bnc_ports::{Mail, Port, Reason};
+use bnc_ports::{Port, Reason};
 use byte_text::NoMemory;
-use chat_change::{Change, Record};
-use passed_lines::{Deed, Passed, PassedLine, ServerEffects};
+use passed_lines::{Deed, Live, LiveMessage, Passed, PassedLine, Said, ServerEffects, ServerPut};
 use shared_node::PutFault;
-use std::slice;
-use upstream_session::is_from;
-use work_servers::{Said, ServerStep};
+use work_servers::{SaidStep, ServerStep};
 
 /// So many lines of a server are taken before the others have their turn: about as many as one read brings, so that what
 /// they come to is written to each client at once.
 const STEPS: usize = 128;
 
 impl<N: Node, X: Attachment, P: WorkPort> Worker<N, X, P> {
-    /// The turn of one server.
+    /// The turn of one server. While another worker is behind with its mail, none of its lines is taken.
     pub(crate) fn serve_server(&mut self, line: usize) -> Result<(), WorkEnd> {
-        for _ in 0..STEPS {
+        let steps = if self.is_another_behind() { 0 } else { STEPS };
+        for _ in 0..steps {
             if !self.step_server(line)? {
                 return Ok(());
             }
@@ -69,14 +68,14 @@ impl<N: Node, X: Attachment, P: WorkPort> Worker<N, X, P> {
     }
 
     /// A client's line for the network's server, where there is one.
-    pub(crate) fn say(&mut self, network: usize, bytes: &[u8]) -> Result<(), WorkEnd> {
-        let said = self.servers.say(&mut self.desk, network, bytes);
-        self.do_said(said)
+    pub(crate) fn say(&mut self, network: usize, said: &Said<'_>) -> Result<(), WorkEnd> {
+        let step = self.servers.say(&mut self.desk, network, said);
+        self.do_said(step)
     }
 
     /// Does what a client's line comes to at the network's server.
-    pub(crate) fn do_said(&mut self, said: Option<Said>) -> Result<(), WorkEnd> {
-        let Some(Said { line, effects }) = said else {
+    pub(crate) fn do_said(&mut self, step: Option<SaidStep>) -> Result<(), WorkEnd> {
+        let Some(SaidStep { line, effects }) = step else {
             return Ok(());
         };
         match effects {
@@ -109,9 +108,9 @@ impl<N: Node, X: Attachment, P: WorkPort> Worker<N, X, P> {
                 return Ok(true);
             };
             match deed {
-                Deed::Send(text) => self.servers.owe(line, text),
-                Deed::Put(change) => {
-                    if !self.put_from(line, change) {
+                Deed::Sent => {}
+                Deed::Put(put) => {
+                    if !self.put_from(line, &put) {
                         return Ok(false);
                     }
                 }
@@ -127,34 +126,31 @@ impl<N: Node, X: Attachment, P: WorkPort> Worker<N, X, P> {
 
     // Puts what a server's line came to, and says whether the node has it. A message is told as it comes, also where it waits
     // to be published.
-    fn put_from(&mut self, line: usize, change: &Change) -> bool {
-        match self.put(slice::from_ref(change)) {
+    fn put_from(&mut self, line: usize, put: &ServerPut<'_>) -> bool {
+        match self.put_of_server(put) {
             Ok(()) => self.publish(),
             Err(PutFault::Waiting) => {}
             Err(PutFault::NoMemory { .. } | PutFault::Exhausted) => return false,
         }
-        if let Change::Post(message) = change {
-            self.tell_message(line, message);
-        }
+        self.tell_live(line, put);
         true
     }
 
-    // Tells a message of a network to the sessions that hear it.
-    fn tell_message(&mut self, line: usize, message: &Record) {
+    // Tells what was put to the sessions that hear it, where it is a message.
+    fn tell_live(&mut self, line: usize, put: &ServerPut<'_>) {
         let Worker {
             desk,
             clients,
             servers,
             ..
         } = self;
-        let (Some(network), Some(nick)) = (servers.network(line), servers.nick(line)) else {
+        let (Some(network), Some(live)) = (servers.network(line), servers.live(line, put)) else {
             return;
         };
-        let is_own = is_from(nick, message);
-        clients.tell_message(desk, network, is_own, message);
+        clients.tell_message(desk, network, &live);
         for worker in 0..desk.site.workers {
             if worker != desk.site.worker {
-                post_message(&mut desk.port, worker, network, is_own, message);
+                post_live(&mut desk.port, worker, network, &live);
             }
         }
     }
@@ -192,20 +188,8 @@ impl<N: Node, X: Attachment, P: WorkPort> Worker<N, X, P> {
     }
 }
 
-fn post_message<P: Port>(
-    port: &mut P,
-    worker: usize,
-    network: usize,
-    is_own: bool,
-    message: &Record,
-) {
-    let Ok(message) = message.try_clone() else {
-        return;
-    };
-    let mail = Mail::Live {
-        network,
-        is_own,
-        message,
-    };
-    let _ = port.post(worker, mail);
+fn post_live<P: Port<Mail = Mail>>(port: &mut P, worker: usize, network: usize, live: &Live<'_>) {
+    if let Ok(live) = LiveMessage::new(live) {
+        let _ = port.post(worker, Mail::Live { network, live });
+    }
 }

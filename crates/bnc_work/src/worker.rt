@@ -1,4 +1,5 @@
 //! One worker: what comes, and who has something to do.
+use crate::mail::Mail;
 use crate::node::{GatedNode, Node};
 use crate::station::{Station, WorkEnd};
 use crate::work_port::WorkPort;
@@ -9,7 +10,7 @@ use chat_change::Moment;
 use gossip_link::{NodeName, Terms};
 use shared_node::{Naming, NodeTaker, Pass, SharedNode};
 use std::alloc::Global;
-use std::sync::Wait;
+use std::sync::{Arc, Wait};
 use work_clients::{Clients, ToClient};
 use work_desk::{ClockWatch, Desk, Site, clock};
 use work_peers::{Peers, ToPeer};
@@ -19,8 +20,17 @@ use work_timers::Timer;
 /// A worker looks after its timers at least so often, in milliseconds.
 const LONGEST: u64 = 60_000;
 
+/// So much that happened is taken in one turn.
+const HAPPENINGS: usize = 64;
+
 /// So many timers are looked after in one turn.
 const TIMERS: usize = 64;
+
+/// A worker that has more mail before it than this is behind.
+const MOST_MAIL: usize = 1024;
+
+/// A worker whose servers wait for one that is behind looks again after so many milliseconds.
+const PAUSE: u64 = 1;
 
 /// One worker.
 #[derive(Drop)]
@@ -32,8 +42,8 @@ pub(crate) struct Worker<N: Node, X: Attachment, P: WorkPort> {
     pub(crate) clients: Clients<X, <P as Carries<ToClient>>::Connection>,
     pub(crate) servers: Servers<<P as Carries<ToServer>>::Connection>,
     pub(crate) peers: Peers<<P as Carries<ToPeer>>::Connection>,
-    // the number up to which this worker has seen what the node holds
-    pub(crate) seen: u64,
+    // whether something was put that the peers are to have
+    pub(crate) has_published: bool,
 }
 
 /// Serves the connections of the port as worker `worker` of those that the port counts, until the gate shuts or the port
@@ -130,6 +140,9 @@ impl<N: Node, X: Attachment, P: WorkPort> Worker<N, X, P> {
         } = station;
         let count = peers.len();
         let (servers, peers) = tables_of(alloc, networks.len(), &terms, peers)?;
+        let Ok(terms) = Arc::new(alloc, terms) else {
+            return Err(NoMemory);
+        };
         let site = Site {
             alloc,
             worker: number,
@@ -151,7 +164,7 @@ impl<N: Node, X: Attachment, P: WorkPort> Worker<N, X, P> {
             clients: Clients::new(alloc, lobby),
             servers,
             peers,
-            seen: 0,
+            has_published: false,
         })
     }
 
@@ -190,10 +203,25 @@ impl<N: Node, X: Attachment, P: WorkPort> Worker<N, X, P> {
         }
     }
 
+    /// Whether another worker is behind with its mail. That grows by what servers say, so their lines wait then: nothing of it
+    /// is dropped, and each worker goes on reading its own.
+    pub(crate) fn is_another_behind(&self) -> bool {
+        let site = &self.desk.site;
+        for worker in 0..site.workers {
+            if worker != site.worker && self.desk.port.backlog(worker) > MOST_MAIL {
+                return true;
+            }
+        }
+        false
+    }
+
     // How long the port may wait.
     fn patience(&self) -> u64 {
-        if self.clients.is_busy() || self.servers.is_busy() || self.peers.is_busy() {
+        if self.has_published || self.clients.is_busy() || self.peers.is_busy() {
             return 0;
+        }
+        if self.servers.is_busy() {
+            return if self.is_another_behind() { PAUSE } else { 0 };
         }
         match self.desk.timers.next() {
             Some(at) => at.saturating_sub(self.desk.site.now).min(LONGEST),
@@ -201,9 +229,8 @@ impl<N: Node, X: Attachment, P: WorkPort> Worker<N, X, P> {
         }
     }
 
-    // What happens next. The clocks are read then.
-    fn next(&mut self) -> Result<Happening, WorkEnd> {
-        let patience = self.patience();
+    // What happens next, for which the port may wait so long. The clocks are read then.
+    fn next(&mut self, patience: u64) -> Result<Happening<Mail>, WorkEnd> {
         let Ok(happening) = self.desk.port.next(patience) else {
             return Err(WorkEnd::Failed);
         };
@@ -214,41 +241,74 @@ impl<N: Node, X: Attachment, P: WorkPort> Worker<N, X, P> {
         }
     }
 
-    // One thing that happened, what is due, and the turns of one server, one peer and one client.
+    // What happened, what is due, and the turns of one server, and of each client and each peer that has something to do. So a
+    // client or a peer waits for one turn of a server, however many lines that has.
     fn turn(&mut self) -> Result<(), WorkEnd> {
-        let happening = self.next()?;
-        self.take(happening)?;
+        self.take_happenings()?;
         self.look_after_timers()?;
+        self.clients.tell_refusals(&mut self.desk);
+        self.peers.tell_refusals(&mut self.desk);
         if let Some(line) = self.servers.next_busy() {
             self.serve_server(line)?;
         }
-        if let Some(line) = self.peers.next_busy() {
-            self.serve_peer(line)?;
-        }
-        match self.clients.next_busy() {
-            Some(line) => self.serve_client(line),
-            None => Ok(()),
-        }
+        self.serve_clients()?;
+        self.tell_published();
+        self.serve_peers()
     }
 
-    fn take(&mut self, happening: Happening) -> Result<(), WorkEnd> {
+    // Those clients that have something to do by now have a turn each.
+    fn serve_clients(&mut self) -> Result<(), WorkEnd> {
+        for _ in 0..self.clients.busy_count() {
+            if let Some(line) = self.clients.next_busy() {
+                self.serve_client(line)?;
+            }
+        }
+        Ok(())
+    }
+
+    // Those peers that have something to do by now have a turn each.
+    fn serve_peers(&mut self) -> Result<(), WorkEnd> {
+        for _ in 0..self.peers.busy_count() {
+            if let Some(line) = self.peers.next_busy() {
+                self.serve_peer(line)?;
+            }
+        }
+        Ok(())
+    }
+
+    // What happened, as far as it is there at once.
+    fn take_happenings(&mut self) -> Result<(), WorkEnd> {
+        let mut patience = self.patience();
+        for _ in 0..HAPPENINGS {
+            let happening = self.next(patience)?;
+            if !self.take(happening)? {
+                return Ok(());
+            }
+            patience = 0;
+        }
+        Ok(())
+    }
+
+    // False where nothing happened.
+    fn take(&mut self, happening: Happening<Mail>) -> Result<bool, WorkEnd> {
         match happening {
             Happening::Client { line, ticket } => {
                 self.clients.admit(&self.node, &mut self.desk, line, ticket);
             }
+            Happening::Leave { ticket } => self.clients.give_way(&mut self.desk, ticket),
             Happening::Peer { line } => self.peers.begin(&mut self.desk, line, None),
-            Happening::Opened { line, what } => return self.opened(line, what),
+            Happening::Opened { line, what } => self.opened(line, what)?,
             Happening::Refused { line, what } => self.refused(line, what),
             Happening::Ready {
                 line,
                 readable,
                 writable,
             } => self.mark(line, readable, writable),
-            Happening::Mail(mail) => return self.read_mail(mail),
-            Happening::Nothing => {}
+            Happening::Mail(mail) => self.read_mail(mail)?,
+            Happening::Nothing => return Ok(false),
             Happening::Ended => return Err(WorkEnd::Ended),
         }
-        Ok(())
+        Ok(true)
     }
 
     fn mark(&mut self, line: usize, readable: bool, writable: bool) {

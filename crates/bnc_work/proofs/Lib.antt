@@ -1,0 +1,2 @@
+pub mod PuttingLemmas
+pub mod TakingLemmas
