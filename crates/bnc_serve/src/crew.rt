@@ -4,9 +4,9 @@ ghost use Rattle.std.specs.Prelude.{◌≡◌, IfOk, map};
 use crate::fault::ServeFault;
 use crate::stations::station_of;
 use attach::Attachment;
-use bnc_ports::{Arrival, Lobby};
-use bnc_sockets::{Addresses, Door, Mailbox, Parcel, SocketPort, waker_of};
-use bnc_work::Station;
+use bnc_ports::{Arrival, Lobby, Waiting};
+use bnc_sockets::{Addresses, Door, Mailbox, Newcomer, Parcel, SocketPort, waker_of};
+use bnc_work::{Mail, Station};
 use crossbeam_channel::{Receiver, Sender, unbounded};
 use mio::Poll;
 use node_config::{Config, Network, Peer};
@@ -20,28 +20,35 @@ use std::time::Clock;
 #[derive(Drop)]
 pub(crate) struct Crew<R: Wait + Drop, X: Drop> {
     // What each worker begins with, in their order.
-    pub(crate) posts: Vec<(Station<X>, SocketPort<R>)>,
+    pub(crate) posts: Vec<(Station<X>, SocketPort<R, Mail>)>,
     // A door to each worker.
-    pub(crate) doors: Vec<Door<X>>,
+    pub(crate) doors: Vec<Door<Mail, X>>,
+    // Which clients wait to be registered.
+    pub(crate) waiting: Waiting,
 }
 
-// Where a worker waits.
+// Where a worker waits, and where others hand in to it.
 #[derive(Drop)]
 struct WorkerSeat {
     poll: Poll,
-    parcels: Receiver<Parcel>,
-    mailbox: Mailbox,
+    parcels: Receiver<Parcel<Mail>>,
+    mailbox: Mailbox<Mail>,
+    newcomers: Receiver<Newcomer>,
+    entrance: Sender<Newcomer>,
 }
 
 fn seat_of<R: Net + AllocGlobal>(rt: &R) -> Result<WorkerSeat, ServeFault> {
     let poll = Poll::new(rt)?;
     let (sender, parcels) = unbounded(rt.alloc())?;
+    let (entrance, newcomers) = unbounded(rt.alloc())?;
     let waker = waker_of(rt, &poll)?;
     let mailbox = Mailbox::new(sender, waker);
     Ok(WorkerSeat {
         poll,
         parcels,
         mailbox,
+        newcomers,
+        entrance,
     })
 }
 
@@ -54,7 +61,7 @@ fn seats_of<R: Net + AllocGlobal>(rt: &R, count: usize) -> Result<Vec<WorkerSeat
     Ok(seats)
 }
 
-fn mailboxes_of(alloc: Global, seats: &[WorkerSeat]) -> Result<Vec<Mailbox>, AllocError> {
+fn mailboxes_of(alloc: Global, seats: &[WorkerSeat]) -> Result<Vec<Mailbox<Mail>>, AllocError> {
     let mut mailboxes = Vec::new(alloc);
     for seat in seats {
         let mailbox = seat.mailbox.try_clone()?;
@@ -63,7 +70,7 @@ fn mailboxes_of(alloc: Global, seats: &[WorkerSeat]) -> Result<Vec<Mailbox>, All
     Ok(mailboxes)
 }
 
-fn copies_of(alloc: Global, mailboxes: &[Mailbox]) -> Result<Vec<Mailbox>, AllocError> {
+fn copies_of(alloc: Global, mailboxes: &[Mailbox<Mail>]) -> Result<Vec<Mailbox<Mail>>, AllocError> {
     let mut copies = Vec::new(alloc);
     for mailbox in mailboxes {
         let copy = mailbox.try_clone()?;
@@ -108,19 +115,24 @@ fn addresses_of(alloc: Global, config: &Config) -> Result<Addresses, AllocError>
 fn port_of<R: Net + Wait + Clock + Eprint + AllocGlobal + Copy + Drop>(
     rt: &R,
     addresses: &Addresses,
-    mailboxes: &[Mailbox],
+    mailboxes: &[Mailbox<Mail>],
     poll: Poll,
-    parcels: Receiver<Parcel>,
-) -> Result<SocketPort<R>, AllocError> {
+    parcels: Receiver<Parcel<Mail>>,
+    newcomers: Receiver<Newcomer>,
+) -> Result<SocketPort<R, Mail>, AllocError> {
     let mailboxes = copies_of(rt.alloc(), mailboxes)?;
     let addresses = addresses.try_clone()?;
-    SocketPort::new(*rt, poll, parcels, mailboxes, addresses)
+    SocketPort::new(*rt, poll, parcels, newcomers, mailboxes, addresses)
 }
 
 // A lobby for a worker's clients, and where their attachments are sent.
-fn lobby_of<X: Attachment>(alloc: Global) -> Result<(Sender<Arrival<X>>, Lobby<X>), ServeFault> {
+fn lobby_of<X: Attachment>(
+    alloc: Global,
+    waiting: &Waiting,
+) -> Result<(Sender<Arrival<X>>, Lobby<X>), ServeFault> {
+    let waiting = waiting.try_clone()?;
     let (sender, arrivals) = unbounded(alloc)?;
-    Ok((sender, Lobby::new(arrivals)))
+    Ok((sender, Lobby::new(arrivals, waiting)))
 }
 
 impl<R: Net + Wait + Clock + Eprint + AllocGlobal + Copy + Drop, X: Attachment> Crew<R, X> {
@@ -133,6 +145,7 @@ impl<R: Net + Wait + Clock + Eprint + AllocGlobal + Copy + Drop, X: Attachment> 
         let mut crew = Crew {
             posts: Vec::new(alloc),
             doors: Vec::new(alloc),
+            waiting: Waiting::new(alloc, config.limits.places)?,
         };
         for seat in seats {
             crew.add(rt, config, incarnation, &addresses, &mailboxes, seat)?;
@@ -147,17 +160,19 @@ impl<R: Net + Wait + Clock + Eprint + AllocGlobal + Copy + Drop, X: Attachment> 
         config: &Config,
         incarnation: u64,
         addresses: &Addresses,
-        mailboxes: &[Mailbox],
+        mailboxes: &[Mailbox<Mail>],
         seat: WorkerSeat,
     ) -> Result<(), ServeFault> {
         let WorkerSeat {
             poll,
             parcels,
             mailbox,
+            newcomers,
+            entrance,
         } = seat;
-        let port = port_of(rt, addresses, mailboxes, poll, parcels)?;
-        let (arrivals, lobby) = lobby_of(rt.alloc())?;
-        let door = Door::new(mailbox, arrivals);
+        let port = port_of(rt, addresses, mailboxes, poll, parcels, newcomers)?;
+        let (arrivals, lobby) = lobby_of(rt.alloc(), &self.waiting)?;
+        let door = Door::new(mailbox, entrance, arrivals);
         self.doors.push(door).map_err(AllocError::from)?;
         let station = station_of(rt.alloc(), config, incarnation, lobby)?;
         self.posts.push((station, port)).map_err(AllocError::from)?;

@@ -12,6 +12,7 @@ mod floors;
 mod listeners;
 mod node;
 mod reception;
+mod seating;
 mod stations;
 
 pub use bnc_work::WorkEnd;

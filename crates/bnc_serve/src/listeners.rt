@@ -92,13 +92,15 @@ impl Listeners {
         report(rt, &Event::Listening { clients, peers });
     }
 
-    // Waits until somebody connects, or until it is time to try again. False where the system can't wait.
-    pub(crate) fn wait(&mut self) -> bool {
-        let patience = if self.is_failing {
-            Some(Duration::from_millis(RETRY))
+    // Waits until somebody connects, or until it is time to try again, and for so many milliseconds at most. False where the
+    // system can't wait.
+    pub(crate) fn wait(&mut self, most: Option<u64>) -> bool {
+        let most = if self.is_failing {
+            Some(most.unwrap_or(RETRY).min(RETRY))
         } else {
-            None
+            most
         };
+        let patience = most.map(Duration::from_millis);
         self.was_failing = self.is_failing;
         self.is_failing = false;
         self.poll.poll(&mut self.events, patience).is_ok()

@@ -6,10 +6,11 @@ use crate::fault::ServeFault;
 use crate::floors::{floors_of, put_floors};
 use crate::listeners::Listeners;
 use crate::reception::{Reception, receive};
+use crate::seating::Seating;
 use attach::{Attachment, Boxed, Places, RingClient};
-use bnc_ports::{Carries, Gate, Port};
-use bnc_sockets::{Door, SocketPort, now_ms};
-use bnc_work::{Station, WorkEnd, WorkPort, work_all};
+use bnc_ports::{Carries, Event, Gate, Port, Waiting};
+use bnc_sockets::{Door, SocketPort, now_ms, report};
+use bnc_work::{Mail, Station, WorkEnd, WorkPort, work_all};
 use chat_change::Change;
 use node_config::Config;
 use shared_node::{Naming, Pass, SharedNode, Unnamed};
@@ -29,9 +30,11 @@ use work_servers::ToServer;
 #[derive(Drop)]
 pub struct Intake<X = Boxed> {
     listeners: Listeners,
-    doors: Vec<Door<X>>,
+    doors: Vec<Door<Mail, X>>,
     // How many clients may be there at once.
     places: usize,
+    // Which of them wait to be registered.
+    waiting: Waiting,
     // How many bytes may be owed to a client.
     bound: usize,
 }
@@ -42,7 +45,7 @@ pub struct Prepared<R: Wait + Drop, X: Drop = Boxed> {
     /// Where connections come in.
     pub intake: Intake<X>,
     /// What each worker begins with, but for its pass.
-    pub posts: Vec<(Station<X>, SocketPort<R>)>,
+    pub posts: Vec<(Station<X>, SocketPort<R, Mail>)>,
     /// The floors of accounts that are put before the workers begin.
     pub floors: Vec<Change>,
 }
@@ -57,19 +60,32 @@ pub fn prepare<R: Net + Wait + Clock + Eprint + AllocGlobal + Copy + Drop, X: At
     let Some(incarnation) = now_ms(rt) else {
         return Err(ServeFault::NoClock);
     };
-    let Crew { posts, doors } = Crew::new(rt, config, incarnation)?;
+    let Crew {
+        posts,
+        doors,
+        waiting,
+    } = Crew::new(rt, config, incarnation)?;
     let intake = Intake {
         listeners,
         doors,
         places: config.limits.places,
+        waiting,
         bound: config.limits.bound,
     };
     let floors = floors_of(rt.alloc(), &config.accounts)?;
+    tell_retention(rt, config.limits.retain_days);
     Ok(Prepared {
         intake,
         posts,
         floors,
     })
+}
+
+// Tells the operator for how many days messages are kept, where that isn't for ever.
+fn tell_retention<R: Clock + Eprint>(rt: &R, days: u32) {
+    if days > 0 {
+        report(rt, &Event::Retention { days });
+    }
 }
 
 // A gate that is always open.
@@ -167,11 +183,14 @@ where
         listeners,
         doors,
         places,
+        waiting,
         bound,
     } = intake;
-    let clerk = Places::new(rt.alloc(), places)?;
+    let alloc = rt.alloc();
+    let clerk = Places::new(alloc, places)?;
+    let seating = Seating::new(alloc, clerk, waiting, places)?;
     listeners.tell(rt);
-    let reception = Reception::new(listeners, clerk, bound, doors);
+    let reception = Reception::new(alloc, listeners, seating, bound, doors);
     if receive_in_a_thread(*rt, reception, boxed) {
         Ok(())
     } else {

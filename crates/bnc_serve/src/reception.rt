@@ -1,24 +1,39 @@
 //! Where connections are taken in.
 use crate::listeners::{Caller, Entrance, Listeners};
-use attach::{Attachment, Clerk, RingClient};
-use bnc_ports::{Event, Reason};
-use bnc_sockets::{Door, report};
+use crate::seating::{Handed, Seating};
+use attach::{Attachment, RingClient, Stand};
+use bnc_ports::{Event, Reason, Refusals};
+use bnc_sockets::{Door, monotonic_ms, report};
+use bnc_work::Mail;
 use mio::net::TcpStream;
+use std::alloc::Global;
+use std::collections::VecDeque;
 use std::io::Eprint;
 use std::net::SocketAddr;
 use std::sync::Wait;
 use std::time::Clock;
 
-// Takes connections in: gives each client a place, and hands clients to the workers in turn, peers to worker 0.
+// So many clients at most wait for a place.
+const MOST_QUEUED: usize = 16;
+
+// After so many milliseconds it is looked whether a place is free by now.
+const PATIENCE: u64 = 10;
+
+// Takes connections in: gives each client a place, and hands clients to the workers in turn, peers to worker 0. Where each place
+// is taken those give way who have waited longest to be registered.
 #[derive(Drop)]
 pub(crate) struct Reception<X> {
     listeners: Listeners,
-    clerk: Clerk,
+    seating: Seating,
     // How many bytes may be owed to a client.
     bound: usize,
-    doors: Vec<Door<X>>,
-    // How many clients were handed in.
-    count: usize,
+    doors: Vec<Door<Mail, X>>,
+    // The worker to which the next client is handed.
+    next: usize,
+    // Clients that connected and have no place yet, in their order.
+    queue: VecDeque<(TcpStream, SocketAddr)>,
+    // Those that were closed before they were handed in.
+    refusals: Refusals,
 }
 
 // Takes connections in for as long as the system can wait for them. Then the workers are told to end.
@@ -34,29 +49,63 @@ where
 {
     let mut reception = reception;
     for _ in rt.forever() {
-        let was_client = reception.take_client(rt, boxed);
+        let was_client = reception.take_client(rt);
         let was_peer = reception.take_peer(rt);
-        if !was_client && !was_peer && !reception.listeners.wait() {
+        reception.seat_all(rt, boxed);
+        if !was_client && !was_peer && !reception.wait() {
             break;
         }
+        reception.tell_refusals(rt);
     }
     reception.stop(rt);
 }
 
 impl<X: Attachment> Reception<X> {
-    // A reception at those listeners, of the clerk's places.
+    // A reception at those listeners, of those places.
     pub(crate) fn new(
+        alloc: Global,
         listeners: Listeners,
-        clerk: Clerk,
+        seating: Seating,
         bound: usize,
-        doors: Vec<Door<X>>,
+        doors: Vec<Door<Mail, X>>,
     ) -> Reception<X> {
         Reception {
             listeners,
-            clerk,
+            seating,
             bound,
             doors,
-            count: 0,
+            next: 0,
+            queue: VecDeque::new(alloc),
+            refusals: Refusals::new(),
+        }
+    }
+
+    // Waits until somebody connects, until a place may be free, or until the operator is to be told something. False where the
+    // system can't wait.
+    fn wait(&mut self) -> bool {
+        let most = if self.queue.is_empty() {
+            self.refusals.patience()
+        } else {
+            Some(PATIENCE)
+        };
+        self.listeners.wait(most)
+    }
+
+    // The operator is told once a minute how many more clients were refused than were told one by one.
+    fn tell_refusals<R: Clock + Eprint>(&mut self, rt: &R) {
+        let Some(now) = monotonic_ms(rt) else {
+            return;
+        };
+        if let Some(count) = self.refusals.take_untold(now) {
+            report(rt, &Event::ClientsRefused { count });
+        }
+    }
+
+    // The operator is told that a client was closed before it was handed to a worker, or that there was one more of many.
+    fn tell_refused<R: Clock + Eprint>(&mut self, rt: &R, address: SocketAddr, reason: Reason) {
+        if self.refusals.add() {
+            let address = Some(address);
+            report(rt, &Event::ClientRefused { address, reason });
         }
     }
 
@@ -81,39 +130,74 @@ impl<X: Attachment> Reception<X> {
         }
     }
 
-    // Hands the next client that connected to the next worker. One for whom no place is free, or no memory, is closed. False
-    // where none waited.
-    fn take_client<R: Wait + Clock + Eprint + AllocGlobal, F: Fn(RingClient) -> Option<X>>(
-        &mut self,
-        rt: &R,
-        boxed: &F,
-    ) -> bool
-        requires { F.IsAlwaysCallable boxed.now }
-    {
+    // Takes in the next client that connected, which waits for a place from now on. False where none did.
+    fn take_client<R: Clock + Eprint>(&mut self, rt: &R) -> bool {
         match self.listeners.accept(rt, Entrance::Clients) {
             Caller::Nobody => false,
             Caller::Gone => true,
             Caller::Connected(stream, address) => {
-                match self.seat(rt, boxed) {
-                    Ok(attachment) => self.hand_client(rt, stream, address, attachment),
-                    Err(reason) => refuse(rt, address, reason),
-                }
+                self.queue_up(rt, stream, address);
                 true
             }
         }
     }
 
-    // A client at a free place, with room for what it is owed.
-    fn seat<R: AllocGlobal, F: Fn(RingClient) -> Option<X>>(
+    // A client waits for a place. Where too many do it is closed.
+    fn queue_up<R: Clock + Eprint>(&mut self, rt: &R, stream: TcpStream, address: SocketAddr) {
+        if self.queue.len() >= MOST_QUEUED {
+            self.tell_refused(rt, address, Reason::NoPlace);
+        } else if self.queue.push_back((stream, address)).is_err() {
+            self.tell_refused(rt, address, Reason::NoMemory);
+        }
+    }
+
+    // Hands in those who wait for a place, in their order and as far as places are free.
+    fn seat_all<R: Wait + Clock + Eprint + AllocGlobal, F: Fn(RingClient) -> Option<X>>(
         &mut self,
         rt: &R,
         boxed: &F,
+    )
+        requires { F.IsAlwaysCallable boxed.now }
+    {
+        for _ in 0..MOST_QUEUED {
+            if self.queue.is_empty() {
+                return;
+            }
+            match self.seating.claim() {
+                Ok(stand) => self.seat_next(rt, boxed, stand),
+                Err(_) => return self.make_way(rt),
+            }
+        }
+    }
+
+    // Hands in who has waited longest for a place, to the next worker. For want of memory it is closed.
+    fn seat_next<R: Wait + Clock + Eprint + AllocGlobal, F: Fn(RingClient) -> Option<X>>(
+        &mut self,
+        rt: &R,
+        boxed: &F,
+        stand: Stand,
+    )
+        requires { F.IsAlwaysCallable boxed.now }
+    {
+        let Some((stream, address)) = self.queue.pop_front() else {
+            return;
+        };
+        let place = stand.place();
+        match self.attachment_at(rt, boxed, stand) {
+            Ok(attachment) => self.hand_client(rt, stream, address, place, attachment),
+            Err(reason) => self.tell_refused(rt, address, reason),
+        }
+    }
+
+    // A client at that place, with room for what it is owed.
+    fn attachment_at<R: AllocGlobal, F: Fn(RingClient) -> Option<X>>(
+        &self,
+        rt: &R,
+        boxed: &F,
+        stand: Stand,
     ) -> Result<X, Reason>
         requires { F.IsAlwaysCallable boxed.now }
     {
-        let Ok(stand) = self.clerk.claim() else {
-            return Err(Reason::NoPlace);
-        };
         let Ok(client) = RingClient::new(rt.alloc(), stand, self.bound) else {
             return Err(Reason::NoMemory);
         };
@@ -123,23 +207,54 @@ impl<X: Attachment> Reception<X> {
         }
     }
 
+    // Hands a client with its place to the next worker.
     fn hand_client<R: Wait>(
         &mut self,
         rt: &R,
         stream: TcpStream,
         address: SocketAddr,
+        place: usize,
         attachment: X,
     ) {
-        let at = self.count.checked_rem(self.doors.len()).unwrap_or(0);
-        self.count = self.count.wrapping_add(1);
-        if let Some(door) = self.doors.get_mut(at) {
-            let _ = door.hand_client(rt, stream, address, attachment);
+        let worker = self.next.checked_rem(self.doors.len()).unwrap_or(0);
+        self.next = worker.wrapping_add(1);
+        self.seating.begin(place);
+        if let Some(door) = self.doors.get_mut(worker) {
+            if let Ok(ticket) = door.hand_client(rt, stream, address, attachment) {
+                self.seating.note(place, Handed { worker, ticket });
+            }
         }
     }
-}
 
-// Tells the operator that a client was closed before it was handed to a worker.
-fn refuse<R: Clock + Eprint>(rt: &R, address: SocketAddr, reason: Reason) {
-    let address = Some(address);
-    report(rt, &Event::ClientRefused { address, reason });
+    // Each place is taken. For each who waits for one, who has waited longest to be registered is asked to go. Where nobody is
+    // left to be asked, those who wait for a place are closed.
+    fn make_way<R: Wait + Clock + Eprint>(&mut self, rt: &R) {
+        let now = monotonic_ms(rt).unwrap_or(0);
+        for _ in self.seating.count_leaving(now)..self.queue.len() {
+            match self.seating.ask_longest(now) {
+                Some(handed) => self.ask_to_leave(rt, handed),
+                None => break,
+            }
+        }
+        if self.seating.count_leaving(now) == 0 {
+            self.refuse_all(rt);
+        }
+    }
+
+    fn ask_to_leave<R: Wait>(&self, rt: &R, handed: Handed) {
+        if let Some(door) = self.doors.get(handed.worker) {
+            let _ = door.ask_to_leave(rt, handed.ticket);
+        }
+    }
+
+    // Closes those who wait for a place.
+    fn refuse_all<R: Clock + Eprint>(&mut self, rt: &R) {
+        for _ in 0..MOST_QUEUED {
+            let Some((stream, address)) = self.queue.pop_front() else {
+                return;
+            };
+            drop(stream);
+            self.tell_refused(rt, address, Reason::NoPlace);
+        }
+    }
 }
