@@ -3,7 +3,7 @@ use crate::until_told::UntilTold;
 use attach::RingClient;
 use bnc_serve::{Prepared, prepare};
 use bnc_sockets::SocketPort;
-use bnc_work::Station;
+use bnc_work::{Mail, Station};
 use node_config::{Config, read_config};
 use std::alloc::Global;
 use std::io::Eprint;
@@ -91,9 +91,9 @@ type Post<P> = (Station<RingClient>, P);
 /// The workers' ports, which end once they are told so.
 pub(crate) fn until_told<R: Machine>(
     rt: &R,
-    posts: Vec<Post<SocketPort<R>>>,
+    posts: Vec<Post<SocketPort<R, Mail>>>,
     is_over: &Arc<AtomicBool>,
-) -> Vec<Post<UntilTold<SocketPort<R>>>> {
+) -> Vec<Post<UntilTold<R>>> {
     let mut all = Vec::new(rt.alloc());
     for (station, port) in posts {
         let is_over = Arc::try_clone(is_over).expect(rt, "an owner");

@@ -2,6 +2,7 @@
 use crate::node::Machine;
 use bnc_ports::{Carries, Halt, Kind};
 use bnc_sockets::{SocketConnection, SocketPort};
+use bnc_work::Mail;
 use std::net::SocketAddr;
 
 /// Connections over which anything may be told.
@@ -13,37 +14,40 @@ impl Kind for ToPeer {
 }
 
 /// Opens the connection of that number, where it is there and was not opened before.
-pub(crate) fn open<R: Machine>(port: &mut SocketPort<R>, line: usize) -> Option<SocketConnection> {
-    <SocketPort<R> as Carries<ToPeer>>::open(port, line)
+pub(crate) fn open<R: Machine>(
+    port: &mut SocketPort<R, Mail>,
+    line: usize,
+) -> Option<SocketConnection> {
+    <SocketPort<R, Mail> as Carries<ToPeer>>::open(port, line)
 }
 
 /// Moves bytes that came to the start of the buffer.
 pub(crate) fn receive<R: Machine>(
-    port: &mut SocketPort<R>,
+    port: &mut SocketPort<R, Mail>,
     connection: &mut SocketConnection,
     buffer: &mut [u8],
 ) -> Result<usize, Halt> {
-    <SocketPort<R> as Carries<ToPeer>>::receive(port, connection, buffer)
+    <SocketPort<R, Mail> as Carries<ToPeer>>::receive(port, connection, buffer)
 }
 
 /// Sends the first of these bytes.
 pub(crate) fn send<R: Machine>(
-    port: &mut SocketPort<R>,
+    port: &mut SocketPort<R, Mail>,
     connection: &mut SocketConnection,
     bytes: &[u8],
 ) -> Result<usize, Halt> {
-    <SocketPort<R> as Carries<ToPeer>>::send(port, connection, bytes)
+    <SocketPort<R, Mail> as Carries<ToPeer>>::send(port, connection, bytes)
 }
 
 /// Closes a connection.
-pub(crate) fn close<R: Machine>(port: &mut SocketPort<R>, connection: SocketConnection) {
-    <SocketPort<R> as Carries<ToPeer>>::close(port, connection);
+pub(crate) fn close<R: Machine>(port: &mut SocketPort<R, Mail>, connection: SocketConnection) {
+    <SocketPort<R, Mail> as Carries<ToPeer>>::close(port, connection);
 }
 
 /// Who is at the other end.
 pub(crate) fn address<R: Machine>(
-    port: &SocketPort<R>,
+    port: &SocketPort<R, Mail>,
     connection: &SocketConnection,
 ) -> Option<SocketAddr> {
-    <SocketPort<R> as Carries<ToPeer>>::address(port, connection)
+    <SocketPort<R, Mail> as Carries<ToPeer>>::address(port, connection)
 }

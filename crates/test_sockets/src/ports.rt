@@ -2,8 +2,9 @@
 use crate::node::Machine;
 use attach::RingClient;
 use bnc_ports::{Happening, Port};
-use bnc_sockets::{Addresses, Door, Mailbox, Parcel, SocketPort, waker_of};
-use crossbeam_channel::{Receiver, unbounded};
+use bnc_sockets::{Addresses, Door, Mailbox, Newcomer, Parcel, SocketPort, waker_of};
+use bnc_work::Mail;
+use crossbeam_channel::{Receiver, Sender, unbounded};
 use mio::Poll;
 use std::net::SocketAddr;
 
@@ -14,23 +15,32 @@ const TURNS: usize = 1000;
 #[derive(Drop)]
 struct WorkerSeat {
     poll: Poll,
-    parcels: Receiver<Parcel>,
-    mailbox: Mailbox,
+    parcels: Receiver<Parcel<Mail>>,
+    mailbox: Mailbox<Mail>,
+    newcomers: Receiver<Newcomer>,
+    entrance: Sender<Newcomer>,
 }
 
 fn seat_of<R: Machine>(rt: &R) -> WorkerSeat {
     let poll = Poll::new(rt).expect(rt, "a poll");
     let (sender, parcels) = unbounded(rt.alloc()).expect(rt, "memory");
+    let (entrance, newcomers) = unbounded(rt.alloc()).expect(rt, "memory");
     let waker = waker_of(rt, &poll).expect(rt, "a waker");
     let mailbox = Mailbox::new(sender, waker);
     WorkerSeat {
         poll,
         parcels,
         mailbox,
+        newcomers,
+        entrance,
     }
 }
 
-fn mailboxes_of<R: Machine>(rt: &R, first: &Mailbox, second: &Mailbox) -> Vec<Mailbox> {
+fn mailboxes_of<R: Machine>(
+    rt: &R,
+    first: &Mailbox<Mail>,
+    second: &Mailbox<Mail>,
+) -> Vec<Mailbox<Mail>> {
     let mut mailboxes = Vec::new(rt.alloc());
     assert!(rt;
         mailboxes
@@ -48,23 +58,24 @@ fn mailboxes_of<R: Machine>(rt: &R, first: &Mailbox, second: &Mailbox) -> Vec<Ma
 fn port_of<R: Machine>(
     rt: &R,
     poll: Poll,
-    parcels: Receiver<Parcel>,
-    mailboxes: Vec<Mailbox>,
+    parcels: Receiver<Parcel<Mail>>,
+    newcomers: Receiver<Newcomer>,
+    mailboxes: Vec<Mailbox<Mail>>,
     peer: SocketAddr,
-) -> SocketPort<R> {
+) -> SocketPort<R, Mail> {
     let networks = Vec::new(rt.alloc());
     let mut peers = Vec::new(rt.alloc());
     peers.push(peer).expect(rt, "memory");
     let addresses = Addresses { networks, peers };
-    SocketPort::new(*rt, poll, parcels, mailboxes, addresses).expect(rt, "memory")
+    SocketPort::new(*rt, poll, parcels, newcomers, mailboxes, addresses).expect(rt, "memory")
 }
 
 // The ports of two workers, whose peer is at that address, and the door to the second worker.
 #[derive(Drop)]
 pub(crate) struct TwoPorts<R: Machine> {
-    pub(crate) first: SocketPort<R>,
-    pub(crate) second: SocketPort<R>,
-    pub(crate) door: Door<RingClient>,
+    pub(crate) first: SocketPort<R, Mail>,
+    pub(crate) second: SocketPort<R, Mail>,
+    pub(crate) door: Door<Mail, RingClient>,
 }
 
 pub(crate) fn two_ports<R: Machine>(rt: &R, peer: SocketAddr) -> TwoPorts<R> {
@@ -72,10 +83,10 @@ pub(crate) fn two_ports<R: Machine>(rt: &R, peer: SocketAddr) -> TwoPorts<R> {
     let other = seat_of(rt);
     let mailboxes = mailboxes_of(rt, &one.mailbox, &other.mailbox);
     let copies = mailboxes_of(rt, &one.mailbox, &other.mailbox);
-    let first = port_of(rt, one.poll, one.parcels, mailboxes, peer);
-    let second = port_of(rt, other.poll, other.parcels, copies, peer);
+    let first = port_of(rt, one.poll, one.parcels, one.newcomers, mailboxes, peer);
+    let second = port_of(rt, other.poll, other.parcels, other.newcomers, copies, peer);
     let (sender, _) = unbounded(rt.alloc()).expect(rt, "memory");
-    let door = Door::new(other.mailbox, sender);
+    let door = Door::new(other.mailbox, other.entrance, sender);
     TwoPorts {
         first,
         second,
@@ -84,7 +95,7 @@ pub(crate) fn two_ports<R: Machine>(rt: &R, peer: SocketAddr) -> TwoPorts<R> {
 }
 
 // What comes next over a port but nothing, and but for room for bytes.
-pub(crate) fn next<R: Machine>(rt: &R, port: &mut SocketPort<R>) -> Happening {
+pub(crate) fn next<R: Machine>(rt: &R, port: &mut SocketPort<R, Mail>) -> Happening<Mail> {
     for _ in 0..TURNS {
         let happening = port.next(1000).expect(rt, "the port");
         match &happening {

@@ -2,13 +2,14 @@
 use crate::node::{Machine, listener};
 use crate::peer_line::{address, close, open, receive, send};
 use crate::ports::{TwoPorts, next, two_ports};
-use bnc_ports::{Connection, Dial, Halt, Happening, Mail, Port};
+use bnc_ports::{Connection, Dial, Halt, Happening, Port};
 use bnc_sockets::{SocketConnection, SocketPort};
+use bnc_work::Mail;
 use mio::net::TcpStream;
 use std::net::{SocketAddr, TcpListener};
 
 // The connection to the peer, which is told next to be there.
-fn dialed<R: Machine>(rt: &R, port: &mut SocketPort<R>) -> SocketConnection {
+fn dialed<R: Machine>(rt: &R, port: &mut SocketPort<R, Mail>) -> SocketConnection {
     match next(rt, port) {
         Happening::Opened {
             line,
@@ -19,7 +20,7 @@ fn dialed<R: Machine>(rt: &R, port: &mut SocketPort<R>) -> SocketConnection {
 }
 
 // The connection of the peer that came.
-fn came<R: Machine>(rt: &R, port: &mut SocketPort<R>) -> SocketConnection {
+fn came<R: Machine>(rt: &R, port: &mut SocketPort<R, Mail>) -> SocketConnection {
     match next(rt, port) {
         Happening::Peer { line } => open(port, line).expect(rt, "the connection"),
         _ => rt.panic("no peer came"),
@@ -27,18 +28,28 @@ fn came<R: Machine>(rt: &R, port: &mut SocketPort<R>) -> SocketConnection {
 }
 
 // The number of the line that has something to be read.
-fn readable<R: Machine>(rt: &R, port: &mut SocketPort<R>) -> usize {
+fn readable<R: Machine>(rt: &R, port: &mut SocketPort<R, Mail>) -> usize {
     match next(rt, port) {
         Happening::Ready { line, .. } => line,
         _ => rt.panic("no bytes were told"),
     }
 }
 
-fn is_published<R: Machine>(rt: &R, port: &mut SocketPort<R>) -> bool {
+fn is_published<R: Machine>(rt: &R, port: &mut SocketPort<R, Mail>) -> bool {
     matches!(&next(rt, port), Happening::Mail(Mail::Published))
 }
 
-fn is_ended<R: Machine>(rt: &R, port: &mut SocketPort<R>) -> bool {
+// Whether a worker is told of bytes before it has read all of so much mail.
+fn are_bytes_between<R: Machine>(rt: &R, port: &mut SocketPort<R, Mail>, mail: usize) -> bool {
+    for _ in 0..mail {
+        if !is_published(rt, port) {
+            return true;
+        }
+    }
+    false
+}
+
+fn is_ended<R: Machine>(rt: &R, port: &mut SocketPort<R, Mail>) -> bool {
     matches!(&next(rt, port), Happening::Ended)
 }
 
@@ -98,6 +109,22 @@ fn bytes_mail_and_the_end_reach_the_other_worker(rt: HostRuntime) {
     assert!(rt; is_ended(&rt, &mut first));
 }
 
+// The sockets are looked at after 64 happenings at the latest, also while mail comes without a pause.
+#[test]
+fn bytes_are_told_between_mail(rt: HostRuntime) {
+    let (listener, address) = listener(&rt);
+    let mut ports = two_ports(&rt, address);
+    let (_near, mut far) = connected(&rt, &listener, &mut ports);
+    for _ in 0..100 {
+        assert!(rt; ports.second.post(0, Mail::Published).is_ok());
+    }
+    assert!(rt; ports.second.backlog(0) == 100 && ports.second.backlog(1) == 0);
+    assert!(rt; is_published(&rt, &mut ports.first));
+    assert!(rt; send(&mut ports.second, &mut far, b"PING x\r\n") == Ok(8));
+    assert!(rt; are_bytes_between(&rt, &mut ports.first, 66));
+    assert!(rt; ports.second.backlog(0) >= 33);
+}
+
 // A connection that a worker has is neither handed out again nor given up.
 #[test]
 fn a_connection_is_handed_out_once(rt: HostRuntime) {
@@ -110,7 +137,7 @@ fn a_connection_is_handed_out_once(rt: HostRuntime) {
 }
 
 // Whether the peer is told to be refused.
-fn is_refused<R: Machine>(rt: &R, port: &mut SocketPort<R>) -> bool {
+fn is_refused<R: Machine>(rt: &R, port: &mut SocketPort<R, Mail>) -> bool {
     matches!(
         &next(rt, port),
         Happening::Refused {

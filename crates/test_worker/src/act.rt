@@ -11,6 +11,12 @@ pub enum Act<'a> {
     Back(u64),
     /// Another worker tells this.
     Mail(&'a str),
+    /// The client of that ticket is to leave.
+    Leave(u64),
+    /// So much mail waits for the other worker from now on.
+    Behind(usize),
+    /// So many of the next acts happen at once.
+    Together(usize),
     /// The port fails.
     Fail,
     /// The clocks can't be read any more.
@@ -48,6 +54,8 @@ pub enum Turn<'a> {
     Gone,
     /// The other end takes so many bytes at once, and so many in all.
     Takes(usize, usize),
+    /// The other end takes so many bytes of each write, and is never full.
+    TakesAWrite(usize),
 }
 
 /// A word, and what stands behind the space after it.
@@ -61,6 +69,9 @@ pub fn number_in(text: &str) -> Option<usize> {
 }
 
 fn takes_in(text: &str) -> Option<Turn<'_>> {
+    if let Some(count) = text.strip_suffix(" a write") {
+        return Some(Turn::TakesAWrite(number_in(count)?));
+    }
     match text.split_once(" of ") {
         Some((at_once, most)) => Some(Turn::Takes(number_in(at_once)?, number_in(most)?)),
         None => Some(Turn::Takes(number_in(text)?, usize::MAX)),
@@ -108,6 +119,9 @@ pub fn act_in(text: &str) -> Option<Act<'_>> {
         "ahead" => Some(Act::Ahead(rest.parse::<u64>().ok()?)),
         "back" => Some(Act::Back(rest.parse::<u64>().ok()?)),
         "mail" => Some(Act::Mail(rest)),
+        "leave" => Some(Act::Leave(rest.parse::<u64>().ok()?)),
+        "behind" => Some(Act::Behind(number_in(rest)?)),
+        "together" => Some(Act::Together(number_in(rest)?)),
         "fail" => Some(Act::Fail),
         "stop" => Some(Act::Stop),
         _ => Some(Act::To(number_in(word)?, turn_in(rest)?)),

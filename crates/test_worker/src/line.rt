@@ -36,6 +36,8 @@ pub struct Line {
     output: Pending,
     // so many bytes the other end takes before the worker is told that it takes more
     at_once: usize,
+    // so many bytes it takes of a write
+    mouthful: usize,
     // so many of these it still takes
     room: usize,
     // so many it takes in all from now on
@@ -52,6 +54,7 @@ impl Line {
             input: Pending::new(alloc),
             output: Pending::new(alloc),
             at_once: usize::MAX,
+            mouthful: usize::MAX,
             room: usize::MAX,
             left: usize::MAX,
             other: Other::Sends,
@@ -70,6 +73,11 @@ impl Line {
         self.at_once = at_once;
         self.left = most;
         self.room = 0;
+    }
+
+    /// The other end takes so many bytes of each write.
+    pub fn set_mouthful(&mut self, count: usize) {
+        self.mouthful = count;
     }
 
     /// These bytes come.
@@ -141,7 +149,7 @@ impl Line {
         if self.is_dead() {
             return Err(Halt::Closed);
         }
-        let count = bytes.len().min(self.room);
+        let count = bytes.len().min(self.room).min(self.mouthful);
         if count == 0 {
             return Err(Halt::Blocked);
         }

@@ -2,53 +2,41 @@
 //!
 //!     entry NETWORK up|redact|down passed|alone NICK CHANNEL..
 //!     live NETWORK own|other CHANGE
-//!     relay NETWORK all|CAPABILITY LINE (as the session with that network's server passes it on)
+//!     relay NETWORK all|CAPABILITY LINE
 //!     say NETWORK LINE
 //!     marked NETWORK TARGET
 //!     published
 //!
-//! A network that is up may take REDACT. Lines stand without their endings.
+//! A network that is up may take REDACT. Lines stand without their endings. Mail that comes to a worker is made by a session
+//! with that network's server, or by one of a client: `live NETWORK LINE` is the message that a line of the server comes to,
+//! `relay` a line as it is passed on, and `say` what a client hands up.
 use crate::act::{cut, number_in};
-use crate::relay::passed_on;
-use bnc_ports::Mail;
+use crate::guest::said_to;
+use crate::server::{entry_of, passed_on, put_as_live};
+use bnc_work::Mail;
 use byte_text::Text;
 use chat_change::{Change, Record};
 use client_directory::Entry;
-use gossip_delta::{read_change, write_change};
-use shared_lines::SharedLine;
+use gossip_delta::write_change;
+use passed_lines::Live;
 use std::alloc::{AllocError, Global};
 use upstream_session::Recipients;
-
-fn entry_of(alloc: Global, standing: &str, text: &str) -> Option<Entry> {
-    let (nick, channels) = cut(text);
-    let nick = Text::new(alloc, nick.as_bytes()).ok()?;
-    let takes_redact = standing == "redact";
-    let mut entry = Entry::new(standing != "down", nick, Vec::new(alloc), takes_redact);
-    for channel in channels.split_whitespace() {
-        entry.join(Text::new(alloc, channel.as_bytes()).ok()?).ok()?;
-    }
-    Some(entry)
-}
 
 fn entry_in(alloc: Global, network: usize, text: &str) -> Option<Mail> {
     let (standing, rest) = cut(text);
     let (passed, rest) = cut(rest);
+    let (nick, channels) = cut(rest);
     Some(Mail::Entry {
         network,
-        entry: entry_of(alloc, standing, rest)?,
+        entry: entry_of(alloc, network, standing, nick, channels)?,
         is_passed_on: passed == "passed",
     })
 }
 
 fn live_in(alloc: Global, network: usize, text: &str) -> Option<Mail> {
-    let (speaker, line) = cut(text);
-    let Ok(Change::Post(message)) = read_change(alloc, line.as_bytes()) else {
-        return None;
-    };
     Some(Mail::Live {
         network,
-        is_own: speaker == "own",
-        message,
+        live: put_as_live(alloc, network, text)?,
     })
 }
 
@@ -61,8 +49,10 @@ fn relay_in(alloc: Global, network: usize, text: &str) -> Option<Mail> {
 }
 
 fn say_in(alloc: Global, network: usize, text: &str) -> Option<Mail> {
-    let line = SharedLine::new(alloc, text.as_bytes()).ok()?;
-    Some(Mail::Say { network, line })
+    Some(Mail::Say {
+        network,
+        said: said_to(alloc, network, text)?,
+    })
 }
 
 fn marked_in(alloc: Global, network: usize, text: &str) -> Option<Mail> {
@@ -128,14 +118,9 @@ fn post_line(alloc: Global, message: &Record) -> Result<Vec<u8>, AllocError> {
     }
 }
 
-fn tell_live(
-    alloc: Global,
-    out: &mut Vec<u8>,
-    is_own: bool,
-    message: &Record,
-) -> Result<(), AllocError> {
-    out.extend_from_slice(if is_own { b"own " } else { b"other " })?;
-    let line = post_line(alloc, message)?;
+fn tell_live(alloc: Global, out: &mut Vec<u8>, live: &Live<'_>) -> Result<(), AllocError> {
+    out.extend_from_slice(if live.is_own { b"own " } else { b"other " })?;
+    let line = post_line(alloc, live.message)?;
     out.extend_from_slice(without_ending(&line))
 }
 
@@ -178,17 +163,13 @@ pub fn tell_mail(alloc: Global, out: &mut Vec<u8>, mail: &Mail) -> Result<(), Al
             entry,
             is_passed_on,
             ..
-        } => tell_entry(out, entry, *is_passed_on),
-        Mail::Live {
-            is_own,
-            message,
-            ..
-        } => tell_live(alloc, out, *is_own, message),
+        } => tell_entry(out, &entry.entry, *is_passed_on),
+        Mail::Live { live, .. } => tell_live(alloc, out, &live.lend()),
         Mail::Relay { line, .. } => {
             let passed = line.lend();
             tell_relay(out, passed.to, passed.text)
         }
-        Mail::Say { line, .. } => out.extend_from_slice(without_ending(line.as_bytes())),
+        Mail::Say { said, .. } => out.extend_from_slice(without_ending(said.lend().text)),
         Mail::Marked { target, .. } => out.extend_from_slice(target.as_bytes()),
         Mail::Published => Ok(()),
     }

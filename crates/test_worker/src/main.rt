@@ -33,6 +33,8 @@
 //!     ahead 60000         the wall clock alone is set ahead by so many milliseconds
 //!     back 60000          it is set back by so many
 //!     mail ..             another worker tells something
+//!     behind 2000         so much mail waits for the other worker from now on
+//!     together 3          the next three acts happen at once
 //!     fail                the port fails
 //!     stop                the clocks can't be read any more
 //!
@@ -51,11 +53,12 @@
 mod act;
 mod connection;
 mod gate;
+mod guest;
 mod line;
 mod mail;
 mod play;
 mod port;
-mod relay;
+mod server;
 mod setting;
 mod station;
 

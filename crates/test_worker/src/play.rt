@@ -6,7 +6,7 @@ use crate::port::MemoryPort;
 use crate::setting::Setting;
 use crate::station::{posts, station_of};
 use attach::RingClient;
-use bnc_work::{Station, WorkEnd, work, work_all};
+use bnc_work::{Mail, Station, WorkEnd, work, work_all};
 use shared_node::{Naming, Pass, SharedNode, Unnamed};
 use std::alloc::{AllocError, Global};
 use std::marker::Brand;
@@ -50,6 +50,8 @@ where
     R: Threads + Wait + Clock + AllocGlobal + Copy + Send + Sync + Drop,
     requires { IsNamed J.book J.name J.parts name }
 {
+    // (the borrow checker knows no type that stands in a port's `Mail` alone)
+    let _: Option<&Mail> = None;
     let alloc = rt.alloc();
     let gate = Latch {
         rt: *rt,
@@ -78,6 +80,8 @@ where
     J: Naming + Send + Sync,
     R: Threads + Wait + Clock + AllocGlobal + Copy + Send + Sync + Drop,
 {
+    // (the borrow checker knows no type that stands in a port's `Mail` alone)
+    let _: Option<&Mail> = None;
     work_all(rt, node, all, gate).ok()
 }
 

@@ -9,9 +9,10 @@ use crate::mail::{mail_in, tell_mail};
 use crate::setting::Setting;
 use attach::{Clerk, Places, RingClient};
 use bnc_ports::{
-    Arrival, Carries, Clocks, Connection, Dial, Event, Halt, Happening, Kind, Lobby, Mail, Port,
-    PortFault,
+    Arrival, Carries, Clocks, Connection, Dial, Event, Halt, Happening, Kind, Lobby, Port,
+    PortFault, Waiting,
 };
+use bnc_work::Mail;
 use crossbeam_channel::Sender;
 use std::alloc::{AllocError, Global};
 use std::collections::VecDeque;
@@ -42,6 +43,10 @@ pub struct MemoryPort<R: Wait + Drop> {
     clocks: Clocks,
     // so many milliseconds of an act are still to pass
     to_pass: u64,
+    // so many of the next acts happen at once
+    together: usize,
+    // so much mail waits for the other worker
+    backlog: usize,
     is_stopped: bool,
     lines: Vec<Line>,
     // None where no connection can be begun
@@ -100,7 +105,7 @@ fn tell_line(told: &mut Vec<u8>, margin: &str, text: &str) -> Result<(), AllocEr
     told.extend_from_slice(b"\n")
 }
 
-fn ready(line: usize, readable: bool, writable: bool) -> Happening {
+fn ready(line: usize, readable: bool, writable: bool) -> Happening<Mail> {
     Happening::Ready {
         line,
         readable,
@@ -125,13 +130,15 @@ impl<R: Wait + Drop> MemoryPort<R> {
                 monotonic: UPTIME,
             },
             to_pass: 0,
+            together: 0,
+            backlog: 0,
             is_stopped: false,
             lines,
             dialed: if setting.can_dial { Some(DIALED) } else { None },
             workers: setting.workers,
             clerk: Places::new(alloc, setting.places).ok()?,
             arrivals,
-            lobby: Some(Lobby::new(coming)),
+            lobby: Some(Lobby::new(coming, Waiting::new(alloc, setting.places).ok()?)),
             ticket: 0,
             told: Vec::new(alloc),
         })
@@ -172,10 +179,14 @@ impl<R: Wait + Drop> MemoryPort<R> {
     }
 
     // What comes next. None is a port that fails.
-    fn step(&mut self, patience: u64) -> Option<Happening> {
+    fn step(&mut self, patience: u64) -> Option<Happening<Mail>> {
         self.turns = self.turns.saturating_add(1);
         if self.turns > TURNS {
             return None;
+        }
+        if self.together != 0 {
+            self.together = self.together.saturating_sub(1);
+            return self.next_act();
         }
         if patience == 0 {
             return Some(Happening::Nothing);
@@ -206,7 +217,7 @@ impl<R: Wait + Drop> MemoryPort<R> {
     }
 
     // The next act, which is told.
-    fn next_act(&mut self) -> Option<Happening> {
+    fn next_act(&mut self) -> Option<Happening<Mail>> {
         let Some(text) = self.acts.pop_front() else {
             return Some(Happening::Ended);
         };
@@ -221,12 +232,15 @@ impl<R: Wait + Drop> MemoryPort<R> {
         Some(Happening::Nothing)
     }
 
-    fn play_text(&mut self, text: &str) -> Option<Happening> {
+    fn play_text(&mut self, text: &str) -> Option<Happening<Mail>> {
         match act_in(text)? {
             Act::Wait(time) => self.to_pass = time,
             Act::Ahead(time) => self.clocks.wall = self.clocks.wall.saturating_add(time),
             Act::Back(time) => self.clocks.wall = self.clocks.wall.saturating_sub(time),
             Act::Mail(text) => return Some(Happening::Mail(mail_in(self.alloc, text)?)),
+            Act::Behind(count) => self.backlog = count,
+            Act::Together(count) => self.together = count,
+            Act::Leave(ticket) => return Some(Happening::Leave { ticket }),
             Act::Fail => return None,
             Act::Stop => self.is_stopped = true,
             Act::To(line, turn) => return self.play_turn(line, turn),
@@ -235,7 +249,7 @@ impl<R: Wait + Drop> MemoryPort<R> {
     }
 
     // What happens to a connection.
-    fn play_turn(&mut self, line: usize, turn: Turn<'_>) -> Option<Happening> {
+    fn play_turn(&mut self, line: usize, turn: Turn<'_>) -> Option<Happening<Mail>> {
         match turn {
             Turn::Client(bound) => self.bring_client(line, bound),
             Turn::Stray => self.bring_stray(line),
@@ -250,11 +264,12 @@ impl<R: Wait + Drop> MemoryPort<R> {
             Turn::Ends => self.end(line),
             Turn::Gone => self.go(line),
             Turn::Takes(at_once, most) => self.set_pace(line, at_once, most),
+            Turn::TakesAWrite(count) => self.set_mouthful(line, count),
         }
     }
 
     // Bytes come, of which the worker is told now, or with whatever comes next.
-    fn bring(&mut self, line: usize, bytes: Vec<u8>, is_told: bool) -> Option<Happening> {
+    fn bring(&mut self, line: usize, bytes: Vec<u8>, is_told: bool) -> Option<Happening<Mail>> {
         self.line(line)?.come(bytes.as_slice()).ok()?;
         Some(if is_told {
             ready(line, true, false)
@@ -264,7 +279,7 @@ impl<R: Wait + Drop> MemoryPort<R> {
     }
 
     // A line comes so many times, with whatever comes next.
-    fn bring_many(&mut self, line: usize, count: usize, text: &str) -> Option<Happening> {
+    fn bring_many(&mut self, line: usize, count: usize, text: &str) -> Option<Happening<Mail>> {
         let bytes = line_of(self.alloc, text)?;
         for _ in 0..count {
             self.line(line)?.come(bytes.as_slice()).ok()?;
@@ -273,19 +288,24 @@ impl<R: Wait + Drop> MemoryPort<R> {
     }
 
     // The other end sends nothing more.
-    fn end(&mut self, line: usize) -> Option<Happening> {
+    fn end(&mut self, line: usize) -> Option<Happening<Mail>> {
         self.line(line)?.end();
         Some(ready(line, true, false))
     }
 
     // The other end is gone.
-    fn go(&mut self, line: usize) -> Option<Happening> {
+    fn go(&mut self, line: usize) -> Option<Happening<Mail>> {
         self.line(line)?.go();
         Some(ready(line, true, true))
     }
 
-    fn set_pace(&mut self, line: usize, at_once: usize, most: usize) -> Option<Happening> {
+    fn set_pace(&mut self, line: usize, at_once: usize, most: usize) -> Option<Happening<Mail>> {
         self.line(line)?.set_pace(at_once, most);
+        Some(Happening::Nothing)
+    }
+
+    fn set_mouthful(&mut self, line: usize, count: usize) -> Option<Happening<Mail>> {
+        self.line(line)?.set_mouthful(count);
         Some(Happening::Nothing)
     }
 
@@ -296,13 +316,13 @@ impl<R: Wait + Drop> MemoryPort<R> {
         Some(())
     }
 
-    fn bring_peer(&mut self, line: usize) -> Option<Happening> {
+    fn bring_peer(&mut self, line: usize) -> Option<Happening<Mail>> {
         self.connect(line, None)?;
         Some(Happening::Peer { line })
     }
 
     // A client comes whose attachment isn't in the lobby.
-    fn bring_stray(&mut self, line: usize) -> Option<Happening> {
+    fn bring_stray(&mut self, line: usize) -> Option<Happening<Mail>> {
         self.connect(line, None)?;
         self.ticket = self.ticket.saturating_add(1);
         Some(Happening::Client {
@@ -312,7 +332,7 @@ impl<R: Wait + Drop> MemoryPort<R> {
     }
 
     // A client comes, if there is a place.
-    fn bring_client(&mut self, line: usize, bound: usize) -> Option<Happening> {
+    fn bring_client(&mut self, line: usize, bound: usize) -> Option<Happening<Mail>> {
         let Ok(stand) = self.clerk.claim() else {
             self.tell("no place").ok()?;
             return Some(Happening::Nothing);
@@ -330,7 +350,7 @@ impl<R: Wait + Drop> MemoryPort<R> {
     }
 
     // A connection that was begun is there, or can't be made.
-    fn end_dial(&mut self, line: usize, is_there: bool) -> Option<Happening> {
+    fn end_dial(&mut self, line: usize, is_there: bool) -> Option<Happening<Mail>> {
         let what = self.line(line)?.dialed()?;
         Some(if is_there {
             Happening::Opened { line, what }
@@ -368,7 +388,9 @@ impl<R: Wait + Drop> MemoryPort<R> {
 }
 
 impl<R: Wait + Drop> Port for &mut MemoryPort<R> {
-    fn next(&mut self, patience: u64) -> Result<Happening, PortFault> {
+    type Mail = Mail;
+
+    fn next(&mut self, patience: u64) -> Result<Happening<Mail>, PortFault> {
         (**self).step(patience).ok_or(PortFault)
     }
 
@@ -391,6 +413,10 @@ impl<R: Wait + Drop> Port for &mut MemoryPort<R> {
 
     fn workers(&self) -> usize {
         self.workers
+    }
+
+    fn backlog(&self, _: usize) -> usize {
+        self.backlog
     }
 
     fn clocks(&mut self) -> Result<Clocks, PortFault> {

@@ -31,8 +31,8 @@ fn account_of(alloc: Global, name: &str, networks: &[&str]) -> Option<Account> {
     Some(account)
 }
 
-// The account `demo` with the networks `net` and `two`, and `eve` with `net`.
-fn directory_of(alloc: Global) -> Option<Directory> {
+/// The account `demo` with the networks `net` and `two`, and `eve` with `net`.
+pub fn directory_of(alloc: Global) -> Option<Directory> {
     let mut directory = Directory::new(alloc);
     directory
         .add(account_of(alloc, "demo", &["net", "two"])?)
@@ -54,9 +54,14 @@ fn config_of(alloc: Global, account: &str, network: &str) -> Option<Config> {
     })
 }
 
+/// The names of the account and of the network, of that network or of the first where there is none.
+pub fn names_at(network: usize) -> (&'static str, &'static str) {
+    NETWORKS.get(network).copied().unwrap_or(NETWORKS[0])
+}
+
 /// The configuration of that network, or of the first where there is none.
 pub fn config_at(alloc: Global, network: usize) -> Option<Config> {
-    let (account, network) = NETWORKS.get(network).copied().unwrap_or(NETWORKS[0]);
+    let (account, network) = names_at(network);
     config_of(alloc, account, network)
 }
 

@@ -1,0 +1,3 @@
+-- ---- what a reader has to believe: sessions of clients
+
+pub mod Guest
