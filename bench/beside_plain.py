@@ -3,7 +3,7 @@
 
     bench/beside_plain.py PROGRAM ROUNDS
 
-PROGRAM is crates/test_speed/out/test_speed, as `rt run` in that crate builds it. Plain Rust is built by rustc from bench/plain.
+PROGRAM is crates/test_state/out/test_state, as `rt run` in that crate builds it. Plain Rust is built by rustc from bench/plain.
 Each figure is the median of so many rounds; in each round the two programs run one right after the other, on one processor.
 """
 
@@ -32,15 +32,15 @@ STATES = (
 
 
 def plain(name, folder):
-    """Builds a program of plain Rust."""
+    """Builds a program of plain Rust: the words that begin it."""
     to = f"{folder}/{name}"
     subprocess.run(["rustc", "-O", "--edition", "2021", "-o", to, f"{HERE}/plain/{name}.rs"], check=True)
-    return to
+    return [to]
 
 
 def run(program, words):
     """Runs a program, and gives the nanoseconds that it tells and the bytes that it took at most."""
-    begun = subprocess.Popen([program, *map(str, words)], stdout=subprocess.PIPE, text=True)
+    begun = subprocess.Popen([*program, *map(str, words)], stdout=subprocess.PIPE, text=True)
     said = begun.stdout.read()
     _, status, use = os.wait4(begun.pid, 0)
     begun.returncode = status
@@ -63,8 +63,8 @@ def ratio(one, other):
 def main():
     if len(sys.argv) != 3:
         sys.exit(__doc__)
-    program, rounds = sys.argv[1], int(sys.argv[2])
-    head = name_of_run(program)
+    program, rounds = [sys.argv[1], "speed"], int(sys.argv[2])
+    head = name_of_run(sys.argv[1])
     os.sched_setaffinity(0, {max(os.sched_getaffinity(0))})
     with tempfile.TemporaryDirectory() as folder:
         lines, state = plain("lines", folder), plain("state", folder)

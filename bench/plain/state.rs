@@ -1,4 +1,4 @@
-//! What `test_speed` measures of states, in plain Rust: the same maps with the same keys, over std's.
+//! What `test_state speed` measures of states, in plain Rust: the same maps with the same keys, over std's.
 //! Build it by `rustc -O --edition 2021 state.rs`, and call it with the same words.
 use std::cmp::Ordering;
 use std::collections::BTreeMap;

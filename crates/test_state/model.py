@@ -9,7 +9,7 @@ DAY = 86400000
 PACKET = 256
 
 # A buffer is (account, network, target), and an account its name. A moment is in milliseconds since 1970 began.
-Post = namedtuple("Post", "buffer id at letter source target body")
+Post = namedtuple("Post", "buffer id at letter source target body tags", defaults=("",))
 Redact = namedtuple("Redact", "buffer id at")
 Mark = namedtuple("Mark", "buffer at")
 Floor = namedtuple("Floor", "buffer at")
@@ -20,8 +20,8 @@ def net(target):
     return ("demo", "net", target)
 
 
-def message(target, id, at, body, letter="P", source="bob!b@h", to=None):
-    return Post(net(target), id, at, letter, source, target if to is None else to, body)
+def message(target, id, at, body, letter="P", source="bob!b@h", to=None, tags=""):
+    return Post(net(target), id, at, letter, source, target if to is None else to, body, tags)
 
 
 def redact(target, id, at=None):
@@ -48,7 +48,8 @@ def line_of(change):
     names = f"{account} {network} {target}"
     if isinstance(change, Post):
         c = change
-        return f"C POST {names} {c.id} {c.at} {c.letter} {c.target} {c.source} :{c.body}"
+        word, tags = ("TPOST", f"{c.tags} ") if c.tags else ("POST", "")
+        return f"C {word} {names} {c.id} {c.at} {c.letter} {tags}{c.target} {c.source} :{c.body}"
     if isinstance(change, Redact):
         return f"C REDACT {names} {change.id} {'*' if change.at is None else change.at}"
     return f"C {'MARK' if isinstance(change, Mark) else 'FLOOR'} {names} {change.at}"
@@ -99,10 +100,12 @@ def position_of(changes, buffer, id):
 
 
 def goes_before(one, other):
-    """Whether a post is kept over another of its message: the later one, and of one moment the one with the smaller letter,
-    source, target and body, compared byte by byte in this order."""
+    """Whether a post is kept over another of its message: the later one, of one moment the one with the greater tags, and of
+    the same tags the one with the smaller letter, source, target and body, compared byte by byte in this order."""
     if one.at != other.at:
         return one.at > other.at
+    if one.tags != other.tags:
+        return one.tags.encode() > other.tags.encode()
     parts = lambda post: [t.encode() for t in (post.letter, post.source, post.target, post.body)]
     return parts(one) < parts(other)
 

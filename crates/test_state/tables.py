@@ -2,7 +2,8 @@
 """Writes the files of rows in data/, each with the answers of a plain and slow model (model.py). The gate doesn't run it; it
 runs what it wrote.
 
-    ./tables.py          writes data/looks, data/orders, data/long, data/short, data/steps, data/limits, data/floors
+    ./tables.py          writes data/looks, data/orders, data/long, data/short, data/steps, data/limits, data/floors,
+                         data/states_refused, data/delta_refused
 """
 
 import itertools
@@ -49,6 +50,12 @@ def view_of(model, channels, ids):
         rising = model.visible(buffer)
         out += f": {lines(rising)} | {lines(reversed(rising))} / "
     return out
+
+
+def shown_by(model, channels, ids):
+    """What stands where a row is refused: the front, the view, and all that is held."""
+    first, end, changes = model.delta(0)
+    return f"{model.front} {view_of(model, channels, ids)}{first} {end} {lines(changes)}"
 
 
 def stands_after(post, cut):
@@ -175,6 +182,55 @@ class Case:
             self.walks()
         self.parts()
         self.latest()
+
+
+class Refused(Case):
+    """A case each of whose rows may be refused memory. In front of it stands what the state shows then, and, where the row
+    takes a list of changes, what it shows after each beginning of the list."""
+
+    def __init__(self, *given):
+        super().__init__(*given)
+        self.standing, self.is_told = None, False
+
+    def stand(self, changes=()):
+        state = self.state.copy()
+        shown = [shown_by(state, self.channels, self.ids)]
+        for change in changes:
+            state.absorb(change)
+            shown.append(shown_by(state, self.channels, self.ids))
+        standing = "stands " + " then ".join(shown)
+        if standing != self.standing:
+            self.standing = standing
+            self.rows.append(standing)
+        self.is_told = True
+
+    def row(self, words, answer=""):
+        if not self.is_told:
+            self.stand()
+        self.is_told = False
+        super().row(words, answer)
+
+    def learn(self, changes):
+        self.stand()
+        self.is_told = False
+        return super().learn(changes)
+
+    def absorb(self, numbers):
+        for number in numbers:
+            self.stand()
+            super().absorb([number])
+
+    def take(self, numbers):
+        self.stand(self.of(numbers))
+        super().take(numbers)
+
+    def merge(self):
+        self.stand([change for _, change in self.other.pieces()])
+        super().merge()
+
+    def run(self, lists):
+        self.stand()
+        super().run(lists)
 
 
 def words(numbers):
@@ -830,6 +886,78 @@ def floors():
     ]
 
 
+# ---- rows that are refused memory
+
+
+def each_change_grows():
+    """Each kind of change, one by one, and more posts than a node of a map has room for."""
+    case = Refused("a change that is refused changes nothing", ["#a", "#b"], ["m1", "m2"])
+    posts = [message("#a", f"m{number}", 1000 * number, "hi") for number in range(1, 14)]
+    case.absorb(case.learn(posts + [
+        message("#b", "m1", 1000, "hi"), message("#b", "m2", 2000, "hi", tags="+x=1"), mark("#a", 1500), mark("#a", 2500),
+        message("#a", "m1", 1200, "again"), redact("#a", "m2", 2000), redact("#b", "m9"), floor("#b", 1500),
+        account_floor(2500)]))
+    case.look()
+    case.latest()
+    case.newer(0, 300)
+    case.delta(0)
+    case.delta(18)
+    return case
+
+
+def lists_are_taken_in_part():
+    case = Refused("of a list that is refused the first changes stand", ["#a", "#b"], ["m1", "m2"])
+    first = case.learn([message("#a", "m1", 1000, "hi"), mark("#a", 1000), message("#b", "m2", 2000, "hi"),
+                        redact("#a", "m2"), floor("#a", 500), message("#a", "m3", 3000, "hi")])
+    later = case.learn([account_floor(1500), message("#b", "m1", 1600, "hi", tags="+x=1"), mark("#b", 5)])
+    case.take(first)
+    case.take(later)
+    case.look()
+    case.run([first[:3], later])
+    case.look()
+    case.delta(0)
+    return case
+
+
+def merges_are_taken_in_part():
+    """The two states of the worked example, either way round, and each merge once more."""
+    case = Refused("of a merge that is refused the first changes stand", ["#a"], ["m1", "m2"])
+    a, f, b, r = case.learn([message("#a", "m1", 1000, "a"), floor("#a", 1500), message("#a", "m1", 2000, "b"),
+                             redact("#a", "m2")])
+    for one, other in [([a, f], [b, r]), ([b, r], [a, f])]:
+        case.new()
+        case.take(other)
+        case.swap()
+        case.new()
+        case.take(one)
+        case.merge()
+        case.look()
+        case.merge()
+        case.look()
+        case.delta(0)
+    return case
+
+
+def copies_are_refused():
+    case = Refused("a state that is copied stays as it was", ["#a", "#b"], ["m1", "m2"])
+    case.take(case.learn([message("#a", "m1", 1000, "a"), mark("#b", 1000), redact("#a", "m2", 500), account_floor(400)]))
+    case.copy()
+    case.look()
+    case.swap()
+    case.look()
+    case.due(DAY + 2000, 1)
+    return case
+
+
+def delta_of_many():
+    """A state with one marker more than a delta has changes, as in the worked example."""
+    case = Refused("deltas of 257 markers", ["#0", "#256"], ["m1"])
+    case.run([case.learn([mark(f"#{number}", 1) for number in range(PACKET + 1)])])
+    for start in (0, PACKET, PACKET + 1):
+        case.delta(start)
+    return case
+
+
 def main():
     files = {
         "looks": looks(),
@@ -839,6 +967,8 @@ def main():
         "steps": [random_steps(seed, 40) for seed in range(201, 213)],
         "limits": limits(),
         "floors": floors(),
+        "states_refused": [each_change_grows(), lists_are_taken_in_part(), merges_are_taken_in_part(), copies_are_refused()],
+        "delta_refused": [delta_of_many()],
     }
     here = os.path.dirname(os.path.abspath(__file__))
     for name, cases in files.items():

@@ -15,6 +15,8 @@ pub enum Fault {
     Other(u64),
     /// Not just the first markers are seen, so many of them.
     NotTheFirst(usize),
+    /// A put was refused, and so many of its changes waited. Else all was right.
+    Waited(usize),
     /// An answer spells no marker.
     NoMarker,
     /// No number is left for a change.

@@ -68,51 +68,53 @@ fn sees_first<J: Naming>(
     }
 }
 
-// Puts the changes, and says how many of them were put. Where they weren't published, for want of memory, none of them is
-// seen, and a put of nothing publishes them.
+// Puts the changes. Where they weren't published, for want of memory, none of them is seen, and a put of nothing publishes
+// those that wait: so many.
 fn put_some<J: Naming, T: Target<J>>(
     alloc: Global,
     facts: &Facts,
     target: &mut T,
     pass: &mut Pass<J>,
     changes: &[Change],
-) -> Result<usize, Fault> {
+) -> Result<Option<usize>, Fault> {
     let waiting = match target.put(pass, changes) {
-        Ok(()) => return Ok(changes.len()),
+        Ok(()) => return Ok(None),
         Err(PutFault::NoMemory { appended }) => appended,
         Err(PutFault::Waiting) => changes.len(),
         Err(PutFault::Exhausted) => return Err(Fault::Exhausted),
     };
     sees_first(alloc, facts, pass, 0)?;
     target.put(pass, &[])?;
-    Ok(waiting)
+    Ok(Some(waiting))
 }
 
-// Puts markers, and the rest of them where the put was refused.
+// Puts markers, and the rest of them where the put was refused: then says how many waited.
 fn put_all<J: Naming, T: Target<J>>(
     alloc: Global,
     facts: &Facts,
     target: &mut T,
     pass: &mut Pass<J>,
     changes: &[Change],
-) -> Result<(), Fault> {
-    let there = put_some(alloc, facts, target, pass, changes)?;
+) -> Result<Option<usize>, Fault> {
+    let waited = put_some(alloc, facts, target, pass, changes)?;
+    let there = waited.unwrap_or(changes.len());
     sees_first(alloc, facts, pass, there)?;
     if there < changes.len() {
         target.put(pass, &changes[there..])?;
     }
-    sees_first(alloc, facts, pass, changes.len())
+    sees_first(alloc, facts, pass, changes.len())?;
+    Ok(waited)
 }
 
 /// Puts markers of the first of [`THREE`], so many, at 1, 2 and 3, and sees them. Where the put is refused, the rest is put
-/// afterwards.
+/// afterwards, and it is answered how many waited by then.
 pub fn put_markers<J: Naming, T: Target<J>>(
     alloc: Global,
     facts: &Facts,
     target: &mut T,
     pass: &mut Pass<J>,
     count: usize,
-) -> Result<(), Fault> {
+) -> Result<Option<usize>, Fault> {
     let changes = markers(alloc, count).ok_or(Fault::NoMemory)?;
     put_all(alloc, facts, target, pass, &changes)
 }
@@ -125,7 +127,7 @@ pub fn put_markers_on<J: Naming, H: Wait + Drop, W: Wait>(
     facts: &Facts,
     pass: &mut Pass<J>,
     count: usize,
-) -> Result<(), Fault> {
+) -> Result<Option<usize>, Fault> {
     put_markers(alloc, facts, &mut Locked { node, rt }, pass, count)
 }
 

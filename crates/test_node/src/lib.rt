@@ -2,8 +2,8 @@
 //! with puts beside asks in two threads and in four. It stands on `shared_node`. Read `rows` first, the table of what is
 //! played on nodes; `play` plays a row.
 //!
-//! `./refuse-memory test_node` refuses each request for memory in turn: a put that is refused is looked at, and the rest is
-//! put.
+//! `tests/suites/calls.py` refuses each request for memory of the short rows in turn: a put that is refused is looked at, and
+//! the rest is put.
 #![tactic(auto)]
 
 #[cfg(test)]

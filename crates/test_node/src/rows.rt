@@ -28,6 +28,8 @@ pub enum Step {
     Packet,
     /// The first pass puts markers of the first of three channels, so many.
     Markers(usize),
+    /// The same with three. The row ends here where the put was refused.
+    MarkersAtOnce,
 }
 
 /// What is played on a node.
@@ -41,14 +43,27 @@ pub enum Play {
 }
 
 /// A row: its name, how many passes the node is to have, what is played on it, and how many changes are put in the end.
-pub const ROWS: [(&str, usize, Play, u64); 9] = [
+pub type Row = (&'static str, usize, Play, u64);
+
+/// Rows of few changes.
+pub const SHORT: [Row; 6] = [
     ("nothing, by one pass", 1, Play::Steps(&[]), 0),
-    ("nothing, by 64 passes", 64, Play::Steps(&[]), 0),
     ("told and taken", 2, Play::Steps(&TOLD), 3),
-    ("a packet", 1, Play::Steps(&PACKET), 256),
     ("three markers", 1, Play::Steps(&[Step::Markers(3)]), 3),
     ("one marker", 1, Play::Steps(&[Step::Markers(1)]), 1),
     ("three markers, on a half", 2, Play::Half, 3),
+    (
+        "three markers at once",
+        1,
+        Play::Steps(&[Step::MarkersAtOnce]),
+        3,
+    ),
+];
+
+/// Rows of many changes, or of many passes.
+pub const LONG: [Row; 4] = [
+    ("nothing, by 64 passes", 64, Play::Steps(&[]), 0),
+    ("a packet", 1, Play::Steps(&PACKET), 256),
     ("one puts, one asks", 2, Play::Threads, 500),
     ("two put, two ask", 4, Play::Threads, 1000),
 ];

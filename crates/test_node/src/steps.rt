@@ -110,11 +110,18 @@ impl<J: Naming, R: Wait> Cluster<'_, J, R> {
         Ok(())
     }
 
-    fn put_markers(&mut self, count: usize) -> Result<(), Fault> {
+    fn put_markers(&mut self, count: usize) -> Result<Option<usize>, Fault> {
         let Some(pass) = self.passes.first_mut() else {
             return Err(Fault::NoPass);
         };
         put_markers_on(self.rt, &self.node, self.alloc, &self.facts, pass, count)
+    }
+
+    fn put_markers_once(&mut self) -> Result<(), Fault> {
+        match self.put_markers(3)? {
+            None => Ok(()),
+            Some(waited) => Err(Fault::Waited(waited)),
+        }
     }
 
     fn play_step(&mut self, step: Step) -> Result<(), Fault> {
@@ -124,7 +131,8 @@ impl<J: Naming, R: Wait> Cluster<'_, J, R> {
             Step::TellPost(ms) => self.tell(post(self.alloc, "m1", ms)),
             Step::Take(ms) => self.take(mark(self.alloc, "#a", ms)),
             Step::Packet => self.put_packet(),
-            Step::Markers(count) => self.put_markers(count),
+            Step::Markers(count) => self.put_markers(count).map(drop),
+            Step::MarkersAtOnce => self.put_markers_once(),
         }
     }
 

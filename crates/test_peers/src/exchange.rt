@@ -78,9 +78,18 @@ fn tell_pair(
     tell_node(acceptor, out)
 }
 
+fn tell_with(
+    alloc: Global,
+    opener: &mut Node,
+    script: &str,
+    out: &mut Vec<u8>,
+) -> Result<(), Error> {
+    let mut acceptor = Node::new(alloc, b"n2", 1, b"n1", 0)?;
+    tell_pair(alloc, opener, &mut acceptor, script, out)
+}
+
 /// Tells what two nodes send each other.
 pub fn tell_exchange(alloc: Global, script: &str, out: &mut Vec<u8>) -> Result<(), Error> {
     let mut opener = Node::new(alloc, b"n1", 1, b"n2", 1)?;
-    let mut acceptor = Node::new(alloc, b"n2", 1, b"n1", 0)?;
-    tell_pair(alloc, &mut opener, &mut acceptor, script, out)
+    tell_with(alloc, &mut opener, script, out)
 }

@@ -154,12 +154,27 @@ fn write_heard(heard: &Result<Option<Arrived>, LinkFault>, out: &mut Vec<u8>) ->
     }
 }
 
+/// Writes what arrives with a line.
+fn write_line(
+    alloc: Global,
+    gather: &mut Gather,
+    line: &[u8],
+    out: &mut Vec<u8>,
+) -> io::Result<()> {
+    write_heard(&heard(alloc, gather, line), out)
+}
+
+fn write_lines(alloc: Global, lines: &str, out: &mut Vec<u8>) -> io::Result<()> {
+    let mut gather = Gather::new();
+    for line in lines.lines() {
+        write_line(alloc, &mut gather, line.as_bytes(), out)?;
+    }
+    Ok(())
+}
+
 /// What arrives with the lines of one connection is told as it is written.
 pub fn tell_written(alloc: Global, lines: &str, out: &mut Vec<u8>) -> Result<(), Error> {
-    let mut gather = Gather::new();
     let mut written = Vec::new(alloc);
-    for line in lines.lines() {
-        write_heard(&heard(alloc, &mut gather, line.as_bytes()), &mut written)?;
-    }
+    write_lines(alloc, lines, &mut written)?;
     Ok(tell_sent(b"", &written, out)?)
 }

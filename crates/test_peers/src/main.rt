@@ -8,15 +8,19 @@
 //!
 //! Where there is no `--` the script itself is what is to come of it. The file's name says which player plays it: `limits`,
 //! `spellings` and `gathers` have rows that `tell_row` of `lines` tells, `changed` those of `tell_changed`, and `written`
-//! those of `tell_written`. `exchanges` has two nodes that are connected (`exchange`), and any other file a node at one end
-//! of a connection (`script`). `tables.py` writes `limits`, `changed`, `gathers` and `exchanges`. Read `tell` first.
+//! those of `tell_written`. `exchanges` has two nodes that are connected (`exchange`), `links_refused` calls that are made
+//! again where they are refused memory (`again`), and any other file a node at one end of a connection (`script`).
+//! `tables.py` writes `limits`, `changed`, `gathers` and `exchanges`; `tests/suites/calls.py` refuses each request of
+//! `links_refused`. Read `tell` first.
 #![tactic(auto)]
 
+mod again;
 mod exchange;
 mod lines;
 mod node;
 mod script;
 
+use again::tell_again;
 use anyhow::Error;
 use exchange::tell_exchange;
 use lines::{tell_changed, tell_rows, tell_written};
@@ -50,6 +54,7 @@ fn tell(alloc: Global, path: &str, case: Case<'_>, out: &mut Vec<u8>) -> Result<
         "changed" => tell_changed(alloc, case.name.as_bytes(), case.script, out),
         "written" => tell_written(alloc, case.script, out),
         "exchanges" => tell_exchange(alloc, case.script, out),
+        "links_refused" => tell_again(alloc, case.script, out),
         _ => tell_script(alloc, case.script, out),
     }
 }
@@ -67,8 +72,7 @@ fn is_right(rt: &HostRuntime, path: &str, case: Case<'_>) -> Result<bool, Error>
 }
 
 /// Plays the cases of a file, and says how many there were, of how many rows, and of how many something else came.
-fn play_file(rt: &HostRuntime, path: &str) -> Result<(), Error> {
-    let text = fs::read_to_string(rt, path)?;
+fn play_cases(rt: &HostRuntime, path: &str, text: &str) -> Result<(), Error> {
     let mut cases: u64 = 0;
     let mut wrong: u64 = 0;
     for part in text.split("== ").skip(1) {
@@ -80,6 +84,11 @@ fn play_file(rt: &HostRuntime, path: &str) -> Result<(), Error> {
     let rows = text.lines().count();
     println!(rt; "{path}: {cases} cases of {rows} rows, {wrong} wrong")?;
     Ok(())
+}
+
+fn play_file(rt: &HostRuntime, path: &str) -> Result<(), Error> {
+    let text = fs::read_to_string(rt, path)?;
+    play_cases(rt, path, text.as_str())
 }
 
 fn main(rt: HostRuntime) -> Result<(), Error> {

@@ -22,7 +22,8 @@ pub struct Node {
     now: u64,
 }
 
-fn life_of(alloc: Global, name: &[u8], incarnation: u64) -> Result<Life, LinkFault> {
+/// A life of the node of that name.
+pub fn life_of(alloc: Global, name: &[u8], incarnation: u64) -> Result<Life, LinkFault> {
     Ok(Life::new(NodeName::new(alloc, name)?, incarnation))
 }
 
@@ -41,7 +42,8 @@ fn terms_of(alloc: Global, me: &[u8], incarnation: u64) -> Result<Terms, Error> 
     Ok(Terms::new(word, life_of(alloc, me, incarnation)?, peers))
 }
 
-fn link_of(alloc: Global, me: &[u8], incarnation: u64, peer: &[u8]) -> Result<Link, LinkFault> {
+/// The link of a node of that name, in that incarnation, to a peer.
+pub fn link_of(alloc: Global, me: &[u8], incarnation: u64, peer: &[u8]) -> Result<Link, LinkFault> {
     let me = life_of(alloc, me, incarnation)?;
     Ok(Link::new(me, NodeName::new(alloc, peer)?))
 }
@@ -69,6 +71,13 @@ fn link_word(link: &mut Link, line: &PeerLine) -> &'static [u8] {
         PeerLine::Hello(life, version) => hello_word(link.hello(life, *version)),
         PeerLine::Ack(ack) => ack_word(link.take_ack(ack)),
         _ => b"no line for a link",
+    }
+}
+
+fn tell_packet(packet: &Option<Packet>, out: &mut Vec<u8>) -> Result<(), Error> {
+    match packet {
+        Some(packet) => Ok(write_packet(packet, out)?),
+        None => Ok(out.extend_from_slice(b"nothing")?),
     }
 }
 
@@ -149,6 +158,19 @@ impl Node {
         Ok(self.conclude(outcome))
     }
 
+    fn answer_heard(
+        &mut self,
+        alloc: Global,
+        heard: &Heard,
+        out: &mut Vec<u8>,
+    ) -> Result<&'static [u8], Error> {
+        match heard {
+            Heard::Nothing => Ok(b""),
+            Heard::Close => Ok(b"close"),
+            Heard::Message(place, arrived) => self.arrive(alloc, *place, arrived, out),
+        }
+    }
+
     fn answer(
         &mut self,
         alloc: Global,
@@ -156,11 +178,7 @@ impl Node {
         out: &mut Vec<u8>,
     ) -> Result<&'static [u8], Error> {
         let heard = self.session.hear(alloc, &self.terms, line, out)?;
-        match &heard {
-            Heard::Nothing => Ok(b""),
-            Heard::Close => Ok(b"close"),
-            Heard::Message(place, arrived) => self.arrive(alloc, *place, arrived, out),
-        }
+        self.answer_heard(alloc, &heard, out)
     }
 
     /// Hears a line, of which None was too long, and appends what is sent because of it: the word for what it came to.
@@ -214,9 +232,7 @@ impl Node {
 
     /// The link alone makes a packet, which is appended.
     pub fn ask_packet(&mut self, alloc: Global, out: &mut Vec<u8>) -> Result<(), Error> {
-        match &self.packet(alloc)? {
-            Some(packet) => Ok(write_packet(packet, out)?),
-            None => Ok(out.extend_from_slice(b"nothing")?),
-        }
+        let packet = self.packet(alloc)?;
+        tell_packet(&packet, out)
     }
 }

@@ -14,6 +14,8 @@ pub struct Player {
     pub state: State,
     other: State,
     changes: Vec<Change>,
+    /// How many changes of its list the last row had taken as it was refused.
+    pub taken: usize,
 }
 
 impl Player {
@@ -23,6 +25,7 @@ impl Player {
             state: State::new(alloc),
             other: State::new(alloc),
             changes: Vec::new(alloc),
+            taken: 0,
         }
     }
 
@@ -61,6 +64,8 @@ fn absorb(
     words: &str,
     out: &mut Vec<u8>,
 ) -> Result<(), Error> {
+    // (so that no sign is missing of a change that was taken)
+    out.reserve(words.len())?;
     for word in words.split(" ") {
         match changes.get(number_of(word) as usize) {
             Some(change) => out.push(absorb_one(state, change)?)?,
@@ -97,9 +102,25 @@ fn tell_taken(taken: Result<(), TakeFault>, out: &mut Vec<u8>) -> Result<(), Err
     }
 }
 
+// How many changes were taken before a refusal.
+fn count_of(taken: Result<(), TakeFault>) -> usize {
+    match taken {
+        Ok(()) => 0,
+        Err(fault) => fault.taken,
+    }
+}
+
 fn take(alloc: Global, player: &mut Player, words: &str, out: &mut Vec<u8>) -> Result<(), Error> {
     let list = list_of(alloc, &player.changes, words)?;
-    tell_taken(player.state.take(&list), out)
+    let taken = player.state.take(&list);
+    player.taken = count_of(taken);
+    tell_taken(taken, out)
+}
+
+fn merge(player: &mut Player, out: &mut Vec<u8>) -> Result<(), Error> {
+    let taken = player.state.merge(&player.other);
+    player.taken = count_of(taken);
+    tell_taken(taken, out)
 }
 
 fn run_lists(alloc: Global, player: &mut Player, words: &str) -> Result<(), Error> {
@@ -128,7 +149,7 @@ fn try_act(
         "take" => take(alloc, player, rest, out),
         "run" => run_lists(alloc, player, rest),
         "copy" => player.copy(alloc),
-        "merge" => tell_taken(player.state.merge(&player.other), out),
+        "merge" => merge(player, out),
         _ => return Ok(false),
     };
     done.map(|_| true)
@@ -150,6 +171,7 @@ pub fn act(
     words: &str,
     out: &mut Vec<u8>,
 ) -> Result<bool, Error> {
+    player.taken = 0;
     let (word, rest) = words.split_once(" ").unwrap_or((words, ""));
     match word {
         "new" => player.begin(alloc, number_of(rest)),

@@ -10,13 +10,15 @@ use std::alloc::{AllocError, Global};
 use std::io::Write;
 
 /// What is looked at, each list with one space between its words. Rows set it: `channels`, `ids` and `cuts` with a list
-/// each, and `wanted` with the text of a view.
+/// each, `wanted` with the text of a view, and `stands` with what the state shows where the next row is refused memory,
+/// once for each number of changes that it may have taken by then, with ` then ` between these.
 #[derive(Clone, Copy)]
 pub struct Sight<'a> {
     channels: &'a str,
     ids: &'a str,
     cuts: &'a str,
     wanted: &'a str,
+    stands: &'a str,
 }
 
 impl<'a> Sight<'a> {
@@ -26,6 +28,7 @@ impl<'a> Sight<'a> {
         ids: "",
         cuts: "",
         wanted: "",
+        stands: "",
     };
 
     /// What is looked at after a row, if the row sets it.
@@ -40,6 +43,10 @@ impl<'a> Sight<'a> {
             "cuts" => Some(Sight { cuts: rest, ..self }),
             "wanted" => Some(Sight {
                 wanted: rest,
+                ..self
+            }),
+            "stands" => Some(Sight {
+                stands: rest,
                 ..self
             }),
             _ => None,
@@ -68,6 +75,42 @@ fn put_unless(found: &[u8], wanted: &[u8], out: &mut Vec<u8>) -> Result<(), Erro
 
 fn put_front(state: &State, out: &mut Vec<u8>) -> Result<(), Error> {
     Ok(write!(out, "{}", state.front())?)
+}
+
+// What the state shows: its front, the view of the channels, and all that it holds.
+fn put_shown(
+    alloc: Global,
+    state: &mut State,
+    sight: Sight<'_>,
+    out: &mut Vec<u8>,
+) -> Result<(), Error> {
+    put_front(state, out)?;
+    out.push(b' ')?;
+    put_channels(alloc, state, sight.ids, sight.channels, out)?;
+    put_delta(alloc, state, 0, out)
+}
+
+fn shows(alloc: Global, state: &mut State, sight: Sight<'_>, wanted: &str) -> Result<bool, Error> {
+    let mut shown = Vec::new(alloc);
+    put_shown(alloc, state, sight, &mut shown)?;
+    Ok(shown.as_slice() == wanted.as_bytes())
+}
+
+/// Whether the state shows what is to stand after a row that was refused memory as it had taken so many changes. A look
+/// that is refused too is made again, twice at most.
+pub fn is_standing(
+    alloc: Global,
+    state: &mut State,
+    sight: Sight<'_>,
+    taken: usize,
+) -> Result<bool, Error> {
+    let wanted = sight.stands.split(" then ").nth(taken).unwrap_or("");
+    for _ in 0..2u8 {
+        if let Ok(is_standing) = shows(alloc, state, sight, wanted) {
+            return Ok(is_standing);
+        }
+    }
+    shows(alloc, state, sight, wanted)
 }
 
 // The floors that are due at a moment, after so many days.
