@@ -47,63 +47,104 @@ fn tell_answer(
     Ok(answered)
 }
 
+fn tell_answers(
+    alloc: Global,
+    out: &mut Vec<u8>,
+    state: &State,
+    facts: &Facts,
+) -> Result<(), Error> {
+    for text in QUESTIONS {
+        let _ = tell_answer(alloc, out, state, facts, text)?;
+    }
+    Ok(())
+}
+
+fn tell_answers_to(
+    alloc: Global,
+    out: &mut Vec<u8>,
+    state: &State,
+    caps: CapSet,
+) -> Result<(), Error> {
+    let facts = facts_of(alloc, b"demo", b"bnc.example", caps, 1)?;
+    tell_answers(alloc, out, state, &facts)
+}
+
+fn tell_live(alloc: Global, out: &mut Vec<u8>, caps: CapSet) -> Result<(), Error> {
+    let record = record_of(alloc, b"bob!b@h")?;
+    Ok(write_live(&record, &caps, out)?)
+}
+
 /// Tells what a session with the set of a number is answered and told.
 fn tell_set(alloc: Global, out: &mut Vec<u8>, state: &State, bits: u32) -> Result<(), Error> {
-    let caps = set_of(bits);
-    let facts = facts_of(alloc, b"demo", b"bnc.example", caps, 1)?;
     write!(out, "set {bits}\n")?;
-    for text in QUESTIONS {
-        let _ = tell_answer(alloc, out, state, &facts, text)?;
-    }
-    let record = record_of(alloc, b"bob!b@h")?;
-    write_live(&record, &caps, out)?;
-    Ok(())
+    tell_answers_to(alloc, out, state, set_of(bits))?;
+    tell_live(alloc, out, set_of(bits))
 }
 
 /// The last number of a batch.
 const LAST_REFERENCE: u32 = 4_294_967_295;
 
-fn tell_last(alloc: Global, out: &mut Vec<u8>, state: &State) -> Result<(), Error> {
-    let facts = facts_of(
-        alloc,
-        b"demo",
-        b"bnc.example",
-        CapSet::all(),
-        LAST_REFERENCE,
-    )?;
+fn tell_next(alloc: Global, out: &mut Vec<u8>, state: &State, facts: &Facts) -> Result<(), Error> {
     for text in QUESTIONS {
-        let answered = tell_answer(alloc, out, state, &facts, text)?;
+        let answered = tell_answer(alloc, out, state, facts, text)?;
         write!(out, "next {}\n", next_reference(LAST_REFERENCE, answered))?;
     }
     Ok(())
 }
 
+fn tell_last(alloc: Global, out: &mut Vec<u8>, state: &State) -> Result<(), Error> {
+    let caps = CapSet::all();
+    let facts = facts_of(alloc, b"demo", b"bnc.example", caps, LAST_REFERENCE)?;
+    tell_next(alloc, out, state, &facts)
+}
+
 /// All capabilities; all but `server-time`; all but `message-tags`; `draft/chathistory` with `message-tags`; and alone.
 const TAGGED_SETS: [u32; 5] = [127, 63, 95, 34, 2];
 
-/// Tells the page and the live line of a record with a client-only tag, for a session with the set of a number.
-fn tell_tagged(alloc: Global, out: &mut Vec<u8>, bits: u32) -> Result<(), Error> {
-    let caps = set_of(bits);
+fn tell_tagged_page(
+    alloc: Global,
+    out: &mut Vec<u8>,
+    state: &State,
+    caps: CapSet,
+) -> Result<(), Error> {
     let facts = facts_of(alloc, b"demo", b"bnc.example", caps, 1)?;
-    let state = state_with(alloc, tagged_record(alloc)?)?;
-    write!(out, "tagged {bits}\n")?;
-    let _ = tell_answer(alloc, out, &state, &facts, PAGE)?;
+    let _ = tell_answer(alloc, out, state, &facts, PAGE)?;
+    Ok(())
+}
+
+fn tell_tagged_live(alloc: Global, out: &mut Vec<u8>, caps: CapSet) -> Result<(), Error> {
     let record = tagged_record(alloc)?;
-    write_live(&record, &caps, out)?;
+    Ok(write_live(&record, &caps, out)?)
+}
+
+/// Tells the page and the live line of a record with a client-only tag, for a session with the set of a number.
+fn tell_tagged(alloc: Global, out: &mut Vec<u8>, state: &State, bits: u32) -> Result<(), Error> {
+    write!(out, "tagged {bits}\n")?;
+    tell_tagged_page(alloc, out, state, set_of(bits))?;
+    tell_tagged_live(alloc, out, set_of(bits))
+}
+
+fn tell_sets(alloc: Global, out: &mut Vec<u8>) -> Result<(), Error> {
+    let state = state_of(alloc)?;
+    for bits in 0..128 {
+        tell_set(alloc, out, &state, bits)?;
+    }
+    tell_last(alloc, out, &state)
+}
+
+fn tell_tagged_sets(alloc: Global, out: &mut Vec<u8>) -> Result<(), Error> {
+    let state = state_with(alloc, tagged_record(alloc)?)?;
+    for bits in TAGGED_SETS {
+        tell_tagged(alloc, out, &state, bits)?;
+    }
     Ok(())
 }
 
 /// The answers, in rows.
 pub fn told(alloc: Global) -> Result<String, Error> {
-    let state = state_of(alloc)?;
     let mut out = Vec::new(alloc);
-    for bits in 0..128 {
-        tell_set(alloc, &mut out, &state, bits)?;
-    }
-    tell_last(alloc, &mut out, &state)?;
-    for bits in TAGGED_SETS {
-        tell_tagged(alloc, &mut out, bits)?;
-    }
+    tell_sets(alloc, &mut out)?;
+    tell_tagged_sets(alloc, &mut out)?;
     let text = String::from_utf8_lossy(alloc, &out)?;
     Ok(text.replace(alloc, "\r\n", "\n")?)
 }

@@ -19,7 +19,7 @@ use anyhow::Error;
 use byte_text::Text;
 use chat_change::{Buffer, Change, MsgId};
 use chat_state::{NoEntry, Peek, State};
-use client_session::{Answered, Directory, Effect, Entry, Session, StepFault};
+use client_session::{Answered, Directory, Effect, Entry, NoMemory, Session, StepFault};
 use irc_caps::CapSet;
 use std::alloc::{AllocError, Global};
 use std::io::Write;
@@ -67,14 +67,25 @@ fn entry_of(alloc: Global, word: &str) -> Result<Entry, Error> {
     Ok(entry)
 }
 
+// The directory of the configuration.
+fn known_directory(alloc: Global) -> Result<Directory, Error> {
+    let config = config_of(alloc)?;
+    Ok(config.directory(alloc)?)
+}
+
+fn set_entries(alloc: Global, directory: &mut Directory, word: &str) -> Result<(), Error> {
+    directory.set_entry(b"demo", b"net", entry_of(alloc, word)?);
+    directory.set_entry(b"open", b"net", entry_of(alloc, word)?);
+    Ok(())
+}
+
 /// The directory of which a word tells; `nowhere` has no account.
 fn directory_of(alloc: Global, word: &str) -> Result<Directory, Error> {
     if word == "nowhere" {
         return Ok(Directory::new(alloc));
     }
-    let mut directory = config_of(alloc)?.directory(alloc)?;
-    directory.set_entry(b"demo", b"net", entry_of(alloc, word)?);
-    directory.set_entry(b"open", b"net", entry_of(alloc, word)?);
+    let mut directory = known_directory(alloc)?;
+    set_entries(alloc, &mut directory, word)?;
     Ok(directory)
 }
 
@@ -90,9 +101,9 @@ fn session_of(alloc: Global, word: &str) -> Result<Session, Error> {
 
 fn player_of(alloc: Global, setting: &str) -> Result<Player, Error> {
     let (who, standing) = setting.split_once(" ").unwrap_or((setting, ""));
-    let session = session_of(alloc, who)?;
-    let directory = directory_of(alloc, standing)?;
     let state = state_of(alloc)?;
+    let directory = directory_of(alloc, standing)?;
+    let session = session_of(alloc, who)?;
     Ok(Player {
         session,
         directory,
@@ -160,8 +171,16 @@ impl Player {
         }
     }
 
+    // The same of a line that was too long.
+    fn too_long_again(&mut self, alloc: Global) -> Result<Vec<Effect>, NoMemory> {
+        if let Ok(effects) = self.session.too_long(alloc, &self.directory) {
+            return Ok(effects);
+        }
+        self.session.too_long(alloc, &self.directory)
+    }
+
     fn play_too_long(&mut self, alloc: Global, out: &mut Vec<u8>) -> Result<(), Error> {
-        let effects = self.session.too_long(alloc, &self.directory)?;
+        let effects = self.too_long_again(alloc)?;
         Ok(self.tell_all(effects, out)?)
     }
 
@@ -194,14 +213,23 @@ impl Player {
             None => self.play(alloc, line.as_bytes(), out),
         }
     }
+
+    fn play_lines(&mut self, alloc: Global, script: &str, out: &mut Vec<u8>) -> Result<(), Error> {
+        for line in script.split("\n") {
+            self.play_line(alloc, line, out)?;
+        }
+        Ok(())
+    }
+}
+
+fn play_on(alloc: Global, setting: &str, script: &str, out: &mut Vec<u8>) -> Result<(), Error> {
+    let mut player = player_of(alloc, setting)?;
+    player.play_lines(alloc, script, out)
 }
 
 /// What the lines of a script come to, one after the other.
 pub fn play(alloc: Global, setting: &str, script: &str) -> Result<Vec<u8>, Error> {
-    let mut player = player_of(alloc, setting)?;
     let mut out = Vec::new(alloc);
-    for line in script.split("\n") {
-        player.play_line(alloc, line, &mut out)?;
-    }
+    play_on(alloc, setting, script, &mut out)?;
     Ok(out)
 }

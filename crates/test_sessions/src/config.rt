@@ -9,6 +9,7 @@
 //! What is told of a configuration is `read` and its values, one a line; of a refusal its name and its words.
 use crate::telling::{tell_next, tell_row};
 use anyhow::Error;
+use client_directory::Directory;
 use node_config::{Account, Config, ConfigFault, Network, Peer, read_config};
 use std::alloc::{AllocError, Global};
 use std::fs;
@@ -111,14 +112,18 @@ fn tell_standing(
     tell_row(out, is_up, b"")
 }
 
-fn tell_directory(alloc: Global, out: &mut Vec<u8>, config: &Config) -> Result<(), Error> {
-    let directory = config.directory(alloc)?;
+fn tell_standings(out: &mut Vec<u8>, directory: &Directory) -> Result<(), AllocError> {
     for account in directory.accounts() {
         for network in account.networks() {
             tell_standing(out, account.name(), network)?;
         }
     }
     Ok(())
+}
+
+fn tell_directory(alloc: Global, out: &mut Vec<u8>, config: &Config) -> Result<(), Error> {
+    let directory = config.directory(alloc)?;
+    Ok(tell_standings(out, &directory)?)
 }
 
 fn tell_config(alloc: Global, out: &mut Vec<u8>, config: &Config) -> Result<(), Error> {
@@ -139,14 +144,26 @@ fn tell_fault(out: &mut Vec<u8>, fault: ConfigFault) -> Result<(), Error> {
     Ok(())
 }
 
+fn tell_read(
+    alloc: Global,
+    out: &mut Vec<u8>,
+    read: &Result<Config, ConfigFault>,
+) -> Result<(), Error> {
+    match read {
+        Ok(config) => tell_config(alloc, out, config),
+        Err(fault) => tell_fault(out, *fault),
+    }
+}
+
+fn tell_bytes(alloc: Global, out: &mut Vec<u8>, bytes: &[u8]) -> Result<(), Error> {
+    let read = read_config(alloc, bytes);
+    tell_read(alloc, out, &read)
+}
+
 /// What is told of the bytes of a configuration.
 fn told_of(alloc: Global, bytes: &[u8]) -> Result<Vec<u8>, Error> {
     let mut out = Vec::new(alloc);
-    let read = read_config(alloc, bytes);
-    match &read {
-        Ok(config) => tell_config(alloc, &mut out, config)?,
-        Err(fault) => tell_fault(&mut out, *fault)?,
-    }
+    tell_bytes(alloc, &mut out, bytes)?;
     Ok(out)
 }
 

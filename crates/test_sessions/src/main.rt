@@ -63,13 +63,12 @@ fn is_right(rt: &HostRuntime, player: &str, example: &str, part: &str) -> Result
 }
 
 /// Plays the cases of a file, and says how many there were and how many came to something else.
-fn play_file(rt: &HostRuntime, example: &str, path: &str) -> Result<(), Error> {
+fn play_cases(rt: &HostRuntime, example: &str, path: &str, text: &str) -> Result<(), Error> {
     let (player, _) = path.split_once("_").unwrap_or((path, ""));
     let mark = match player {
         "wholes" | "hearers" => "\n",
         _ => "== ",
     };
-    let text = fs::read_to_string(rt, path)?;
     let mut count: u64 = 0;
     let mut wrong: u64 = 0;
     for part in text.split(mark) {
@@ -86,16 +85,33 @@ fn play_file(rt: &HostRuntime, example: &str, path: &str) -> Result<(), Error> {
     Ok(())
 }
 
-fn main(rt: HostRuntime) -> Result<(), Error> {
-    let example = fs::read_to_string(&rt, "example")?;
-    for path in env::args(&rt)?.skip(1) {
-        play_file(&rt, example.as_str(), path.as_str())?;
+fn play_file(rt: &HostRuntime, example: &str, path: &str) -> Result<(), Error> {
+    let text = fs::read_to_string(rt, path)?;
+    play_cases(rt, example, path, text.as_str())
+}
+
+fn play_files(rt: &HostRuntime) -> Result<(), Error> {
+    let example = fs::read_to_string(rt, "example")?;
+    for path in env::args(rt)?.skip(1) {
+        play_file(rt, example.as_str(), path.as_str())?;
     }
-    let answers = capabilities::told(rt.alloc())?;
-    tell(&rt, answers.as_bytes())?;
-    let pages = pages::told(rt.alloc())?;
-    tell(&rt, pages.as_bytes())?;
-    let words = words::told(rt.alloc())?;
-    tell(&rt, &words)?;
     Ok(())
+}
+
+fn tell_answers(rt: &HostRuntime) -> Result<(), Error> {
+    let answers = capabilities::told(rt.alloc())?;
+    Ok(tell(rt, answers.as_bytes())?)
+}
+
+fn tell_pages_and_words(rt: &HostRuntime) -> Result<(), Error> {
+    let mut out = Vec::new(rt.alloc());
+    pages::tell_pages(rt.alloc(), &mut out)?;
+    words::tell_words(&mut out)?;
+    Ok(tell(rt, &out)?)
+}
+
+fn main(rt: HostRuntime) -> Result<(), Error> {
+    play_files(&rt)?;
+    tell_answers(&rt)?;
+    tell_pages_and_words(&rt)
 }

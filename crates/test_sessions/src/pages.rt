@@ -2,12 +2,13 @@
 //! by the most that the facts of the session have.
 use crate::facts::facts_of;
 use anyhow::Error;
-use chat_batch::answer;
-use chat_change::{Buffer, Change, Kind, Message, Moment, MsgId, Record};
+use chat_batch::{Answered, Facts, answer};
+use chat_change::Change;
 use chat_state::State;
+use gossip_delta::read_change;
 use irc_caps::CapSet;
 use irc_line::{TagLimit, read_line};
-use std::alloc::{AllocError, Global};
+use std::alloc::Global;
 use std::io::Write;
 
 const HELD: u64 = 1_200;
@@ -16,17 +17,8 @@ const QUESTION: &[u8] = b"CHATHISTORY LATEST #a * 5000";
 
 /// The message of that number, so many seconds after 1970 began.
 fn post(alloc: Global, number: u64) -> Result<Change, Error> {
-    let buffer = Buffer::new(alloc, b"demo", b"net", b"#a")?;
-    let name = format!(in alloc; "m{number}")?;
-    let id = MsgId::new(alloc, name.as_bytes())?;
-    let at = Moment::from_ms(number.saturating_mul(1000)).ok_or(AllocError)?;
-    let message = Message {
-        kind: Kind::Privmsg,
-        source: b"bob!b@h",
-        target: b"#a",
-        body: b"hi",
-    };
-    Ok(Change::Post(Record::new(alloc, buffer, id, at, message)?))
+    let line = format!(in alloc; "C POST demo net #a m{number} {number}000 P #a bob!b@h :hi")?;
+    Ok(read_change(alloc, line.as_bytes())?)
 }
 
 /// A state that holds the messages 1 to 1,200.
@@ -58,23 +50,40 @@ fn tell_messages(out: &mut Vec<u8>, text: &str) -> Result<(), Error> {
     Ok(())
 }
 
-/// Tells the page that a session with that most is given.
-fn tell_page(alloc: Global, out: &mut Vec<u8>, state: &State, maximum: u32) -> Result<(), Error> {
+/// Writes the page that a session with these facts is given.
+fn write_page(
+    alloc: Global,
+    state: &State,
+    facts: &Facts,
+    page: &mut Vec<u8>,
+) -> Result<Answered, Error> {
+    let line = read_line(QUESTION, TagLimit::Client)?;
+    Ok(answer(alloc, state, facts, &line, page)?)
+}
+
+fn write_page_of(
+    alloc: Global,
+    state: &State,
+    maximum: u32,
+    page: &mut Vec<u8>,
+) -> Result<Answered, Error> {
     let mut facts = facts_of(alloc, b"demo", b"bnc.example", CapSet::all(), 1)?;
     facts.maximum = maximum;
-    let line = read_line(QUESTION, TagLimit::Client)?;
+    write_page(alloc, state, &facts, page)
+}
+
+/// Tells the page that a session with that most is given.
+fn tell_page(alloc: Global, out: &mut Vec<u8>, state: &State, maximum: u32) -> Result<(), Error> {
     let mut page = Vec::new(alloc);
-    let answered = answer(alloc, state, &facts, &line, &mut page)?;
+    let answered = write_page_of(alloc, state, maximum, &mut page)?;
     write!(out, "maximum {maximum}\n{answered:?}\n")?;
     let text = String::from_utf8_lossy(alloc, &page)?;
     tell_messages(out, text.as_str())
 }
 
-/// The pages, in rows.
-pub fn told(alloc: Global) -> Result<String, Error> {
+/// Tells the pages, in rows.
+pub fn tell_pages(alloc: Global, out: &mut Vec<u8>) -> Result<(), Error> {
     let state = long_state(alloc)?;
-    let mut out = Vec::new(alloc);
-    tell_page(alloc, &mut out, &state, 100)?;
-    tell_page(alloc, &mut out, &state, 1000)?;
-    Ok(String::from_utf8_lossy(alloc, &out)?)
+    tell_page(alloc, out, &state, 100)?;
+    tell_page(alloc, out, &state, 1000)
 }

@@ -26,12 +26,16 @@ use upstream_session::{Channels, Config, Recipients, UpEffect, Upstream};
 
 const LAST_SERIAL: u64 = 18_446_744_073_709_551_615;
 
-fn network_of(alloc: Global) -> Result<Network, Error> {
-    let config = config_of(alloc)?;
-    match config.networks.first() {
+fn first_of(alloc: Global, networks: &[Network]) -> Result<Network, Error> {
+    match networks.first() {
         Some(network) => Ok(network.try_clone(alloc)?),
         None => Err(Error::from(AllocError)),
     }
+}
+
+fn network_of(alloc: Global) -> Result<Network, Error> {
+    let config = config_of(alloc)?;
+    first_of(alloc, &config.networks)
 }
 
 // A session that isn't connected yet.
@@ -55,13 +59,17 @@ fn upstream_of(alloc: Global, node: &[u8], first_serial: u64) -> Result<Upstream
     Ok(Upstream::new(alloc, config, node, 7, first_serial))
 }
 
-/// The session of a setting.
-fn session_of(alloc: Global, setting: &str) -> Result<Upstream, Error> {
-    let mut session = match setting {
-        "last" => upstream_of(alloc, b"n1", LAST_SERIAL)?,
-        "odd" => upstream_of(alloc, b"n 1", 1)?,
-        _ => upstream_of(alloc, b"n1", 1)?,
-    };
+/// The session of a setting, before any line came.
+fn begun(alloc: Global, setting: &str) -> Result<Upstream, Error> {
+    match setting {
+        "last" => upstream_of(alloc, b"n1", LAST_SERIAL),
+        "odd" => upstream_of(alloc, b"n 1", 1),
+        _ => upstream_of(alloc, b"n1", 1),
+    }
+}
+
+// Brings a session to where a setting has it.
+fn step_to(alloc: Global, session: &mut Upstream, setting: &str) -> Result<(), Error> {
     let lines = match setting {
         "new" => "",
         "echo" => "CAP al ACK :echo-message\n:irc.example 001 al :Welcome",
@@ -73,7 +81,7 @@ fn session_of(alloc: Global, setting: &str) -> Result<Upstream, Error> {
     for line in lines.lines() {
         let _ = session.step(alloc, line.as_bytes(), now)?;
     }
-    Ok(session)
+    Ok(())
 }
 
 fn tell_relayed(out: &mut Vec<u8>, line: &[u8], to: Recipients) -> Result<(), AllocError> {
@@ -185,12 +193,28 @@ fn play_line(
     tell_all(alloc, out, session, effects)
 }
 
+fn play_lines(
+    alloc: Global,
+    session: &mut Upstream,
+    setting: &str,
+    script: &str,
+    out: &mut Vec<u8>,
+) -> Result<(), Error> {
+    step_to(alloc, session, setting)?;
+    for line in script.split("\n") {
+        play_line(alloc, session, line, out)?;
+    }
+    Ok(())
+}
+
+fn play_on(alloc: Global, setting: &str, script: &str, out: &mut Vec<u8>) -> Result<(), Error> {
+    let mut session = begun(alloc, setting)?;
+    play_lines(alloc, &mut session, setting, script, out)
+}
+
 /// What the lines of a script come to, one after the other.
 pub fn play(alloc: Global, setting: &str, script: &str) -> Result<Vec<u8>, Error> {
-    let mut session = session_of(alloc, setting)?;
     let mut out = Vec::new(alloc);
-    for line in script.split("\n") {
-        play_line(alloc, &mut session, line, &mut out)?;
-    }
+    play_on(alloc, setting, script, &mut out)?;
     Ok(out)
 }

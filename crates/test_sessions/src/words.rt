@@ -1,5 +1,4 @@
 //! The faults of the crates in words, and what the operator reads: each event as a line, and each reason.
-use anyhow::Error;
 use bnc_ports::{Event, Leap, Reason};
 use bnc_server::ReplayFault;
 use chat_batch::AnswerFault;
@@ -11,7 +10,6 @@ use gossip_delta::{ChangeLineFault, DeltaFault, NotTaken};
 use irc_tags::TagFault;
 use peer_lines::LinkFault;
 use shared_node::{AskFault, NodeFault, PutFault};
-use std::alloc::Global;
 use std::fmt::Display;
 use std::io::{self, Write};
 use std::net::SocketAddr;
@@ -100,7 +98,7 @@ fn tell_faults_of_nodes(out: &mut Vec<u8>) -> io::Result<()> {
     tell_faults(out, "shared_node", &puts)
 }
 
-const REASONS: [Reason; 14] = [
+const REASONS: [Reason; 15] = [
     Reason::Closed,
     Reason::Unreachable,
     Reason::Ended,
@@ -113,6 +111,7 @@ const REASONS: [Reason; 14] = [
     Reason::Replaced,
     Reason::Overrun,
     Reason::NoPlace,
+    Reason::GaveWay,
     Reason::NoMemory,
     Reason::NoEntry,
 ];
@@ -152,6 +151,8 @@ fn tell_floors(out: &mut Vec<u8>) -> io::Result<()> {
     tell_events(
         out,
         &[
+            Event::Retention { days: 1 },
+            Event::Retention { days: 30 },
             Event::FloorPut {
                 account: ACCOUNT,
                 at,
@@ -193,6 +194,7 @@ fn tell_clients(out: &mut Vec<u8>) -> io::Result<()> {
                 address: None,
                 reason: Reason::NoPlace,
             },
+            Event::ClientsRefused { count: 1990 },
         ],
     )
 }
@@ -241,24 +243,36 @@ fn tell_peers(out: &mut Vec<u8>) -> io::Result<()> {
                 address: address_of("[::1]:7001"),
                 reason: Reason::WrongWord,
             },
+            Event::PeersRefused { count: 1990 },
         ],
     )
 }
 
-/// The words, one a line.
-pub fn told(alloc: Global) -> Result<Vec<u8>, Error> {
-    let mut out = Vec::new(alloc);
-    tell_faults_of_states(&mut out)?;
-    tell_faults_of_answers(&mut out)?;
-    tell_faults_of_peers(&mut out)?;
-    tell_faults_of_nodes(&mut out)?;
-    tell_listening(&mut out)?;
-    tell_floors(&mut out)?;
-    tell_clients(&mut out)?;
-    tell_servers(&mut out)?;
-    tell_peers(&mut out)?;
+fn tell_all_faults(out: &mut Vec<u8>) -> io::Result<()> {
+    tell_faults_of_states(out)?;
+    tell_faults_of_answers(out)?;
+    tell_faults_of_peers(out)?;
+    tell_faults_of_nodes(out)
+}
+
+fn tell_all_events(out: &mut Vec<u8>) -> io::Result<()> {
+    tell_listening(out)?;
+    tell_floors(out)?;
+    tell_clients(out)?;
+    tell_servers(out)?;
+    tell_peers(out)
+}
+
+fn tell_reasons(out: &mut Vec<u8>) -> io::Result<()> {
     for reason in REASONS {
         write!(out, "{reason}\n")?;
     }
-    Ok(out)
+    Ok(())
+}
+
+/// Tells the words, one a line.
+pub fn tell_words(out: &mut Vec<u8>) -> io::Result<()> {
+    tell_all_faults(out)?;
+    tell_all_events(out)?;
+    tell_reasons(out)
 }
