@@ -1,6 +1,7 @@
 """A node: `bnc serve` with a configuration of its own."""
 
 import json
+import os
 import signal
 
 from harness import processes
@@ -10,6 +11,8 @@ from harness.failure import Failed, text_of
 
 # How often other ports are tried where somebody else took one.
 TRIES = 5
+# The accounts of a node that has two, with their secrets.
+ACCOUNTS = (("demo", "s3cret"), ("eve", "s3cret"))
 
 
 def configuration(top, peers=(), accounts=(), networks=()):
@@ -104,6 +107,14 @@ class Node:
             raise Failed(f"{self.name} ended with status {self.process.returncode}")
         return False
 
+    def processor_seconds(self):
+        """The processor time that the threads which the node has now have taken."""
+        threads, nanoseconds = f"/proc/{self.process.pid}/task", 0
+        for thread in os.listdir(threads):
+            with open(f"{threads}/{thread}/schedstat") as file:
+                nanoseconds += int(file.read().split()[0])
+        return nanoseconds / 1e9
+
     def client(self, name="a client", **how):
         """A client that connects to the node."""
         return Client(self.fixture, self.clients, name, **how)
@@ -112,3 +123,13 @@ class Node:
         """Ends the node with SIGKILL, without a word."""
         self.process.send_signal(signal.SIGKILL)
         processes.end(self.process)
+
+
+class TwoAccounts(Node):
+    """A node with two accounts, each with a network of its own."""
+
+    def accounts(self):
+        return [{"name": name, "secret": secret} for name, secret in ACCOUNTS]
+
+    def sessions(self):
+        return [self.session(name, "net", address) for (name, _), address in zip(ACCOUNTS, self.servers)]

@@ -15,6 +15,7 @@ CALLS = os.path.join(TESTS, "calls")
 # So many requests are refused in a row, from each number up to this one on, and of those above from each 23rd.
 ALL = 1 << 30
 ROWS = ((1, ALL), (2, ALL), (3, ALL))
+SAMPLED = ((1, 600), (2, 600), (3, 600))
 
 
 def refuse(fixture, run, rows=ROWS):
@@ -29,14 +30,16 @@ def ended_for_want(ran):
     return ran.status > 0 and WANT.search(ran.errors)
 
 
-def file_is_right(program, file, count, beside=()):
-    """A test of a program that says of how many cases of a file something else came. What it would play then isn't there, so it
-    ends."""
+def file_is_right(program, file, told, beside=(), rows=ROWS):
+    """A test of a program that says of how many cases of a file something else came. The file is one of `tests/calls`, or of
+    the program's own. What it would play then isn't there, so it ends."""
 
     def call(fixture):
-        for it in (os.path.join(CALLS, file), *(os.path.join(fixture.crates, program, "data", it) for it in beside)):
+        own = os.path.join(fixture.crates, program, "data")
+        path = os.path.join(CALLS, file)
+        for it in (path if os.path.exists(path) else os.path.join(own, file), *(os.path.join(own, it) for it in beside)):
             shutil.copy(it, fixture.folder)
-        wanted = f"{file}: {count}, 0 wrong\n".encode()
+        wanted = f"{file}: {told}\n".encode()
 
         def run(number, environment):
             ran = fixture.play(program, file, "none", env=environment)
@@ -47,14 +50,18 @@ def file_is_right(program, file, count, beside=()):
             raise Failed(f"request {number} refused: status {ran.status}, {ran.errors!r}, {ran.output!r}")
 
         expect("without a refusal", wanted, fixture.play(program, file, "none").output)
-        refuse(fixture, run)
+        refuse(fixture, run, rows)
 
     add(f"calls: {file}", call)
 
 
-file_is_right("test_sessions", "client_refused", "2 cases", ["example"])
-file_is_right("test_sessions", "upstream_refused", "2 cases", ["example"])
-file_is_right("test_lines", "lines_refused", "5 rows")
+file_is_right("test_sessions", "client_refused", "2 cases, 0 wrong", ["example"])
+file_is_right("test_sessions", "upstream_refused", "2 cases, 0 wrong", ["example"])
+file_is_right("test_lines", "lines_refused", "5 rows, 0 wrong")
+# (these have rows that say what stands after a refusal)
+file_is_right("test_state", "states_refused", "4 cases, 0 rows wrong")
+file_is_right("test_state", "delta_refused", "1 cases, 0 rows wrong", rows=SAMPLED)
+file_is_right("test_peers", "links_refused", "2 cases of 40 rows, 0 wrong")
 
 
 # How a test fails that says what it came to.
@@ -82,6 +89,9 @@ def passes(crate, name, rows, may_come_to=()):
 # (each call is made twice at most)
 passes("test_attach", "memory::a_refused_ring_is_asked_for_again", ROWS[:1])
 passes("test_attach", "memory::a_refused_box_or_entry_is_asked_for_again", ROWS[:1])
+# (of three markers so many waited as the word says, and all else was right)
+passes("test_node", "play::short_rows_come_to_their_totals", ROWS[:2],
+       ("NoMemory", "Waited(0", "Waited(1", "Waited(2", "Waited(3"))
 
 
 def workers_end(fixture):

@@ -1,7 +1,10 @@
 """Clients of a node (docs/PROTOCOL.md, "Capability negotiation" and "A client's session"; docs/OPERATING.md, "Clients")."""
 
+import time
+
 from harness.client import greeting
 from harness.connection import spelled
+from harness.failure import expect
 from harness.node import Node
 from harness.registry import test
 from harness.server import Server
@@ -94,11 +97,13 @@ def what_is_answered_after_registration(fixture):
 
 
 def refused(fixture, *lines):
-    """A client that doesn't get in: it is told so, and closed, and the operator is told who it was."""
+    """A client that doesn't get in: it is told so a second later, and closed, and the operator is told who it was."""
     node, _ = node_and_server(fixture)
     client = node.client()
+    begun = time.monotonic()
     client.say(*lines)
     client.hear(":bnc.example 464 * :Password incorrect", "ERROR :Closing link")
+    expect("whether a second went by", True, time.monotonic() - begun >= 0.9)
     client.hear_end()
     node.wait_for(f"client refused: {spelled(client.address)}: it ended as the protocol says")
     node.client("the next client").register()

@@ -45,6 +45,7 @@ add("memory: the worked script of the readme", answers(*README))
 
 # Posts, redactions, floors, markers, packets and nodes that start again; and sessions.
 SCRIPTS = (
+    ("examples", "an id is written with the escapes of a tag"),
     ("nodes", "a redaction behind its post on one node and before it on another, and then a floor above both"),
     ("nodes", "a restart between a packet's loss, an acknowledgement held back, and its coming"),
     ("nodes", "a marker of a session reaches the others"),

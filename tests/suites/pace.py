@@ -1,14 +1,19 @@
 """Clients that read slowly, late or never (docs/OPERATING.md, "Clients" and "Size"; docs/PROTOCOL.md, "CHATHISTORY")."""
 
+import resource
 import time
 
 from harness.client import page
-from harness.connection import spelled
-from harness.node import Node
+from harness.connection import connect, spelled
+from harness.failure import Failed
+from harness.node import Node, TwoAccounts
 from harness.registry import test
 from harness.server import Server
 
 BODY = "x" * 400
+NOBODY = ("127.0.0.1", 1)
+# So many clients are silent beside the one that is told lines, and so many lines are measured so often.
+SILENT, LINES, ROUNDS = 1500, 500, 5
 
 
 def said(number):
@@ -97,3 +102,55 @@ def a_server_that_sends_much_at_once_is_heard_whole(fixture):
     client.hear(*(said(number) for number in range(2000)))
     client.say("CHATHISTORY LATEST #a * 100")
     client.hear(*page(1, "#a", *(said(number) for number in range(1900, 2000))))
+
+
+@test
+def a_line_costs_nothing_for_the_clients_of_another_account(fixture):
+    """Beside 1,500 of them that are silent, a line takes less than twice the processor time."""
+    more_descriptors(2 * SILENT)
+    server = Server(fixture)
+    node = TwoAccounts(fixture, servers=[server.address, NOBODY], workers=1, places=2 * SILENT, bound=1024).begin()
+    session = server.register("message-tags")
+    client = node.client().register("message-tags")
+    alone = least_seconds(node, session, client)
+    for _ in range(SILENT):
+        register_silent(fixture, node)
+    beside = least_seconds(node, session, client)
+    fixture.notes.append(f"{beside / alone:.2f} times the time of a client that is alone")
+    if beside > 2 * alone:
+        raise Failed(f"{LINES} lines take {beside:.4f} seconds beside {SILENT} clients, and {alone:.4f} without them")
+
+
+def more_descriptors(count):
+    """Lets this process and those that it starts have so many descriptors."""
+    soft, hard = resource.getrlimit(resource.RLIMIT_NOFILE)
+    if soft != resource.RLIM_INFINITY and soft < count:
+        resource.setrlimit(resource.RLIMIT_NOFILE, (count if hard == resource.RLIM_INFINITY else min(count, hard), hard))
+
+
+def register_silent(fixture, node):
+    """A client of the other account that is registered, and says and reads nothing more."""
+    it = connect(fixture, node.clients)
+    fixture.at_end(it.close)
+    it.sendall(b"PASS s3cret\r\nNICK al\r\nUSER eve/net 0 * :Al\r\nPING here\r\n")
+    held = b""
+    while b"PONG" not in held:
+        more = it.recv(4096)
+        if not more:
+            raise Failed(f"a client of the other account isn't let in: {held!r}")
+        held += more
+
+
+def least_seconds(node, session, client):
+    """The least processor time in which so many lines reach the client."""
+    return min(seconds_of(node, session, client) for _ in range(ROUNDS))
+
+
+def seconds_of(node, session, client):
+    before = node.processor_seconds()
+    # (topics, which the node doesn't keep)
+    line = f":bob!b@h TOPIC #a :{'x' * 40}"
+    for _ in range(LINES // 10):
+        session.say(*10 * [line])
+        client.hear(*10 * [line])
+    return node.processor_seconds() - before

@@ -1,8 +1,10 @@
 """Connections between nodes, line by line (docs/PROTOCOL.md, "Between nodes")."""
 
+import time
+
 from harness.client import page
 from harness.connection import Listener, connect
-from harness.failure import expect
+from harness.failure import Failed, expect
 from harness.node import Node
 from harness.peer import Peer
 from harness.registry import add, test
@@ -367,6 +369,58 @@ def a_marker_that_a_peer_brings_is_told(fixture):
     for client in clients:
         client.hear(":bnc.example MARKREAD #a timestamp=1970-01-01T00:00:05.000Z")
         client.ping()
+
+
+def moment(seconds):
+    return f"timestamp=1970-01-01T00:00:{seconds:02}.000Z"
+
+
+@test
+def each_new_marker_of_a_packet_is_told_once(fixture):
+    """In the packet's order, by the last of its values for a conversation. One that is no further than before isn't told."""
+    node = begun(fixture)
+    clients = [node.client(f"client {number}").register("draft/read-marker") for number in range(2)]
+    peer = Peer.dial(node).greet()
+    peer.give(0, *(f"C MARK demo net #m{number} 5000" for number in range(200)))
+    for client in clients:
+        client.hear(*(f":bnc.example MARKREAD #m{number} {moment(5)}" for number in range(200)))
+    same = [f"C MARK demo net #m{number} {5000 - number % 2}" for number in range(100)]
+    more = [f"C MARK demo {place}" for place in ("net #b 7000", "net #b 8000", "net #b 2000", "net #m7 9000", "two #a 9000")]
+    peer.give(200, *same, *more, *same, "C MARK demo net #end 1000")
+    for client in clients:
+        client.hear(
+            f":bnc.example MARKREAD #b {moment(8)}", f":bnc.example MARKREAD #m7 {moment(9)}",
+            f":bnc.example MARKREAD #end {moment(1)}",
+        )
+        client.ping()
+
+
+# So many messages, and how long a packet's marker may take beside them, in seconds.
+MANY, SOON = 20000, 1
+
+
+@test
+def markers_are_told_at_once_however_much_is_held(fixture):
+    """Which of a peer's markers are new is found by their conversations, so the first of them and later ones take no longer
+    where the node holds many messages. No client waits for it."""
+    node = Node(fixture, peers=[("n0", NOBODY, ("version", 2))], servers=[NOBODY]).begin()
+    # (one of an older version is told nothing, so what it hears is acknowledgements alone)
+    peer = Peer.dial(node, version=2, told=2).greet()
+    for first in range(0, MANY, 250):
+        peer.give(first, *(f"C POST demo net #a m{number} {number} P #a bob!b@h :hi" for number in range(first, first + 250)))
+        peer.hear_acknowledged(first + 250)
+    clients = [node.client(f"client {number}").register("draft/read-marker") for number in range(2)]
+    others = [node.client(f"client {number} without markers").register() for number in range(2)]
+    for first in range(2):
+        begun_at = time.monotonic()
+        peer.give(MANY + first, f"C MARK demo net #a {first + 5}000")
+        for client in others:
+            client.ping()
+        for client in clients:
+            client.hear(f":bnc.example MARKREAD #a {moment(first + 5)}")
+        took = time.monotonic() - begun_at
+        if took > SOON:
+            raise Failed(f"marker {first + 1} took {took:.1f} seconds, with {MANY} messages held")
 
 
 @test

@@ -13,7 +13,7 @@ import time
 from harness.client import greeting
 from harness.connection import spelled
 from harness.failure import Failed, shortened
-from harness.node import Node
+from harness.node import ACCOUNTS, TwoAccounts
 from harness.registry import add
 from harness.server import Server
 
@@ -25,7 +25,6 @@ RATES = (1000, 60, 4)
 PACE, AWAY = 0.02, 0.1
 # So many messages are there, which are said again and again.
 MESSAGES = 100
-ACCOUNTS = (("demo", "s3cret"), ("eve", "s3cret"))
 LOGIN = "CAP REQ :batch draft/chathistory draft/read-marker message-tags server-time\r\nPASS s3cret\r\nNICK al\r\n" \
     "USER {}/net 0 * :Al\r\nCAP END\r\n"
 ASK = "CHATHISTORY LATEST #a * 10\r\nMARKREAD #a\r\nPING here\r\n"
@@ -46,16 +45,6 @@ class Rate:
     def counts(self):
         """How many requests were made while some were refused, and how many were."""
         return struct.unpack("=QQ", self.map[8:])
-
-
-class TwoAccounts(Node):
-    """A node with two accounts, each with a network of its own."""
-
-    def accounts(self):
-        return [{"name": name, "secret": secret} for name, secret in ACCOUNTS]
-
-    def sessions(self):
-        return [self.session(name, "net", address) for (name, _), address in zip(ACCOUNTS, self.servers)]
 
 
 class Work:

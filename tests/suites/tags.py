@@ -104,9 +104,10 @@ def tags_take_a_detour_over_a_peer(fixture):
     """A post with tags has a line of its own, which is read back byte for byte."""
     node, server, session = begun(fixture, peers=[("n0", NOBODY)])
     peer = Peer.dial(node).greet()
-    session.say(f"@{ESCAPES};msgid=m1;{TIME} :bob!b@h PRIVMSG #a :hi", f"@msgid=m2;{TIME} :bob!b@h PRIVMSG #a :plain")
+    session.say(f"@{ESCAPES};msgid=m1;{TIME} :bob!b@h PRIVMSG #a :hi")
     first = f"C TPOST demo net #a m1 {MS} P {ESCAPES} #a bob!b@h :hi"
     peer.hear_packet(0, 1, first)
+    session.say(f"@msgid=m2;{TIME} :bob!b@h PRIVMSG #a :plain")
     peer.acknowledge(1)
     peer.hear_packet(1, 2, f"C POST demo net #a m2 {MS} P #a bob!b@h :plain")
     other = Node(fixture, servers=[NOBODY], peers=[("n0", NOBODY)]).begin()

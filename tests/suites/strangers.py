@@ -1,0 +1,122 @@
+"""Strangers at a node's doors hold nobody up who knows the secret or the shared word (docs/OPERATING.md, "Strangers and
+firewalls")."""
+
+import collections
+import threading
+import time
+
+from harness.client import greeting
+from harness.connection import Connection, connect, spelled
+from harness.failure import Failed, expect
+from harness.node import Node
+from harness.peer import Peer
+from harness.registry import test
+from harness.server import Server
+
+# So many strangers come in a second, and in all; so many of their connections are kept open on this side.
+RATE, STRANGERS, KEPT = 200, 10000, 200
+# Within so many seconds a client is let in.
+LET_IN = 5
+NOBODY = ("127.0.0.1", 1)
+
+
+class Strangers:
+    """Connections on which nothing is said, which come at that rate in a thread of its own."""
+
+    def __init__(self, fixture, address):
+        self.fixture, self.address, self.kept = fixture, address, collections.deque()
+        self.is_over, self.count, self.why = False, 0, None
+        self.thread = threading.Thread(target=self.run, daemon=True)
+        fixture.at_end(self.end)
+        self.thread.start()
+
+    def run(self):
+        begun = time.monotonic()
+        try:
+            while not self.is_over and self.count < STRANGERS:
+                self.come()
+                time.sleep(max(0, begun + self.count / RATE - time.monotonic()))
+        except (OSError, Failed) as failure:
+            self.why = failure
+
+    def come(self):
+        self.kept.append(connect(self.fixture, self.address))
+        self.count += 1
+        if len(self.kept) > KEPT:
+            self.kept.popleft().close()
+
+    def end(self):
+        self.is_over = True
+        self.thread.join(5)
+        while self.kept:
+            self.kept.popleft().close()
+
+
+@test
+def who_knows_the_secret_gets_in_while_strangers_take_each_place(fixture):
+    """10,000 strangers come at 200 a second, say nothing and stay. Who sends its lines at once is let in within 5 seconds, and
+    stays."""
+    server = Server(fixture)
+    node = Node(fixture, servers=[server.address], places=64).begin()
+    server.register()
+    strangers, longest = Strangers(fixture, node.clients), 0.0
+    fixture.until("each place is taken", lambda: strangers.count > 100)
+    clients = []
+    while strangers.thread.is_alive():
+        begun = time.monotonic()
+        client = node.client(f"client {len(clients)}")
+        client.say("PASS s3cret", "NICK al", "USER demo/net 0 * :Al", "PING here")
+        client.hear(*greeting(), ":bnc.example PONG bnc.example :here")
+        longest = max(longest, time.monotonic() - begun)
+        clients.append(client)
+        # (some leave, so that strangers have places)
+        if len(clients) > 20:
+            clients.pop(0).close()
+        time.sleep(0.5)
+    expect("why strangers stayed away", None, strangers.why)
+    expect("how many came", STRANGERS, strangers.count)
+    if longest > LET_IN:
+        raise Failed(f"a client was let in after {longest:.2f} seconds")
+    for client in clients:
+        client.ping()
+    node.wait_for("clients refused: ")
+    lines = sum("client refused: " in line for line in node.log())
+    if lines > 100:
+        raise Failed(f"the operator was told {lines} times of a client that was refused")
+    fixture.notes.append(f"{longest:.2f} seconds at most, {lines} lines")
+
+
+@test
+def who_has_waited_longest_gives_way(fixture):
+    """And nobody who is registered does: where each place is such a client's, the next one is closed."""
+    node = Node(fixture, servers=[NOBODY], places=3).begin()
+    registered = node.client("a registered client").register()
+    first, second = node.client("the first stranger"), node.client("the second stranger")
+    for stranger in (first, second):
+        stranger.ping()
+    others = [node.client("a client that comes late").register()]
+    first.hear_end()
+    node.wait_for(f"client refused: {spelled(first.address)}: it had waited longest to say who it is")
+    second.ping()
+    others.append(node.client("one that comes later").register())
+    second.hear_end()
+    refused = node.client("one that comes too late")
+    refused.hear_end()
+    node.wait_for(f"client refused: {spelled(refused.address)}: each place is taken")
+    for client in (registered, *others):
+        client.ping()
+
+
+@test
+def a_peer_says_hello_while_strangers_stay_at_its_door(fixture):
+    """A node with one peer has ten strangers there at most. The first of them give way."""
+    node = Node(fixture, peers=[("n0", NOBODY)]).begin()
+    strangers = []
+    for number in range(50):
+        # (who came first goes by milliseconds)
+        time.sleep(0.005)
+        strangers.append(Connection(fixture, connect(fixture, node.peers), f"stranger {number}"))
+    for stranger in strangers[:40]:
+        stranger.hear_end()
+    Peer.dial(node).greet()
+    node.wait_for("peer greeted: n0")
