@@ -41,7 +41,8 @@ impl<N: Node, X: Attachment, P: WorkPort> Worker<N, X, P> {
 
     /// Puts changes that may be put now. Where they only wait to be published, that is tried again a second later.
     pub(crate) fn put(&mut self, changes: &[Change]) -> Result<(), PutFault>
-        requires { ∥ MayBePut self.old.desk.site.moment self.old.desk.site.retain_days changes.now ∥₁ }
+        requires { ∥ MayBePut self.old.desk.site.moment self.old.desk.site.retain_days
+            changes.now ∥₁ }
     {
         let Worker { node, desk, .. } = self;
         let done = node.put(&desk.site, changes);
