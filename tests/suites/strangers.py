@@ -116,7 +116,7 @@ def a_peer_says_hello_while_strangers_stay_at_its_door(fixture):
         # (who came first goes by milliseconds)
         time.sleep(0.005)
         strangers.append(Connection(fixture, connect(fixture, node.peers), f"stranger {number}"))
-    for stranger in strangers[:40]:
-        stranger.hear_end()
+        if number >= 10:
+            strangers[number - 10].hear_end()
     Peer.dial(node).greet()
     node.wait_for("peer greeted: n0")
