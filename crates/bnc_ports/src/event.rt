@@ -14,8 +14,12 @@ pub enum Reason {
     Unreachable,
     /// It was closed as the protocol says: after QUIT, ERROR or a refused registration.
     Ended,
-    /// It was silent for too long, or didn't register in time.
+    /// It was silent for too long.
     Silent,
+    /// It didn't register in time.
+    Unregistered,
+    /// Its account, its network or its secret is wrong.
+    WrongSecret,
     /// It sent what a line may not be.
     BadLine,
     /// It doesn't know the shared word.
@@ -47,6 +51,8 @@ impl fmt::Display for Reason {
             Reason::Unreachable => "it could not be reached",
             Reason::Ended => "it ended as the protocol says",
             Reason::Silent => "it was silent for too long",
+            Reason::Unregistered => "it did not say in time who it is",
+            Reason::WrongSecret => "its account, its network or its secret is wrong",
             Reason::BadLine => "it sent a line that is refused",
             Reason::WrongWord => "it sent another word than the shared one",
             Reason::UnknownNode => "it is no configured peer",
@@ -117,11 +123,13 @@ pub enum Event<'a> {
         network: &'a [u8],
         nick: &'a [u8],
     },
-    /// The session with the network's server ended, or could not begin.
+    /// The session with the network's server ended, or could not begin. With it stand the words by which the server refused it,
+    /// if it did.
     UpstreamDown {
         account: &'a [u8],
         network: &'a [u8],
         reason: Reason,
+        words: Option<&'a [u8]>,
     },
     /// A peer and this node greeted each other.
     PeerGreeted {
@@ -138,6 +146,15 @@ pub enum Event<'a> {
         node: &'a [u8],
         incarnation: u64,
     },
+    /// For the first time since it started, this node has all that the peer had, and the peer has all that this node had.
+    PeerLevel {
+        node: &'a [u8],
+    },
+    /// A connection with a peer could not be made.
+    PeerUnreachable {
+        node: &'a [u8],
+        address: Option<SocketAddr>,
+    },
     /// There has been no connection for two minutes with a peer to which this node opens them.
     PeerAbsent {
         node: &'a [u8],
@@ -147,13 +164,18 @@ pub enum Event<'a> {
         node: &'a [u8],
         reason: Reason,
     },
-    /// A connection of a peer ended before it was greeted, or could not be made.
+    /// A connection ended before a peer was greeted over it. Where this node opened it, the peer is known by its name.
     PeerRefused {
+        node: Option<&'a [u8]>,
         address: Option<SocketAddr>,
         reason: Reason,
     },
     /// So many further connections that others opened ended before a peer was greeted, within a minute.
     PeersRefused {
+        count: u64,
+    },
+    /// So many connections were closed for want of memory, within a minute.
+    OutOfMemory {
         count: u64,
     },
 }
@@ -177,10 +199,13 @@ impl<'a> Event<'a> {
             Event::PeerGreeted { .. } => "peer greeted",
             Event::PeerBehind { .. } => "peer behind",
             Event::NodeBehind { .. } => "node behind",
+            Event::PeerLevel { .. } => "peer level",
+            Event::PeerUnreachable { .. } => "peer unreachable",
             Event::PeerAbsent { .. } => "peer absent",
             Event::PeerDown { .. } => "peer down",
             Event::PeerRefused { .. } => "peer refused",
             Event::PeersRefused { .. } => "peers refused",
+            Event::OutOfMemory { .. } => "out of memory",
         }
     }
 
@@ -192,6 +217,14 @@ impl<'a> Event<'a> {
             | Event::UpstreamDown { reason, .. }
             | Event::PeerDown { reason, .. }
             | Event::PeerRefused { reason, .. } => Some(reason),
+            _ => None,
+        }
+    }
+
+    // What the server said, where the event is its session's end.
+    fn words(&self) -> Option<&'a [u8]> {
+        match *self {
+            Event::UpstreamDown { words, .. } => words,
             _ => None,
         }
     }
@@ -231,8 +264,11 @@ impl<'a> fmt::Display for Event<'a> {
             write!(f, "{network}")?;
         }
         write!(f, "{}", Detail(self))?;
-        match self.reason() {
-            Some(reason) => write!(f, ": {reason}"),
+        if let Some(reason) = self.reason() {
+            write!(f, ": {reason}")?;
+        }
+        match self.words() {
+            Some(words) => write!(f, "; the server said: {}", BStr::new(words)),
             None => Ok(()),
         }
     }
@@ -276,8 +312,16 @@ impl<'a, 'b> fmt::Display for Detail<'a, 'b> {
             Event::ClientIn { address, .. } | Event::ClientOut { address, .. } => {
                 write!(f, " from {}", Address(address))
             }
-            Event::ClientRefused { address, .. } | Event::PeerRefused { address, .. } => {
-                write!(f, "{}", Address(address))
+            Event::ClientRefused { address, .. } => write!(f, "{}", Address(address)),
+            Event::PeerRefused { node, address, .. } => match node {
+                Some(node) => write!(f, "{} at {}", BStr::new(node), Address(address)),
+                None => write!(f, "{}", Address(address)),
+            },
+            Event::PeerUnreachable { node, address } => {
+                write!(f, "{} at {}", BStr::new(node), Address(address))
+            }
+            Event::OutOfMemory { count } => {
+                write!(f, "{count} connections were closed within a minute")
             }
             Event::ClientsRefused { count } | Event::PeersRefused { count } => {
                 write!(f, "{count} more within a minute")
@@ -287,6 +331,7 @@ impl<'a, 'b> fmt::Display for Detail<'a, 'b> {
             Event::PeerGreeted { node, .. }
             | Event::PeerBehind { node, .. }
             | Event::NodeBehind { node, .. }
+            | Event::PeerLevel { node }
             | Event::PeerAbsent { node }
             | Event::PeerDown { node, .. } => {
                 write!(f, "{}{}", BStr::new(node), Standing(self.0))
@@ -311,6 +356,7 @@ impl<'a, 'b> fmt::Display for Standing<'a, 'b> {
                 f,
                 " knows a later life of this node (incarnation {incarnation}): set the clock right and start again"
             ),
+            Event::PeerLevel { .. } => f.write_str(": each has what the other had"),
             Event::PeerAbsent { .. } => f.write_str(": no connection for two minutes"),
             _ => Ok(()),
         }

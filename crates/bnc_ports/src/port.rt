@@ -78,6 +78,9 @@ pub trait Port: Drop {
     /// Begins a connection: `Opened` or `Refused` of that line follows.
     fn dial(&mut self, what: Dial) -> Result<usize, PortFault>;
 
+    /// The address to which it connects for that.
+    fn target(&self, what: Dial) -> Option<SocketAddr>;
+
     /// Hands mail to another worker.
     fn post(&mut self, worker: usize, mail: Self::Mail) -> Result<(), PortFault>;
 
