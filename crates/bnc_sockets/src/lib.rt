@@ -1,7 +1,7 @@
 //! The connections of a worker, over sockets.
 //!
 //! A [`SocketPort`] is the port of one worker: it waits for its sockets, and for what other threads hand in. A
-//! [`SocketConnection`] is one connection, which knows what went out over it. A [`Mailbox`] is where parcels of other workers
+//! [`SocketConnection`] is one connection, which knows what came over it and what went out. A [`Mailbox`] is where parcels of other workers
 //! are handed in, and a [`Door`] is where those who connect are. Sockets, parcels and newcomers take turns, and none keeps
 //! another waiting. A port that ends stops all workers whose mailboxes it has: a node whose worker ended ends.
 #![tactic(auto)]

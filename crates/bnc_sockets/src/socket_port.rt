@@ -353,6 +353,10 @@ impl<R: Net + Wait + Clock + Eprint + AllocGlobal + Drop, M: Drop> Port for Sock
         }
     }
 
+    fn target(&self, what: Dial) -> Option<SocketAddr> {
+        self.addresses.of(what)
+    }
+
     fn post(&mut self, worker: usize, mail: M) -> Result<(), PortFault> {
         let Some(mailbox) = self.mailboxes.get(worker) else {
             drop(mail);
@@ -405,7 +409,9 @@ impl<K: Kind, R: Net + Wait + Clock + Eprint + AllocGlobal + Drop, M: Drop> Carr
         let Some(line) = self.lines.get_mut(connection.number()) else {
             return Err(Halt::Closed);
         };
-        line.receive(buffer)
+        let count = line.receive(buffer)?;
+        connection.note_received(&buffer[..count]);
+        Ok(count)
     }
 
     fn send(&mut self, connection: &mut SocketConnection, bytes: &[u8]) -> Result<usize, Halt> {
@@ -413,7 +419,7 @@ impl<K: Kind, R: Net + Wait + Clock + Eprint + AllocGlobal + Drop, M: Drop> Carr
             return Err(Halt::Closed);
         };
         let count = line.send(bytes)?;
-        connection.note(&bytes[..count]);
+        connection.note_sent(&bytes[..count]);
         Ok(count)
     }
 
