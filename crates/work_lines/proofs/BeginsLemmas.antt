@@ -18,3 +18,7 @@ pub without_waiting : {holds : List ℕ → Type 0} (before waited moved rest af
 without_waiting before waited moved rest after e f h =
     first_part after rest h
     (ap (λ xs. before ++ xs) e ∙ sym (append_assoc before moved rest) ∙ ap (λ xs. xs ++ rest) (sym f))
+
+-- of a connection over which the same came
+pub over_same : (may_be_told : List ℕ → List ℕ → Type 0) (received other bytes : List ℕ) → other ≡ received → BeginsOf (may_be_told received) bytes → BeginsOf (may_be_told other) bytes
+over_same may_be_told received other bytes e h = subst (λ (r : List ℕ). BeginsOf (may_be_told r) bytes) (sym e) h

@@ -1,3 +1,4 @@
--- ---- what a reader has to believe: what goes out over a connection, and what waits for it
+-- ---- what a reader has to believe: what came over a connection, line by line, what goes out over it, and what waits for it
 
+pub mod Incoming
 pub mod Outgoing

@@ -1,7 +1,10 @@
 //! The connection of a client.
-ghost use Rattle.std.specs.Prelude.{◌≡◌, [], ◌++◌, IfOk, IfSome, OnErr, MatchBool, drop, length};
+ghost use Rattle.std.specs.Prelude.{◌≡◌, List, [], ◌++◌, IfOk, IfSome, OnErr, MatchBool, drop, length};
 ghost use Rattle.bnc_ports.specs.Outgoing.{BeginsOf};
+ghost use Rattle.irc_line.specs.Stream.{Item};
+ghost use Rattle.work_lines.specs.Incoming.{AreGiven, Lost};
 ghost use Rattle.work_lines.specs.Outgoing.{handed, Moves};
+ghost use Rattle.work_lines.specs.declared.input.Filled.TheVariants as filled;
 
 use crate::feeders::Feeders;
 use crate::input::{Filled, Input};
@@ -26,7 +29,8 @@ enum Offered {
     Overrun,
 }
 
-/// The connection of a client, with its attachment. Contracts see what was sent over it, what is owed to it, and what waits.
+/// The connection of a client, with its attachment. Contracts see what came over it, what was sent over it, what is owed to it,
+/// and what waits.
 #[derive(Drop)]
 pub struct Guest<X: Attachment, C: Connection> {
     pipe: Pipe<C>,
@@ -42,7 +46,8 @@ impl<X: Attachment, C: Connection> Model for Guest<X, C> {
     ghost Value = { Told };
 
     ghost view = { λ g. record {
-      outgoing = record {
+      traffic = record {
+        received = g.pipe.received;
         sent = g.pipe.sent;
         owed = g.pipe.owed ++ (X.state g.attachment).owed;
       };
@@ -55,7 +60,8 @@ impl<X: Attachment, C: Connection> Guest<X, C> {
     pub fn new(alloc: Global, connection: C, attachment: X) -> Guest<X, C>
         requires sent { C.sent connection ≡ [] }
         requires owed { (X.state attachment).owed ≡ [] }
-        ensures handed { handed result.outgoing ≡ [] }
+        ensures received { result.traffic.received ≡ C.received connection }
+        ensures handed { handed result.traffic ≡ [] }
         ensures waiting { result.waiting ≡ [] }
     {
         Guest {
@@ -77,14 +83,14 @@ impl<X: Attachment, C: Connection> Guest<X, C> {
 
     /// The connection.
     pub fn connection(&self) -> &C
-        ensures { C.sent result.now ≡ self.now.outgoing.sent }
+        ensures { C.sent result.now ≡ self.now.traffic.sent }
     {
         self.pipe.connection()
     }
 
     /// The connection alone. The attachment is let go, which frees its place.
     pub fn into_connection(self) -> C
-        ensures { C.sent result ≡ self.outgoing.sent }
+        ensures { C.sent result ≡ self.traffic.sent }
     {
         self.pipe.into_connection()
     }
@@ -104,7 +110,12 @@ impl<X: Attachment, C: Connection> Guest<X, C> {
         chunk: &mut [u8],
         feeders: &mut Feeders,
     ) -> Filled
-        ensures { self.new ≡ self.old }
+        ensures given { (given : List Item)
+            → AreGiven self.old.traffic.received given input.old
+            → AreGiven self.new.traffic.received given input.new }
+        ensures lost { input.new ≡ Lost → result ≡ filled.NoMemory }
+        ensures handed { handed self.new.traffic ≡ handed self.old.traffic }
+        ensures waiting { self.new.waiting ≡ self.old.waiting }
     {
         self.pipe.fill::<K, P>(input, port, chunk, feeders)
     }
@@ -114,7 +125,7 @@ impl<X: Attachment, C: Connection> Guest<X, C> {
     pub fn owe(&mut self, lines: &[u8]) -> Result<(), NoMemory>
         ensures ok { IfOk result (λ _. self.new.waiting ≡ self.old.waiting ++ lines.now) }
         ensures err { OnErr result (self.new.waiting ≡ self.old.waiting) }
-        ensures same { self.new.outgoing ≡ self.old.outgoing }
+        ensures same { self.new.traffic ≡ self.old.traffic }
     {
         self.waiting.push(lines)
     }
@@ -127,9 +138,10 @@ impl<X: Attachment, C: Connection> Guest<X, C> {
     // Hands a line to the attachment. False where it doesn't fit into the bound.
     fn attach(&mut self, line: &[u8]) -> bool
         ensures handed { MatchBool result
-            (handed self.new.outgoing ≡ handed self.old.outgoing ++ line.now)
-            (handed self.new.outgoing ≡ handed self.old.outgoing) }
+            (handed self.new.traffic ≡ handed self.old.traffic ++ line.now)
+            (handed self.new.traffic ≡ handed self.old.traffic) }
         ensures waiting { self.new.waiting ≡ self.old.waiting }
+        ensures received { self.new.traffic.received ≡ self.old.traffic.received }
     {
         if self.owed().saturating_add(line.len()) > self.attachment.bound() {
             return false;
@@ -144,11 +156,12 @@ impl<X: Attachment, C: Connection> Guest<X, C> {
         port: &mut P,
         line: &[u8],
     ) -> bool
-        requires { ∥ BeginsOf K.may_be_told (handed self.old.outgoing) ∥₁ }
+        requires { ∥ BeginsOf (K.may_be_told self.old.traffic.received) (handed self.old.traffic) ∥₁ }
         ensures handed { MatchBool result
-            (handed self.new.outgoing ≡ handed self.old.outgoing ++ line.now)
-            (handed self.new.outgoing ≡ handed self.old.outgoing) }
+            (handed self.new.traffic ≡ handed self.old.traffic ++ line.now)
+            (handed self.new.traffic ≡ handed self.old.traffic) }
         ensures waiting { self.new.waiting ≡ self.old.waiting }
+        ensures received { self.new.traffic.received ≡ self.old.traffic.received }
     {
         for _ in 0..usize::MAX {
             if self.attach(line) {
@@ -163,9 +176,10 @@ impl<X: Attachment, C: Connection> Guest<X, C> {
 
     // Writes once, so that less is owed. False where nothing is owed, or the connection takes nothing.
     fn make_room<K: Kind, P: Carries<K, Connection = C>>(&mut self, port: &mut P) -> bool
-        requires { ∥ BeginsOf K.may_be_told (handed self.old.outgoing) ∥₁ }
-        ensures handed { handed self.new.outgoing ≡ handed self.old.outgoing }
+        requires { ∥ BeginsOf (K.may_be_told self.old.traffic.received) (handed self.old.traffic) ∥₁ }
+        ensures handed { handed self.new.traffic ≡ handed self.old.traffic }
         ensures waiting { self.new.waiting ≡ self.old.waiting }
+        ensures received { self.new.traffic.received ≡ self.old.traffic.received }
     {
         if self.owed() == 0 {
             return false;
@@ -179,8 +193,9 @@ impl<X: Attachment, C: Connection> Guest<X, C> {
     // Has the connection owe what the attachment is owed, where it owes nothing. Answers what comes of a write where there is
     // none to be made.
     fn load(&mut self) -> Option<Pumped>
-        ensures handed { handed self.new.outgoing ≡ handed self.old.outgoing }
+        ensures handed { handed self.new.traffic ≡ handed self.old.traffic }
         ensures waiting { self.new.waiting ≡ self.old.waiting }
+        ensures received { self.new.traffic.received ≡ self.old.traffic.received }
     {
         if self.pipe.owed() != 0 {
             return None;
@@ -199,9 +214,10 @@ impl<X: Attachment, C: Connection> Guest<X, C> {
 
     // One write of what is owed.
     fn write<K: Kind, P: Carries<K, Connection = C>>(&mut self, port: &mut P) -> Pumped
-        requires { ∥ BeginsOf K.may_be_told (handed self.old.outgoing) ∥₁ }
-        ensures handed { handed self.new.outgoing ≡ handed self.old.outgoing }
+        requires { ∥ BeginsOf (K.may_be_told self.old.traffic.received) (handed self.old.traffic) ∥₁ }
+        ensures handed { handed self.new.traffic ≡ handed self.old.traffic }
         ensures waiting { self.new.waiting ≡ self.old.waiting }
+        ensures received { self.new.traffic.received ≡ self.old.traffic.received }
     {
         match self.load() {
             Some(pumped) => pumped,
@@ -216,7 +232,8 @@ impl<X: Attachment, C: Connection> Guest<X, C> {
 
     // Offers the first of the lines that wait, where there is room.
     fn offer_first(&mut self) -> Offered
-        ensures { Moves self.old self.new }
+        ensures moves { Moves self.old self.new }
+        ensures received { self.new.traffic.received ≡ self.old.traffic.received }
     {
         let owed = self.owed();
         let bound = self.attachment.bound();
@@ -233,7 +250,8 @@ impl<X: Attachment, C: Connection> Guest<X, C> {
 
     /// Offers the lines that wait, as far as there is room. False where one doesn't fit into the bound.
     pub fn offer_waiting(&mut self) -> bool
-        ensures { Moves self.old self.new }
+        ensures moves { Moves self.old self.new }
+        ensures received { self.new.traffic.received ≡ self.old.traffic.received }
     {
         for _ in 0..LINES {
             match self.offer_first() {
@@ -248,9 +266,10 @@ impl<X: Attachment, C: Connection> Guest<X, C> {
     /// Offers what waits, as far as there is room, and sends what is owed, by one write. `All` where nothing waits and
     /// nothing is owed.
     pub fn pump<K: Kind, P: Carries<K, Connection = C>>(&mut self, port: &mut P) -> Pumped
-        requires { ∥ BeginsOf K.may_be_told
-            (handed self.old.outgoing ++ self.old.waiting) ∥₁ }
-        ensures { Moves self.old self.new }
+        requires { ∥ BeginsOf (K.may_be_told self.old.traffic.received)
+            (handed self.old.traffic ++ self.old.waiting) ∥₁ }
+        ensures moves { Moves self.old self.new }
+        ensures received { self.new.traffic.received ≡ self.old.traffic.received }
     {
         if !self.offer_waiting() {
             return Pumped::Overrun;

@@ -1,5 +1,11 @@
 //! What comes over a connection, line by line.
-ghost use Rattle.std.specs.Prelude.{◌≡◌};
+ghost use Rattle.std.specs.Prelude.{◌≡◌, ◌≢◌, ◌++◌, List, ℕ, [], IfOk};
+ghost use Rattle.std.specs.Borrow.{sem};
+ghost use Rattle.std.specs.Io.BufRead.{Rests};
+ghost use Rattle.irc_line.specs.Next.{value_of};
+ghost use Rattle.irc_line.specs.Stream.{Item, holding, items_from};
+ghost use Rattle.work_lines.specs.declared.input.Filled.TheVariants as filled;
+ghost use Rattle.work_lines.specs.Incoming.{AreGiven, Kept, Lost, next_of, without_next};
 
 use crate::feeders::Feeders;
 use crate::pending::Pending;
@@ -7,6 +13,7 @@ use bnc_ports::{Carries, Connection, Halt, Kind};
 use byte_text::NoMemory;
 use irc_line::{Feeder, Next};
 use std::alloc::Global;
+use std::marker::Model;
 
 /// What came of asking for more bytes.
 #[derive(Clone, Copy, Debug, PartialEq, Eq)]
@@ -21,7 +28,8 @@ pub enum Filled {
     NoMemory,
 }
 
-/// What came over a connection, and wasn't given as lines yet.
+/// What came over a connection, and wasn't given as lines yet. Contracts see what is unread: with the items that were given,
+/// it is what came over the connection, and nothing else (`AreGiven`).
 #[derive(Drop)]
 pub struct Input {
     // None where nothing of a line is held.
@@ -29,25 +37,58 @@ pub struct Input {
     // What the feeder had no room for.
     rest: Pending,
     is_readable: bool,
+    // Something that came is lost, so no further line is given.
+    is_lost: bool,
+}
+
+impl Model for Input {
+    ghost use Rattle.std.specs.Prelude.{[], unwrap_or, if◌then◌else◌};
+    ghost use Rattle.irc_line.specs.Stream.{holding};
+    ghost use Rattle.work_lines.specs.declared.input.Filled.TheVariants as filled;
+    ghost use Rattle.work_lines.specs.Incoming.{Unread, Kept, Lost};
+
+    ghost Value = { Unread };
+
+    ghost view = { λ i. if i.is_lost then Lost else Kept (unwrap_or i.feeder (holding [])) i.rest };
 }
 
 impl Input {
+    ghost use Rattle.work_lines.specs.contracts.input.Input.{the_row};
+
     /// Nothing came yet, and bytes may be there. It takes no memory.
-    pub fn new(alloc: Global) -> Input {
+    pub fn new(alloc: Global) -> Input
+        ensures { result ≡ Kept (holding []) [] }
+    {
         Input {
             feeder: None,
             rest: Pending::new(alloc),
             is_readable: true,
+            is_lost: false,
         }
     }
 
     /// Bytes may be there again.
-    pub fn mark_readable(&mut self) {
+    pub fn mark_readable(&mut self)
+        ensures { self.new ≡ self.old }
+    {
         self.is_readable = true;
     }
 
+    /// A line that was given last, or what came behind it, is lost. Nothing more is given.
+    pub fn lose(&mut self)
+        ensures { self.new ≡ Lost }
+    {
+        self.is_lost = true;
+    }
+
     /// The next line. After `More` it is time to [`fill`](Input::fill).
-    pub fn next_line(&mut self) -> Next<'_> {
+    pub fn next_line(&mut self) -> Next<'_>
+        ensures item { value_of result ≡ next_of self.old }
+        ensures* left { sem 𝓛 (Rests the_row self.entry (λ new. new ≡ without_next self.old)) }
+    {
+        if self.is_lost {
+            return Next::More;
+        }
         match &mut self.feeder {
             Some(feeder) => feeder.next_line(),
             None => Next::More,
@@ -55,7 +96,7 @@ impl Input {
     }
 
     /// Takes in more bytes, into a feeder that is lent where there is none. It goes back once nothing more is there and it holds
-    /// nothing.
+    /// nothing. Where there is no memory for bytes that came they are lost, and nothing more is given.
     pub fn fill<K: Kind, C: Connection, P: Carries<K, Connection = C>>(
         &mut self,
         port: &mut P,
@@ -63,66 +104,120 @@ impl Input {
         chunk: &mut [u8],
         feeders: &mut Feeders,
     ) -> Filled
-        ensures { C.sent connection.new ≡ C.sent connection.old }
+        ensures given { (given : List Item)
+            → AreGiven (C.received connection.old) given self.old
+            → AreGiven (C.received connection.new) given self.new }
+        ensures lost { self.new ≡ Lost → result ≡ filled.NoMemory }
+        ensures sent { C.sent connection.new ≡ C.sent connection.old }
     {
+        if self.is_lost {
+            return Filled::NoMemory;
+        }
         if self.rest.is_empty() && !self.is_readable {
             return Filled::Nothing;
         }
-        let Ok(mut feeder) = self.take_feeder(feeders) else {
+        if self.take_feeder(feeders).is_err() {
             return Filled::NoMemory;
-        };
-        let filled = self.receive::<K, C, P>(port, connection, chunk, &mut feeder);
-        self.feeder = if filled == Filled::Nothing {
-            feeders.take_back(feeder)
-        } else {
-            Some(feeder)
-        };
+        }
+        let filled = self.receive::<K, C, P>(port, connection, chunk);
+        if filled == Filled::Nothing {
+            self.give_back(feeders);
+        }
         filled
     }
 
-    // Its own feeder, or one that is lent to it.
-    fn take_feeder(&mut self, feeders: &mut Feeders) -> Result<Feeder, NoMemory> {
-        match self.feeder.take() {
-            Some(feeder) => Ok(feeder),
-            None => feeders.lend(),
+    // Has a feeder, its own or one that is lent to it.
+    fn take_feeder(&mut self, feeders: &mut Feeders) -> Result<(), NoMemory>
+        ensures { self.new ≡ self.old }
+    {
+        if self.feeder.is_none() {
+            self.feeder = Some(feeders.lend()?);
+        }
+        Ok(())
+    }
+
+    // Gives its feeder back, where that holds nothing.
+    fn give_back(&mut self, feeders: &mut Feeders)
+        ensures { self.new ≡ self.old }
+    {
+        if let Some(feeder) = self.feeder.take() {
+            self.feeder = feeders.take_back(feeder);
         }
     }
 
-    // Hands the feeder what it had no room for before, or else what the port gives.
+    // Hands its feeder what that had no room for before, or else what the port gives.
     fn receive<K: Kind, C: Connection, P: Carries<K, Connection = C>>(
         &mut self,
         port: &mut P,
         connection: &mut C,
         chunk: &mut [u8],
-        feeder: &mut Feeder,
     ) -> Filled
-        ensures { C.sent connection.new ≡ C.sent connection.old }
+        ensures given { (given : List Item)
+            → AreGiven (C.received connection.old) given self.old
+            → AreGiven (C.received connection.new) given self.new }
+        ensures lost { self.old ≢ Lost → self.new ≡ Lost → result ≡ filled.NoMemory }
+        ensures sent { C.sent connection.new ≡ C.sent connection.old }
     {
-        if !self.rest.is_empty() {
-            let count = feeder.feed(self.rest.as_bytes());
-            self.rest.take(count);
-            return Filled::More;
-        }
-        match port.receive(connection, chunk) {
-            Ok(count) => self.feed(feeder, &chunk[..count]),
-            Err(Halt::Blocked) => {
-                self.is_readable = false;
-                Filled::Nothing
-            }
-            Err(Halt::Closed) => Filled::Closed,
-        }
-    }
-
-    // Hands bytes to the feeder, and keeps those that it has no room for.
-    fn feed(&mut self, feeder: &mut Feeder, bytes: &[u8]) -> Filled {
-        if bytes.is_empty() {
-            self.is_readable = false;
+        let Some(feeder) = &mut self.feeder else {
             return Filled::Nothing;
+        };
+        let filled = receive::<K, C, P>(port, connection, chunk, feeder, &mut self.rest);
+        match filled {
+            Filled::Nothing => self.is_readable = false,
+            Filled::NoMemory => self.is_lost = true,
+            Filled::More | Filled::Closed => {}
         }
-        let count = feeder.feed(bytes);
-        match self.rest.push(&bytes[count..]) {
+        filled
+    }
+}
+
+// Hands the feeder what it had no room for before, or else what the port gives. For want of memory some of it is lost.
+fn receive<K: Kind, C: Connection, P: Carries<K, Connection = C>>(
+    port: &mut P,
+    connection: &mut C,
+    chunk: &mut [u8],
+    feeder: &mut Feeder,
+    rest: &mut Pending,
+) -> Filled
+    ensures given { (given : List Item)
+        → AreGiven (C.received connection.old) given (Kept feeder.old rest.old)
+        → result ≢ filled.NoMemory
+        → AreGiven (C.received connection.new) given (Kept feeder.new rest.new) }
+    ensures lost { (given : List Item)
+        → AreGiven (C.received connection.old) given Lost
+        → AreGiven (C.received connection.new) given Lost }
+    ensures sent { C.sent connection.new ≡ C.sent connection.old }
+{
+    if !rest.is_empty() {
+        feed_rest(feeder, rest);
+        return Filled::More;
+    }
+    match port.receive(connection, chunk) {
+        Ok(0) | Err(Halt::Blocked) => Filled::Nothing,
+        Ok(count) => match feed(feeder, rest, &chunk[..count]) {
             Ok(()) => Filled::More,
             Err(NoMemory) => Filled::NoMemory,
-        }
+        },
+        Err(Halt::Closed) => Filled::Closed,
     }
+}
+
+// Hands the feeder as much as it has room for of what waits for it.
+fn feed_rest(feeder: &mut Feeder, rest: &mut Pending)
+    ensures { (more : List ℕ)
+        → items_from feeder.new (rest.new ++ more) ≡ items_from feeder.old (rest.old ++ more) }
+{
+    let count = feeder.feed(rest.as_bytes());
+    rest.take(count);
+}
+
+// Hands bytes to the feeder, and keeps those that it has no room for.
+fn feed(feeder: &mut Feeder, rest: &mut Pending, bytes: &[u8]) -> Result<(), NoMemory>
+    requires { rest.old ≡ [] }
+    ensures { IfOk result (λ _. (more : List ℕ)
+        → items_from feeder.new (rest.new ++ more) ≡ items_from feeder.old (bytes.now ++ more)) }
+{
+    let count = feeder.feed(bytes);
+    rest.push(&bytes[count..])?;
+    Ok(())
 }

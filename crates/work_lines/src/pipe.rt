@@ -1,7 +1,10 @@
 //! Any connection of a worker.
-ghost use Rattle.std.specs.Prelude.{◌≡◌, ◌++◌, [], IfOk, OnErr, length};
+ghost use Rattle.std.specs.Prelude.{◌≡◌, ◌++◌, List, [], IfOk, OnErr, length};
 ghost use Rattle.bnc_ports.specs.Outgoing.{BeginsOf};
+ghost use Rattle.irc_line.specs.Stream.{Item};
+ghost use Rattle.work_lines.specs.Incoming.{AreGiven, Lost};
 ghost use Rattle.work_lines.specs.Outgoing.{handed};
+ghost use Rattle.work_lines.specs.declared.input.Filled.TheVariants as filled;
 
 use crate::feeders::Feeders;
 use crate::input::{Filled, Input};
@@ -29,7 +32,8 @@ pub enum Pumped {
     NoMemory,
 }
 
-/// A connection, and what is owed to it. Contracts see the bytes that were sent over it, and those that are owed.
+/// A connection, and what is owed to it. Contracts see the bytes that came over it, those that were sent over it, and those
+/// that are owed.
 #[derive(Drop)]
 pub struct Pipe<C: Connection> {
     connection: C,
@@ -38,16 +42,21 @@ pub struct Pipe<C: Connection> {
 }
 
 impl<C: Connection> Model for Pipe<C> {
-    ghost use Rattle.work_lines.specs.Outgoing.{Outgoing};
+    ghost use Rattle.work_lines.specs.Outgoing.{Traffic};
 
-    ghost Value = { Outgoing };
+    ghost Value = { Traffic };
 
-    ghost view = { λ p. record { sent = C.sent p.connection; owed = p.output } };
+    ghost view = { λ p. record {
+      received = C.received p.connection;
+      sent = C.sent p.connection;
+      owed = p.output;
+    } };
 }
 
 impl<C: Connection> Pipe<C> {
     /// A connection to which nothing is owed. There may be room for bytes. It takes no memory.
     pub fn new(alloc: Global, connection: C) -> Pipe<C>
+        ensures received { result.received ≡ C.received connection }
         ensures sent { result.sent ≡ C.sent connection }
         ensures owed { result.owed ≡ [] }
     {
@@ -99,6 +108,7 @@ impl<C: Connection> Pipe<C> {
     /// Bytes are owed, behind the others. For want of memory nothing changes.
     pub fn owe(&mut self, bytes: &[u8]) -> Result<(), NoMemory>
         ensures owed { IfOk result (λ _. self.new.owed ≡ self.old.owed ++ bytes.now) }
+        ensures received { self.new.received ≡ self.old.received }
         ensures sent { self.new.sent ≡ self.old.sent }
         ensures err { OnErr result (self.new ≡ self.old) }
     {
@@ -111,6 +121,7 @@ impl<C: Connection> Pipe<C> {
         requires { self.old.owed ≡ [] }
         ensures handed { handed self.new ++ (X.state attachment.new).owed
             ≡ handed self.old ++ (X.state attachment.old).owed }
+        ensures received { self.new.received ≡ self.old.received }
         ensures err { OnErr result ((self.new ≡ self.old) × (attachment.new ≡ attachment.old)) }
     {
         self.output.refill(attachment)
@@ -118,8 +129,9 @@ impl<C: Connection> Pipe<C> {
 
     /// Sends what is owed, by one write.
     pub fn pump<K: Kind, P: Carries<K, Connection = C>>(&mut self, port: &mut P) -> Pumped
-        requires { ∥ BeginsOf K.may_be_told (handed self.old) ∥₁ }
-        ensures { handed self.new ≡ handed self.old }
+        requires { ∥ BeginsOf (K.may_be_told self.old.received) (handed self.old) ∥₁ }
+        ensures handed { handed self.new ≡ handed self.old }
+        ensures received { self.new.received ≡ self.old.received }
     {
         if self.output.is_empty() {
             return Pumped::All;
@@ -152,7 +164,11 @@ impl<C: Connection> Pipe<C> {
         chunk: &mut [u8],
         feeders: &mut Feeders,
     ) -> Filled
-        ensures { self.new ≡ self.old }
+        ensures given { (given : List Item)
+            → AreGiven self.old.received given input.old
+            → AreGiven self.new.received given input.new }
+        ensures lost { input.new ≡ Lost → result ≡ filled.NoMemory }
+        ensures handed { handed self.new ≡ handed self.old }
     {
         input.fill::<K, C, P>(port, &mut self.connection, chunk, feeders)
     }

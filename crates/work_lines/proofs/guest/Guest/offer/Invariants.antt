@@ -4,4 +4,4 @@ use Rattle.work_lines.proofs.guest.Guest.offer.Given as goal
 
 abbrev pub invariant-loop : goal.invariant-loop
 invariant-loop g l =
-    (handed l.self.outgoing ≡ handed l.fn.self.outgoing) × (l.self.waiting ≡ l.fn.self.waiting)
+    (handed l.self.traffic ≡ handed l.fn.self.traffic) × (l.self.waiting ≡ l.fn.self.waiting) × (l.self.traffic.received ≡ l.fn.self.traffic.received)

@@ -1,9 +1,11 @@
 use Rattle.std.proofs.Math.Logic.{∥∥₁_map}
 use Rattle.work_lines.specs.Outgoing.{handed}
-use Rattle.work_lines.proofs.BeginsLemmas.{without_waiting}
+use Rattle.work_lines.proofs.BeginsLemmas.{without_waiting, over_same}
 use Rattle.work_lines.proofs.guest.Guest.pump.Goals as goal
 
 pub write-requires : goal.write-requires
 write-requires g c =
     let o = c.offer_waiting in
-    ∥∥₁_map c.requires (without_waiting (handed c.args.self.now.outgoing) c.args.self.now.waiting o.ensures.moved o.new.self.waiting (handed o.new.self.outgoing) o.ensures.waited o.ensures.went)
+    let moves = o.ensures.moves in
+    ∥∥₁_map c.requires (λ k. over_same g.K.Kind.may_be_told _ _ _ o.ensures.received
+    (without_waiting (handed c.args.self.now.traffic) c.args.self.now.waiting moves.moved o.new.self.waiting (handed o.new.self.traffic) moves.waited moves.went k))
