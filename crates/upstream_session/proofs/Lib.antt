@@ -2,3 +2,7 @@ mod CourseLemmas
 mod EventLemmas
 mod SentLemmas
 mod LinesLemmas
+mod JoinLemmas
+mod ChannelLemmas
+mod RefusalLemmas
+mod PassingLemmas

@@ -142,6 +142,15 @@ join u line bytes =
     stays (if is_up_and_own u line then join_if u (first_target line.parameters) else u)
     (pass_on u line bytes)
 
+-- the channel that the session itself joins by a JOIN
+abbrev pub own_join : Connection → Reading → Option (List ℕ)
+own_join u line = if is_up_and_own u line then first_target line.parameters else None
+
+-- the channel that it joins by a line of that command
+abbrev pub joined_by : Connection → Reading → ServerCommand → Option (List ℕ)
+joined_by u line Join = own_join u line
+joined_by u line _ = None
+
 -- PART
 abbrev pub part : Connection → Reading → List ℕ → ServerStep
 part u line bytes =

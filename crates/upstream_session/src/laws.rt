@@ -1,12 +1,17 @@
 //! What holds of every list of lines of a server and of lines for it, each with its moment.
-ghost use Rattle.std.specs.Prelude.{◌≡◌, ◌≤◌, ◌+◌, ◌⊎◌, [], List, ℕ, true, false};
+ghost use Rattle.std.specs.Prelude.{◌≡◌, ◌≤◌, ◌+◌, ◌⊎◌, [], List, ℕ, true, false, None, Some};
 ghost use Rattle.std.specs.List.{AllByRecursion, IsDistinct};
 ghost use Rattle.std.specs.Str.{bytes_eq};
+ghost use Rattle.irc_line.specs.declared.line.TagLimit.TheVariants.{Server};
+ghost use Rattle.irc_line.specs.Read.{read};
+ghost use Rattle.client_directory.specs.Entry.{after_join};
 ghost use Rattle.upstream_session.specs.Messages.{made_text};
 ghost use Rattle.upstream_session.specs.Step.{new};
 ghost use Rattle.upstream_session.specs.Sayings.{without_ending};
-ghost use Rattle.upstream_session.specs.Session.{start, say};
-ghost use Rattle.upstream_session.specs.Events.{ServerEvent, after, effects_of, run, all_effects, IsOwnEffect, IsUnheard, IsWelcome, id_given, IsIdOf, HasPost, ids_made, tags_given, HasTags, IsSentAsKept, HasClose, EndsAtClose};
+ghost use Rattle.upstream_session.specs.Session.{start, say, joined, JoinsNone};
+ghost use Rattle.upstream_session.specs.Refusal.{refuses, refusal_after, IsShown};
+ghost use Rattle.upstream_session.specs.Passing.{is_passed_on, IsRelayAtMost};
+ghost use Rattle.upstream_session.specs.Events.{ServerEvent, Line, after, effects_of, run, all_effects, IsOwnEffect, IsUnheard, IsWelcome, id_given, IsIdOf, HasPost, ids_made, tags_given, HasTags, IsSentAsKept, HasClose, EndsAtClose};
 ghost use Rattle.upstream_session.specs.Standing.{WritesOneLine, ConfigStands, EntryStands, EventStands};
 ghost use Rattle.upstream_session.specs.declared.config.Config.{Config};
 ghost use Rattle.upstream_session.specs.declared.connection.Connection.{Connection};
@@ -90,4 +95,38 @@ pub fn entries_stand()
     ensures { (config : Config) (node : List ℕ) (incarnation first_serial : ℕ)
         (events : List ServerEvent) → ConfigStands config
         → EntryStands (run (new config node incarnation first_serial) events).entry }
+{}
+
+/// A session says of each line of the server by which it joins a channel that it does. Where it says so, that line adds this
+/// channel to it and changes nothing else of it, and it says the same once the line was taken. Any other line joins none.
+pub fn what_is_joined_is_told()
+    ensures joined { (u : Connection) (now : ℕ) (bytes channel : List ℕ)
+        → joined u bytes ≡ Some channel
+        → after u (Line now bytes) ≡ record u { entry = after_join u.entry channel } }
+    ensures later { (u : Connection) (now : ℕ) (bytes channel : List ℕ)
+        → joined u bytes ≡ Some channel
+        → joined (after u (Line now bytes)) bytes ≡ Some channel }
+    ensures others { (u : Connection) (now : ℕ) (bytes : List ℕ) → joined u bytes ≡ None
+        → JoinsNone u.entry.channels (after u (Line now bytes)).entry.channels }
+{}
+
+/// The words by which a server refused its session change by ERROR and 465 alone, and by 432 before the network is up (RFC 2812,
+/// sections 3.7.4 and 5.2), and are at most 200 bytes of printable ASCII.
+pub fn refusals_are_few_printable_words()
+    ensures others { (u : Connection) (before bytes : List ℕ)
+        → refuses u.entry.is_up (read Server bytes) ≡ false → refusal_after u before bytes ≡ before }
+    ensures first { IsShown [] }
+    ensures shown { (u : Connection) (before bytes : List ℕ)
+        → IsShown before → IsShown (refusal_after u before bytes) }
+{}
+
+/// A line that is only passed on leaves the session and the words of its refusal as they were, and comes to nothing but that one
+/// line for clients at most.
+pub fn what_is_only_passed_on_changes_nothing()
+    ensures session { (u : Connection) (now : ℕ) (bytes : List ℕ)
+        → is_passed_on bytes ≡ true → after u (Line now bytes) ≡ u }
+    ensures refusal { (u : Connection) (before bytes : List ℕ)
+        → is_passed_on bytes ≡ true → refusal_after u before bytes ≡ before }
+    ensures effects { (u : Connection) (now : ℕ) (bytes : List ℕ)
+        → is_passed_on bytes ≡ true → IsRelayAtMost (effects_of u (Line now bytes)) }
 {}

@@ -349,6 +349,28 @@ impl Connection {
         Ok(effects)
     }
 
+    // The channel that the session itself joins by a JOIN.
+    fn own_join<'a>(&self, line: &Line<'a>) -> Option<&'a [u8]>
+        ensures { option_copied result ≡ spec.own_join self.now line.now }
+    {
+        if self.is_up_and_own(line) {
+            first_target(line.parameters())
+        } else {
+            None
+        }
+    }
+
+    /// The channel that the session itself joins by a line of the server.
+    pub(crate) fn joined<'a>(&self, line: &Line<'a>) -> Option<&'a [u8]>
+        ensures { option_copied result
+            ≡ spec.joined_by self.now line.now (command_of line.now.command) }
+    {
+        match command_of(line.command()) {
+            ServerCommand::Join => self.own_join(line),
+            _ => None,
+        }
+    }
+
     fn leave(&mut self, parameters: &[&[u8]])
         ensures { self.new ≡ spec.leave self.old (map (λ p. p.now) parameters.now) }
     {

@@ -1,5 +1,9 @@
 //! Sessions with servers.
-ghost use Rattle.std.specs.Prelude.{◌≡◌, IfOk, OnErr};
+ghost use Rattle.std.specs.Prelude.{◌≡◌, [], IfOk, OnErr};
+ghost use Rattle.std.specs.Option.{option_copied};
+ghost use Rattle.upstream_session.specs.Command.{command_of};
+ghost use Rattle.upstream_session.specs.Refusal.{after_line, refusal_after};
+ghost use Rattle.upstream_session.specs.Rows.{serve};
 ghost use Rattle.upstream_session.specs.Session as spec;
 ghost use Rattle.upstream_session.specs.Step as steps;
 
@@ -7,13 +11,14 @@ use crate::config::Config;
 use crate::connection::{Connection, Home};
 use crate::effect::UpEffect;
 use crate::effects::{push, send};
+use crate::refusal::Refusal;
 use crate::sayings::without_ending;
 use crate::scratch::Scratch;
 use byte_text::{NoMemory, Text};
 use chat_change::Moment;
 use client_directory::Entry;
 use irc_caps::CapSet;
-use irc_line::{TagLimit, read_line};
+use irc_line::{Line, TagLimit, read_line};
 use irc_reply::to_server::{ls_line, nick_line, user_line};
 use std::alloc::Global;
 use std::marker::Model;
@@ -22,15 +27,16 @@ use std::marker::Model;
 #[derive(Drop)]
 pub struct Upstream {
     connection: Connection,
+    refusal: Refusal,
     scratch: Scratch,
 }
 
 impl Model for Upstream {
-    ghost use Rattle.upstream_session.specs.declared.connection.Connection.{Connection as Kept};
+    ghost use Rattle.upstream_session.specs.Refusal.{Session};
 
-    ghost Value = { Kept };
+    ghost Value = { Session };
 
-    ghost view = { λ u. u.connection };
+    ghost view = { λ u. record { connection = u.connection; refusal = u.refusal } };
 }
 
 impl Upstream {
@@ -43,7 +49,8 @@ impl Upstream {
         incarnation: u64,
         first_serial: u64,
     ) -> Upstream
-        ensures { result ≡ steps.new config node incarnation first_serial }
+        ensures connection { result.connection ≡ steps.new config node incarnation first_serial }
+        ensures refusal { result.refusal ≡ [] }
     {
         Upstream {
             connection: Connection {
@@ -62,13 +69,14 @@ impl Upstream {
                 tries: 0,
                 is_closed: false,
             },
+            refusal: Refusal::none(),
             scratch: Scratch::new(alloc),
         }
     }
 
     /// The serial number of the next id that is made.
     pub fn serial(&self) -> u64
-        ensures { result ≡ self.now.serial }
+        ensures { result ≡ self.now.connection.serial }
     {
         self.connection.serial
     }
@@ -76,13 +84,13 @@ impl Upstream {
     /// How the session stands: whether the network is up, the present nick, the channels, and whether the server takes
     /// REDACT.
     pub fn entry(&self) -> &Entry
-        ensures { result.now ≡ self.now.entry }
+        ensures { result.now ≡ self.now.connection.entry }
     {
         &self.connection.entry
     }
 
     fn opening(&self, alloc: Global) -> Result<Vec<UpEffect>, NoMemory>
-        ensures { IfOk result (λ list. list.items ≡ spec.opening self.now) }
+        ensures { IfOk result (λ list. list.items ≡ spec.opening self.now.connection) }
     {
         let text = ls_line(alloc)?;
         let mut list = send(alloc, text)?;
@@ -95,7 +103,7 @@ impl Upstream {
 
     /// What a new session begins with: it asks for the server's capabilities, and for its nick and its user name.
     pub fn start(&self, alloc: Global) -> Result<Vec<UpEffect>, NoMemory>
-        ensures { IfOk result (λ list. list.items ≡ spec.start self.now) }
+        ensures { IfOk result (λ list. list.items ≡ spec.start self.now.connection) }
     {
         if self.connection.is_closed {
             Ok(Vec::new(alloc))
@@ -119,8 +127,11 @@ impl Upstream {
         bytes: &[u8],
         now: Moment,
     ) -> Result<Vec<UpEffect>, NoMemory>
-        ensures step { IfOk result (λ list. record { session = self.new; effects = list.items }
-            ≡ spec.step self.old now bytes.now) }
+        ensures step { IfOk result (λ list.
+            record { session = self.new.connection; effects = list.items }
+            ≡ spec.step self.old.connection now bytes.now) }
+        ensures refusal { IfOk result (λ _. self.new.refusal
+            ≡ refusal_after self.old.connection self.old.refusal bytes.now) }
         ensures err { OnErr result (self.new ≡ self.old) }
     {
         if self.connection.is_closed {
@@ -128,9 +139,53 @@ impl Upstream {
         }
         match read_line(bytes, TagLimit::Server) {
             Err(_) => Ok(Vec::new(alloc)),
-            Ok(line) => self
-                .connection
-                .serve(alloc, &mut self.scratch, now, bytes, &line),
+            Ok(line) => self.hear(alloc, bytes, now, &line),
+        }
+    }
+
+    // What a line of the server that was read comes to.
+    fn hear(
+        &mut self,
+        alloc: Global,
+        bytes: &[u8],
+        now: Moment,
+        line: &Line<'_>,
+    ) -> Result<Vec<UpEffect>, NoMemory>
+        ensures step { IfOk result (λ list.
+            record { session = self.new.connection; effects = list.items }
+            ≡ serve self.old.connection now bytes.now line.now (command_of line.now.command)) }
+        ensures refusal { IfOk result (λ _. self.new.refusal
+            ≡ after_line self.old.connection.entry.is_up self.old.refusal line.now) }
+        ensures err { OnErr result (self.new ≡ self.old) }
+    {
+        let is_up = self.connection.entry.is_up();
+        let effects = self
+            .connection
+            .serve(alloc, &mut self.scratch, now, bytes, line)?;
+        self.refusal.hear(is_up, line);
+        Ok(effects)
+    }
+
+    /// What the server said last as it refused the session, by ERROR or 465, or by 432 before the network was up (RFC 2812,
+    /// sections 3.7.4 and 5.2): the first 200 bytes of the last parameter, with `?` for each that isn't printable ASCII. Empty
+    /// where it said nothing of the kind.
+    pub fn refusal(&self) -> &[u8]
+        ensures { result.now ≡ self.now.refusal }
+    {
+        self.refusal.as_bytes()
+    }
+
+    /// The channel that the session itself joins by a line of the server, where it joins one ([`step`](Upstream::step)). The
+    /// line stands without its ending. It may be asked before that step or after it, and takes no memory.
+    pub fn joined<'a>(&self, bytes: &'a [u8]) -> Option<&'a [u8]>
+        ensures { option_copied result ≡ spec.joined self.now.connection bytes.now }
+    {
+        if self.connection.is_closed {
+            return None;
+        }
+        match read_line(bytes, TagLimit::Server) {
+            Err(_) => None,
+            Ok(line) => self.connection.joined(&line),
         }
     }
 
@@ -146,8 +201,10 @@ impl Upstream {
         bytes: &[u8],
         now: Moment,
     ) -> Result<Vec<UpEffect>, NoMemory>
-        ensures step { IfOk result (λ list. record { session = self.new; effects = list.items }
-            ≡ spec.say self.old now bytes.now) }
+        ensures step { IfOk result (λ list.
+            record { session = self.new.connection; effects = list.items }
+            ≡ spec.say self.old.connection now bytes.now) }
+        ensures refusal { self.new.refusal ≡ self.old.refusal }
         ensures err { OnErr result (self.new ≡ self.old) }
     {
         if self.connection.is_closed {
