@@ -1,9 +1,12 @@
 //! Sessions with networks' servers, each with whose it is.
-ghost use Rattle.std.specs.Prelude.{◌≡◌, ◌↔◌, IsTrue, IfOk, IfSome, OnErr};
+ghost use Rattle.std.specs.Prelude.{◌≡◌, ◌↔◌, IsTrue, IfOk, IfErr, IfNone, IfSome, OnErr};
+ghost use Rattle.std.specs.Option.{option_copied};
+ghost use Rattle.chat_change.specs.Record.{Record as Message};
 ghost use Rattle.chat_change.specs.declared.change.Change.TheVariants.{Post};
 ghost use Rattle.upstream_session.specs.Events.{Line, Saying, effects_of};
 ghost use Rattle.upstream_session.specs.Session as session;
 ghost use Rattle.passed_lines.specs.OwnSession as spec;
+ghost use Rattle.passed_lines.specs.OwnSession.{IsOf};
 ghost use Rattle.passed_lines.specs.Passing.{IsLineFor};
 
 use crate::effects::{ServerEffects, ServerPut};
@@ -46,11 +49,12 @@ impl Model for NetworkSession {
     ghost view = { λ s. record {
       account = s.account;
       network = s.network;
-      connection = s.session;
+      connection = s.session.connection;
+      refusal = s.session.refusal;
     } };
 
     // It came to this by lines of its server and lines of its own clients.
-    ghost invariant = { λ s. ∥ IsSessionOf s.account s.network s.session ∥₁ };
+    ghost invariant = { λ s. ∥ IsSessionOf s.account s.network s.session.connection ∥₁ };
 }
 
 impl NetworkSession {
@@ -85,6 +89,21 @@ impl NetworkSession {
         ensures { result.now ≡ self.now.connection.entry }
     {
         self.session.entry()
+    }
+
+    /// What the server said last as it refused the session ([`Upstream::refusal`]). Empty where it didn't.
+    pub fn refusal(&self) -> &[u8]
+        ensures { result.now ≡ self.now.refusal }
+    {
+        self.session.refusal()
+    }
+
+    /// The channel that the session itself joins by a line of the server ([`Upstream::joined`]). It may be asked before the line
+    /// is taken or after it.
+    pub fn joined<'a>(&self, bytes: &'a [u8]) -> Option<&'a [u8]>
+        ensures { option_copied result ≡ session.joined self.now.connection bytes.now }
+    {
+        self.session.joined(bytes)
     }
 
     /// How the session stands now, with whose it is.
@@ -143,6 +162,8 @@ impl NetworkSession {
         ensures effects { IfOk result (λ effects.
             effects ≡ effects_of self.old.connection (Saying now said.now.text.now)) }
         ensures err { OnErr result (self.new ≡ self.old) }
+        ensures other { IfErr result (λ fault. fault ≡ SayFault.OtherServer →
+            ¬ IsOf self.old said.now.account.now said.now.network.now) }
     {
         if !self.is_of(said.account, said.network) {
             return Err(SayFault::OtherServer);
@@ -177,6 +198,8 @@ impl NetworkSession {
         ensures account { IfSome result (λ live. live.account.now ≡ put.now.account.now) }
         ensures network { IfSome result (λ live. live.network.now ≡ put.now.network.now) }
         ensures message { IfSome result (λ live. put.now.change.now ≡ Post live.message.now) }
+        ensures none { IfNone result ((message : Message) → put.now.change.now ≡ Post message →
+            ¬ IsOf self.now put.now.account.now put.now.network.now) }
     {
         let message = message_of(put.change)?;
         if !self.is_of(put.account.as_bytes(), put.network.as_bytes()) {
@@ -199,8 +222,7 @@ impl NetworkSession {
 
     // Whether these are the names of its account and its network.
     fn is_of(&self, account: &[u8], network: &[u8]) -> bool
-        ensures { IsTrue result ↔ ((self.now.account ≡ account.now)
-            × (self.now.network ≡ network.now)) }
+        ensures { IsTrue result ↔ IsOf self.now account.now network.now }
     {
         self.account.as_bytes() == account && self.network.as_bytes() == network
     }
@@ -218,7 +240,8 @@ impl NetworkSession {
 
 // The message that is posted.
 fn message_of(change: &Change) -> Option<&Record>
-    ensures { IfSome result (λ message. change.now ≡ Post message.now) }
+    ensures some { IfSome result (λ message. change.now ≡ Post message.now) }
+    ensures none { IfNone result ((message : Message) → ¬ (change.now ≡ Post message)) }
 {
     match change {
         Change::Post(message) => Some(message),

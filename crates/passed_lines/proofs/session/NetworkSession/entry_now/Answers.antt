@@ -7,7 +7,7 @@ use Rattle.passed_lines.proofs.session.NetworkSession.entry_now.Goals as goal
 
 pub invariant_of-result : goal.invariant_of-result
 invariant_of-result c = record {
-  is_theirs = ∥∥₁_map c.self.invariant (nick_now {session = c.self.inside.session}
+  is_theirs = ∥∥₁_map c.self.invariant (nick_now {session = c.self.inside.session.connection}
       (c.in_ok-account.ensures.account ∙ ap (λ (s : OwnSession). s.account) (sym c.self.view_is))
       (c.in_ok-account.ensures.network ∙ ap (λ (s : OwnSession). s.network) (sym c.self.view_is))
       (ap (λ (e : Entry). e.nick) (c.in_ok-entry.ensures ∙ c.entry.ensures)));
