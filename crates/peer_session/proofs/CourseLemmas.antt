@@ -1,5 +1,5 @@
 -- What happens on a connection in turn, event by event.
-use Rattle.std.proofs.Common.{◌≡◌, ℕ, ◌+◌, ◌-◌, Bool, true, false, cond, ◌&&◌, ◌||◌, List, [], ◌∷◌, Option, Some, None, refl, sym, ap, ◌∙◌, nat_le, nat_lt, min, arith, add-zero, add_assoc}
+use Rattle.std.proofs.Common.{◌≡◌, ℕ, ◌+◌, ◌-◌, Bool, true, false, cond, not, ◌&&◌, ◌||◌, List, [], ◌∷◌, Option, Some, None, refl, sym, ap, ◌∙◌, nat_le, nat_lt, min, arith, add-zero, add_assoc}
 use Rattle.std.specs.List.{list_any, count_by}
 use Rattle.std.specs.Option.{is_none}
 use Rattle.std.proofs.lemmas.List.Sums.{sum_by-cons}
@@ -9,7 +9,7 @@ use Rattle.peer_session.specs.declared.pace.Pace.{Pace}
 use Rattle.peer_session.specs.declared.pace.UnderWay.{UnderWay}
 use Rattle.peer_session.specs.declared.pace.TheConstants.{ACK_WAIT_MS, MOST_UNANSWERED}
 use Rattle.peer_session.specs.Pace as pace
-use Rattle.peer_session.specs.Course.{Event, after, after_all, is_hello, is_acknowledgement, is_making, is_packet, ends_wait}
+use Rattle.peer_session.specs.Course.{Event, after, after_all, is_hello, is_acknowledgement, is_making, is_packet, is_news, finds_nothing, ends_wait}
 use Rattle.peer_session.specs.Course as event
 
 -- ---- hellos
@@ -29,14 +29,17 @@ greeted_after (event.Made (Some to) now) p h = refl
 and_no : (a b : Bool) → a ≡ false → (a && b) ≡ false
 and_no a b h = rw h
 
-not_due : (events : List Event) (p : Pace) → p.is_greeted ≡ false → list_any is_hello events ≡ false → pace.is_due (after_all events p) ≡ false
-not_due [] p g h = and_no p.is_greeted _ g
-not_due (e ∷ events) p g h =
+never_greeted : (events : List Event) (p : Pace) → p.is_greeted ≡ false → list_any is_hello events ≡ false → (after_all events p).is_greeted ≡ false
+never_greeted [] p g h = g
+never_greeted (e ∷ events) p g h =
     let parts = or_parts (is_hello e) (list_any is_hello events) h in
-    not_due events (after e p) (greeted_after e p parts.0 ∙ g) parts.1
+    never_greeted events (after e p) (greeted_after e p parts.0 ∙ g) parts.1
 
 pub nothing_before : (events : List Event) → list_any is_hello events ≡ false → pace.is_due (after_all events pace.new) ≡ false
-nothing_before events h = not_due events pace.new refl h
+nothing_before events h = and_no (after_all events pace.new).is_greeted _ (never_greeted events pace.new refl h)
+
+pub not_caught_up_before : (events : List Event) → list_any is_hello events ≡ false → pace.is_caught_up (after_all events pace.new) ≡ false
+not_caught_up_before events h = and_no (after_all events pace.new).is_greeted _ (never_greeted events pace.new refl h)
 
 -- ---- one packet at a time
 
@@ -101,6 +104,52 @@ is_remembered [] p g w h n = due_by p.is_greeted p.is_wanted p.under_way g w n
 is_remembered (e ∷ events) p g w h n =
     let parts = or_parts (is_making e) (list_any is_making events) h in
     is_remembered events (after e p) (stays_greeted e p parts.0 g) (wanted_after e p parts.0 w) parts.1 n
+
+-- ---- what is left for the peer
+
+-- something may be new, or a packet is under way
+abbrev some_left : Bool → Option UnderWay → Bool
+some_left wanted None = wanted
+some_left wanted (Some packet) = true
+
+wanted_left : (o : Option UnderWay) → some_left true o ≡ true
+wanted_left None = refl
+wanted_left (Some packet) = refl
+
+left_by_news : (e : Event) (p : Pace) → is_news e ≡ true → some_left (after e p).is_wanted (after e p).under_way ≡ true
+left_by_news event.Greeted p h = wanted_left p.under_way
+left_by_news event.Published p h = wanted_left p.under_way
+left_by_news (event.Acknowledged upto) p h = wanted_left (pace.left_by upto p.under_way)
+left_by_news (event.Ticked now) p h = absurd (cc)
+left_by_news (event.Made None now) p h = absurd (cc)
+left_by_news (event.Made (Some to) now) p h = refl
+
+given_up_left : (b : Bool) (p : Pace) → some_left p.is_wanted p.under_way ≡ true → let q = cond b (record p { is_wanted = true; under_way = None }) p in some_left q.is_wanted q.under_way ≡ true
+given_up_left true p h = refl
+given_up_left false p h = h
+
+stays_left : (e : Event) (p : Pace) → finds_nothing e ≡ false → some_left p.is_wanted p.under_way ≡ true → some_left (after e p).is_wanted (after e p).under_way ≡ true
+stays_left event.Greeted p h l = wanted_left p.under_way
+stays_left event.Published p h l = wanted_left p.under_way
+stays_left (event.Acknowledged upto) p h l = wanted_left (pace.left_by upto p.under_way)
+stays_left (event.Ticked now) p h l = given_up_left (pace.has_waited now p.under_way && nat_lt p.unanswered MOST_UNANSWERED) p l
+stays_left (event.Made None now) p h l = absurd (cc)
+stays_left (event.Made (Some to) now) p h l = refl
+
+not_caught_up : (a b : Bool) (o : Option UnderWay) → some_left b o ≡ true → (a && (not b && is_none o)) ≡ false
+not_caught_up true true o h = refl
+not_caught_up true false None h = absurd (cc)
+not_caught_up true false (Some packet) h = refl
+not_caught_up false b o h = refl
+
+never_caught_up : (events : List Event) (p : Pace) → some_left p.is_wanted p.under_way ≡ true → list_any finds_nothing events ≡ false → pace.is_caught_up (after_all events p) ≡ false
+never_caught_up [] p l h = not_caught_up p.is_greeted p.is_wanted p.under_way l
+never_caught_up (e ∷ events) p l h =
+    let parts = or_parts (finds_nothing e) (list_any finds_nothing events) h in
+    never_caught_up events (after e p) (stays_left e p parts.0 l) parts.1
+
+pub not_caught_up_after : (p : Pace) (e : Event) (events : List Event) → is_news e ≡ true → list_any finds_nothing events ≡ false → pace.is_caught_up (after_all events (after e p)) ≡ false
+not_caught_up_after p e events news h = never_caught_up events (after e p) (left_by_news e p news) h
 
 -- ---- packets without an acknowledgement
 

@@ -1,5 +1,5 @@
 -- What happens on one connection, in turn, and when packets are made meanwhile.
-use Rattle.std.specs.Prelude.{ℕ, ◌-◌, Bool, true, false, Option, Some, List, [], ◌∷◌, nat_le}
+use Rattle.std.specs.Prelude.{ℕ, ◌-◌, Bool, true, false, Option, Some, None, List, [], ◌∷◌, nat_le}
 use Rattle.peer_session.specs.declared.pace.Pace.{Pace}
 use Rattle.peer_session.specs.declared.pace.TheConstants.{ACK_WAIT_MS}
 use Rattle.peer_session.specs.Pace as pace
@@ -46,6 +46,20 @@ is_making _ = false
 abbrev pub is_packet : Event → Bool
 is_packet (Made (Some to) now) = true
 is_packet _ = false
+
+-- something may be new for the peer, or a packet is under way
+abbrev pub is_news : Event → Bool
+is_news Greeted = true
+is_news Published = true
+is_news (Acknowledged upto) = true
+is_news (Ticked now) = false
+is_news (Made None now) = false
+is_news (Made (Some to) now) = true
+
+-- a packet was to be made, and there was none since nothing was new
+abbrev pub finds_nothing : Event → Bool
+finds_nothing (Made None now) = true
+finds_nothing _ = false
 
 -- of a packet up to a number that was made at a moment: it is acknowledged, or has waited long enough
 abbrev pub ends_wait : ℕ → ℕ → Event → Bool

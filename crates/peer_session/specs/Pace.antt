@@ -1,5 +1,5 @@
 -- When packets are made for a peer, over one connection.
-use Rattle.std.specs.Prelude.{ℕ, ◌+◌, ◌-◌, ◌^◌, Bool, true, false, ◌&&◌, Option, Some, None, nat_le, nat_lt, is_none, if◌then◌else◌}
+use Rattle.std.specs.Prelude.{ℕ, ◌+◌, ◌-◌, ◌^◌, Bool, true, false, not, ◌&&◌, Option, Some, None, nat_le, nat_lt, is_none, if◌then◌else◌}
 use Rattle.peer_session.specs.declared.pace.Pace.{Pace}
 use Rattle.peer_session.specs.declared.pace.UnderWay.{UnderWay}
 use Rattle.peer_session.specs.declared.pace.TheConstants.{ACK_WAIT_MS, MOST_UNANSWERED}
@@ -11,6 +11,11 @@ new = record { is_greeted = false; is_wanted = false; under_way = None; unanswer
 -- a packet is to be made: the peer said hello, something may be new for it, and none is under way
 abbrev pub is_due : Pace → Bool
 is_due p = p.is_greeted && (p.is_wanted && is_none p.under_way)
+
+-- the peer said hello, and nothing is left for it: no packet is under way, nothing was new when the last one was to be made, and
+-- nothing happened since by which something may be
+abbrev pub is_caught_up : Pace → Bool
+is_caught_up p = p.is_greeted && (not p.is_wanted && is_none p.under_way)
 
 -- ---- what the peer says, and what is published
 

@@ -38,6 +38,16 @@ pub fn no_publish_is_forgotten()
         pace.is_due (course.after_all events (pace.published p)) ≡ true }
 {}
 
+/// A peer has caught up only once it has said hello. And whenever it says hello, something is published, it acknowledges a
+/// number or a packet is made, it has caught up only once a further packet was to be made and nothing was new.
+pub fn caught_up_once_nothing_is_new()
+    ensures hello { (events : List course.Event) → list_any course.is_hello events ≡ false →
+        pace.is_caught_up (course.after_all events pace.new) ≡ false }
+    ensures news { (p : Pace) (event : course.Event) (events : List course.Event) →
+        course.is_news event ≡ true → list_any course.finds_nothing events ≡ false →
+        pace.is_caught_up (course.after_all (event ∷ events) p) ≡ false }
+{}
+
 /// A connection is closed exactly where three packets or more were made since the last acknowledgement, and the last of
 /// them has waited long enough.
 pub fn closed_after_three_packets()

@@ -79,6 +79,13 @@ impl Pace {
         self.is_greeted && self.is_wanted && self.under_way.is_none()
     }
 
+    /// Whether the peer said hello, nothing may be new for it, and no packet is under way.
+    pub(crate) fn is_caught_up(&self) -> bool
+        ensures { result ≡ spec.is_caught_up self.now }
+    {
+        self.is_greeted && !self.is_wanted && self.under_way.is_none()
+    }
+
     /// The peer said hello.
     pub(crate) fn greet(&mut self)
         ensures { self.new ≡ spec.greeted self.old }

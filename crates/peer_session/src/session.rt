@@ -193,6 +193,15 @@ impl PeerSession {
         is_over
     }
 
+    /// Whether the peer has caught up: it said hello, it acknowledged each packet that was made for it since, and when the last
+    /// one was to be made nothing was new. A peer for which no packets are made, as it speaks a lower version, has caught up
+    /// too.
+    pub fn is_caught_up(&self) -> bool
+        ensures { result ≡ pace.is_caught_up self.now.pace }
+    {
+        self.pace.is_caught_up()
+    }
+
     /// The moment at which the packet that is under way will have waited 60 seconds, where there is one.
     pub fn deadline(&self) -> Option<u64>
         ensures { result ≡ pace.deadline self.now.pace }
