@@ -2,8 +2,9 @@
 ghost use Rattle.std.specs.Prelude.{◌≡◌, IfOk};
 
 use crate::schedule::Schedule;
+use crate::shortage::Shortage;
 use crate::site::Site;
-use bnc_ports::{Clocks, Port};
+use bnc_ports::{Clocks, Event, Port};
 use byte_text::NoMemory;
 use chat_change::Moment;
 use shared_lines::{Lines, SharedLine};
@@ -12,6 +13,9 @@ use work_timers::Timer;
 
 /// So many bytes come in, or go out, at once.
 const CHUNK: usize = 16_384;
+
+/// So many bytes of memory are left for others by who asks whether there is room.
+const RESERVE: usize = 8 << 20;
 
 /// The port's clocks: the monotonic one in milliseconds, and the wall clock as a moment. None where they aren't read, or the
 /// wall clock lies beyond the moments that there are.
@@ -29,11 +33,16 @@ pub struct Desk<P> {
     pub site: Site,
     pub port: P,
     pub timers: Schedule,
+    /// How many connections were closed for want of memory.
+    pub shortage: Shortage,
     /// Room for bytes that come or go.
     pub chunk: Vec<u8>,
     /// Room for lines that come.
     pub feeders: Feeders,
     lines: Lines,
+    // Room for nothing, which shows that there is more. (A block that is given back where it was asked for would never be asked
+    // for in the built program.)
+    spare: Vec<u8>,
 }
 
 // So many timers must not be lost: two of each network, as its server is tried again or is silent; four of each peer, as it is
@@ -53,13 +62,16 @@ impl<P: Port> Desk<P> {
         let timers = Schedule::new(site.alloc, room_of(site.networks.len(), peers))?;
         let feeders = Feeders::new(site.alloc)?;
         let lines = Lines::new(site.alloc);
+        let spare = Vec::new(site.alloc);
         Ok(Desk {
             site,
             port,
             timers,
+            shortage: Shortage::new(),
             chunk,
             feeders,
             lines,
+            spare,
         })
     }
 
@@ -68,6 +80,33 @@ impl<P: Port> Desk<P> {
         ensures { IfOk result (λ line. line ≡ bytes.now) }
     {
         self.lines.share(self.site.alloc, bytes)
+    }
+
+    /// Whether there is memory beyond what is left for others. Who brings much without pause asks this now and then, so that
+    /// clients and quiet networks are served at the limit of the node's memory.
+    pub fn has_room(&mut self) -> bool {
+        self.spare = Vec::new(self.site.alloc);
+        match Vec::with_capacity(self.site.alloc, RESERVE) {
+            Ok(block) => {
+                self.spare = block;
+                true
+            }
+            Err(_) => false,
+        }
+    }
+
+    /// The operator is told of the event. Of connections that are closed for want of memory their number is told, once a minute.
+    pub fn report(&mut self, event: &Event<'_>) {
+        self.shortage.report(&mut self.port, event);
+    }
+
+    /// A turn of the worker begins. What it held to see whether there is room goes back, and the operator is told once a minute
+    /// how many connections were closed for want of memory, where some were.
+    pub fn begin_turn(&mut self) {
+        self.spare = Vec::new(self.site.alloc);
+        if let Some(count) = self.shortage.take(self.site.now) {
+            self.port.report(&Event::OutOfMemory { count });
+        }
     }
 
     /// Reads the port's clocks anew. False where [`clock`] tells nothing.

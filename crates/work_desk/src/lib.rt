@@ -2,8 +2,9 @@
 //!
 //! A [`Desk`] is lent to the part that has its turn: the servers, the clients or the peers. Its [`Site`] is what the node's
 //! configuration and directory say; its [`Schedule`] rings when a connection is to be tried again, is silent, or a floor is
-//! due; its lines are shared with other workers. [`Fate`] says whether a connection stays, and a [`ClockWatch`] whether the
-//! wall clock keeps time. It stands on `bnc_ports`, `work_lines` and `work_timers`. Read [`Desk`] first.
+//! due; its [`Shortage`] counts what is closed for want of memory; its lines are shared with other workers. [`Fate`] says
+//! whether a connection stays, and a [`ClockWatch`] whether the wall clock keeps time. It stands on `bnc_ports`, `work_lines`
+//! and `work_timers`. Read [`Desk`] first.
 #![tactic(auto)]
 
 mod clock_watch;
@@ -11,6 +12,7 @@ mod desk;
 mod fate;
 pub mod laws;
 mod schedule;
+mod shortage;
 mod site;
 mod waits;
 
@@ -18,5 +20,6 @@ pub use clock_watch::{BETWEEN_LOOKS, ClockWatch};
 pub use desk::{Desk, clock};
 pub use fate::Fate;
 pub use schedule::Schedule;
+pub use shortage::Shortage;
 pub use site::Site;
 pub use waits::{PATIENCE, RETRY};
