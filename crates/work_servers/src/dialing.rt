@@ -34,15 +34,29 @@ fn new_session(
     Ok((session, opening))
 }
 
-// The operator is told that the network is down, and a connection is tried again later.
-fn put_off<P: Port>(desk: &mut Desk<P>, network: usize, reason: Reason) {
-    let Desk { port, site, .. } = desk;
+// The words by which the server refused the session, if it did.
+fn words_of(session: &NetworkSession) -> Option<&[u8]> {
+    let words = session.refusal();
+    if words.is_empty() { None } else { Some(words) }
+}
+
+// The operator is told that the network is down, and by which words its server refused the session. A connection is tried again
+// later.
+fn put_off<P: Port>(desk: &mut Desk<P>, network: usize, reason: Reason, words: Option<&[u8]>) {
+    let Desk {
+        port,
+        site,
+        shortage,
+        ..
+    } = desk;
     if let Some(config) = site.networks.get(network) {
-        port.report(&Event::UpstreamDown {
+        let event = Event::UpstreamDown {
             account: config.account.as_bytes(),
             network: config.network.as_bytes(),
             reason,
-        });
+            words,
+        };
+        shortage.report(port, &event);
     }
     desk.set_timer(Timer::RetryNetwork(network), RETRY);
 }
@@ -68,7 +82,7 @@ impl<C: Connection> Servers<C> {
     /// A connection with a network's server could not be made: the operator is told, and it is tried again later.
     pub fn retry<P: Port>(&mut self, desk: &mut Desk<P>, network: usize) {
         self.set_line(network, None);
-        put_off(desk, network, Reason::Unreachable);
+        put_off(desk, network, Reason::Unreachable, None);
     }
 
     // The network's next session, for which there is room in the queue, what it begins with, and how it stands.
@@ -128,7 +142,7 @@ impl<C: Connection> Servers<C> {
             Err(connection) => {
                 desk.port.close(connection);
                 self.set_line(network, None);
-                put_off(desk, network, Reason::NoMemory);
+                put_off(desk, network, Reason::NoMemory, None);
                 None
             }
         }
@@ -162,9 +176,10 @@ impl<C: Connection> Servers<C> {
             entry,
             ..
         } = self.remove(line)?;
-        desk.port.close(dialogue.into_connection());
+        let (connection, session) = dialogue.into_parts();
+        desk.port.close(connection);
         desk.timers.clear(Timer::QuietUpstream(line));
-        put_off(desk, network, reason);
+        put_off(desk, network, reason, words_of(&session));
         let entry = entry.into_down(desk.site.alloc);
         Some(Standing { network, entry })
     }

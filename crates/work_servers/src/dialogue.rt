@@ -6,7 +6,7 @@ ghost use Rattle.work_servers.specs.Owing.{Begins, IsHeldTo};
 use crate::kind::ToServer;
 use crate::owing::owe_sends;
 use bnc_ports::{Carries, Connection, Reason};
-use byte_text::NoMemory;
+use byte_text::{NoMemory, Text};
 use chat_change::Moment;
 use passed_lines::{NetworkSession, Said, SayFault, ServerEffects};
 use std::alloc::Global;
@@ -55,9 +55,26 @@ impl<C: Connection> Dialogue<C> {
         self.lost
     }
 
+    /// In how many channels the session is.
+    pub(crate) fn count_channels(&self) -> usize {
+        self.session.entry().channels().len()
+    }
+
+    /// The channel that the session itself joins, or has just joined, by a line of the server. None also for want of memory.
+    pub(crate) fn joined(&self, alloc: Global, bytes: &[u8]) -> Option<Text> {
+        let channel = self.session.joined(bytes)?;
+        Text::new(alloc, channel).ok()
+    }
+
     /// The connection alone. What is owed is let go.
     pub(crate) fn into_connection(self) -> C {
         self.pipe.into_connection()
+    }
+
+    /// The connection, and the session that ends with it. What is owed is let go.
+    pub(crate) fn into_parts(self) -> (C, NetworkSession) {
+        let Dialogue { session, pipe, .. } = self;
+        (pipe.into_connection(), session)
     }
 
     /// There may be room for bytes again.

@@ -7,5 +7,5 @@ pub struct ToServer;
 impl Kind for ToServer {
     ghost use Rattle.work_servers.specs.Sending.{IsToldByRight};
 
-    ghost may_be_told = { IsToldByRight };
+    ghost may_be_told = { λ _. IsToldByRight };
 }

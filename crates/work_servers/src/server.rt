@@ -1,17 +1,20 @@
 //! One connection with the server of a network.
 use crate::dialogue::Dialogue;
+use crate::kept_line::KeptLine;
 use crate::kind::ToServer;
 use crate::standing::is_same_entry;
 use bnc_ports::{Carries, Connection, Port, Reason};
+use byte_text::{NoMemory, Text};
 use irc_line::Next;
 use passed_lines::{NetworkEntry, ServerEffects};
 use std::alloc::Global;
 use std::collections::VecDeque;
+use upstream_session::is_passed_on;
 use work_desk::{Desk, Site};
 use work_lines::{Filled, Input, Pumped};
 
-/// So often a line is tried again for which there was no memory, before the connection is closed.
-const TRIES: usize = 10;
+/// A server that sends without pause is asked for room each time that bytes came so often.
+const UNPAUSED: u32 = 4;
 
 /// What a step of a server comes to.
 #[derive(Drop)]
@@ -38,8 +41,12 @@ pub(crate) struct Server<C: Connection> {
     // how the session stood last, and whether all workers know that
     pub(crate) entry: NetworkEntry,
     pub(crate) is_known: bool,
+    // the channel that the session itself joined by the last line, until it is asked for
+    pub(crate) joined: Option<Text>,
     // when bytes came last, in milliseconds
     pub(crate) heard_at: u64,
+    // How often bytes came since none were there.
+    fills: u32,
     // why it is closed, once what is owed is written
     pub(crate) ends: Option<Reason>,
 }
@@ -60,7 +67,9 @@ impl<C: Connection> Server<C> {
             network,
             entry,
             is_known: false,
+            joined: None,
             heard_at: now,
+            fills: 0,
             ends: None,
         }
     }
@@ -95,18 +104,53 @@ impl<C: Connection> Server<C> {
         }
     }
 
-    /// What the next line comes to, or more bytes where there is none. None where the connection is to be closed.
+    /// Whether it takes lines: the connection is neither lost nor to be closed.
+    pub(crate) fn takes_lines(&self) -> bool {
+        self.ends.is_none() && self.dialogue.lost().is_none()
+    }
+
+    /// What the next line comes to, or more bytes where there is none. A line for which there is no memory is kept, and is the
+    /// next line again.
     pub(crate) fn step<P: Port + Carries<ToServer, Connection = C>>(
         &mut self,
         desk: &mut Desk<P>,
+        line: usize,
+        kept: &mut KeptLine,
     ) -> ServerStep {
-        if self.ends.is_some() || self.dialogue.lost().is_some() {
-            return ServerStep::Rest;
+        if kept.server() == Some(line) {
+            return self.hear_kept(&desk.site, kept);
         }
-        match self.input.next_line() {
-            Next::Line(bytes) => hear(&mut self.dialogue, &desk.site, bytes),
+        let Server {
+            input,
+            dialogue,
+            joined,
+            ..
+        } = self;
+        match input.next_line() {
+            Next::Line(bytes) => match hear(dialogue, joined, &desk.site, bytes) {
+                Ok(effects) => ServerStep::Do(effects),
+                Err(NoMemory) => keep(kept, line, bytes),
+            },
             Next::TooLong => ServerStep::Again,
             Next::More => self.fill(desk),
+        }
+    }
+
+    // What the line that was kept comes to. Once it was tried often, it is dropped where it would only be passed on, and for any
+    // other the connection is closed.
+    fn hear_kept(&mut self, site: &Site, kept: &mut KeptLine) -> ServerStep {
+        if let Ok(effects) = hear(&mut self.dialogue, &mut self.joined, site, kept.as_bytes()) {
+            kept.let_go();
+            return ServerStep::Do(effects);
+        }
+        if !kept.count_try() {
+            return ServerStep::Rest;
+        }
+        kept.let_go();
+        if is_passed_on(kept.as_bytes()) {
+            ServerStep::Again
+        } else {
+            ServerStep::Over(Reason::NoMemory)
         }
     }
 
@@ -118,21 +162,44 @@ impl<C: Connection> Server<C> {
         match self.dialogue.fill(&mut self.input, desk) {
             Filled::More => {
                 self.heard_at = desk.site.now;
+                self.fills = self.fills.wrapping_add(1);
+                if self.fills % UNPAUSED == 0 && !desk.has_room() {
+                    return ServerStep::Over(Reason::NoMemory);
+                }
                 ServerStep::Again
             }
-            Filled::Nothing => ServerStep::Rest,
+            Filled::Nothing => {
+                self.fills = 0;
+                ServerStep::Rest
+            }
             Filled::Closed => ServerStep::Over(Reason::Closed),
             Filled::NoMemory => ServerStep::Over(Reason::NoMemory),
         }
     }
 }
 
-// What a line of the server comes to. A refused step leaves the session as it was, so that the line can be tried again.
-fn hear<C: Connection>(dialogue: &mut Dialogue<C>, site: &Site, bytes: &[u8]) -> ServerStep {
-    for _ in 0..TRIES {
-        if let Ok(effects) = dialogue.hear(site.alloc, bytes, site.moment) {
-            return ServerStep::Do(effects);
-        }
+// What a line of the server comes to, and the channel that the session itself joins by it: one is joined only where the session
+// has one more channel then. For want of memory the session stays as it was; a channel is left out for want of it.
+fn hear<C: Connection>(
+    dialogue: &mut Dialogue<C>,
+    joined: &mut Option<Text>,
+    site: &Site,
+    bytes: &[u8],
+) -> Result<ServerEffects, NoMemory> {
+    let before = dialogue.count_channels();
+    let effects = dialogue.hear(site.alloc, bytes, site.moment)?;
+    *joined = if dialogue.count_channels() > before {
+        dialogue.joined(site.alloc, bytes)
+    } else {
+        None
+    };
+    Ok(effects)
+}
+
+// Keeps a line for which there was no memory.
+fn keep(kept: &mut KeptLine, line: usize, bytes: &[u8]) -> ServerStep {
+    match kept.keep(line, bytes) {
+        Ok(()) => ServerStep::Rest,
+        Err(NoMemory) => ServerStep::Over(Reason::NoMemory),
     }
-    ServerStep::Over(Reason::NoMemory)
 }

@@ -1,7 +1,8 @@
 //! The table of a worker's servers.
+use crate::kept_line::KeptLine;
 use crate::server::Server;
 use bnc_ports::{Connection, Reason};
-use byte_text::NoMemory;
+use byte_text::{NoMemory, Text};
 use passed_lines::{Live, ServerPut};
 use std::alloc::Global;
 use std::collections::{BTreeMap, VecDeque};
@@ -27,6 +28,8 @@ pub struct Servers<C: Connection> {
     // of all networks; those of other workers stay empty
     networks: Vec<NetworkLine>,
     busy: VecDeque<usize>,
+    // the line for which there was no memory
+    pub(crate) kept: KeptLine,
 }
 
 impl<C: Connection> Servers<C> {
@@ -43,6 +46,7 @@ impl<C: Connection> Servers<C> {
             all: BTreeMap::new(alloc),
             networks,
             busy: VecDeque::new(alloc),
+            kept: KeptLine::new(alloc)?,
         })
     }
 
@@ -89,6 +93,9 @@ impl<C: Connection> Servers<C> {
     /// Takes a server out. Its network's next session goes on from its serial number.
     pub(crate) fn remove(&mut self, line: usize) -> Option<Server<C>> {
         let server = self.all.remove(&line)?;
+        if self.kept.server() == Some(line) {
+            self.kept.let_go();
+        }
         if let Some(network_line) = self.networks.get_mut(server.network) {
             network_line.line = None;
             network_line.serial = server.dialogue.session().serial();
@@ -101,15 +108,26 @@ impl<C: Connection> Servers<C> {
         Some(self.all.get(&line)?.network)
     }
 
-    /// The present nick of the session over that connection.
-    pub fn nick(&self, line: usize) -> Option<&[u8]> {
-        Some(self.all.get(&line)?.dialogue.session().entry().nick())
-    }
-
     /// A message that the session over that connection put, as it is told. None where there is no such session, or where the
     /// change is no message, or one of another network.
     pub fn live<'a>(&self, line: usize, put: &ServerPut<'a>) -> Option<Live<'a>> {
         self.all.get(&line)?.dialogue.session().live(put)
+    }
+
+    /// The channel that the session over that connection itself joined by the last line that was taken, where it joined one.
+    /// It is told once, and for want of memory not at all.
+    pub fn take_joined(&mut self, line: usize) -> Option<Text> {
+        self.all.get_mut(&line)?.joined.take()
+    }
+
+    /// The server whose line waits for memory, as long as it takes lines.
+    pub(crate) fn waiting(&self) -> Option<usize> {
+        let line = self.kept.server()?;
+        if self.all.get(&line)?.takes_lines() {
+            Some(line)
+        } else {
+            None
+        }
     }
 
     /// The server has something to do.

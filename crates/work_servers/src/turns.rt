@@ -1,4 +1,5 @@
 //! The turns of networks' servers: their lines, lines for them, and what is written to them.
+use crate::dialogue::Dialogue;
 use crate::kind::ToServer;
 use crate::server::ServerStep;
 use crate::servers::Servers;
@@ -8,6 +9,9 @@ use byte_text::NoMemory;
 use passed_lines::{Said, SayFault, ServerEffects};
 use work_desk::{Desk, Site};
 use work_lines::Pumped;
+
+// So often a client's line is tried.
+const TRIES: usize = 10;
 
 /// What a client's line for a network's server comes to.
 #[derive(Drop)]
@@ -28,16 +32,49 @@ fn report_up<P: Port>(port: &mut P, site: &Site, network: usize, nick: &[u8]) {
     }
 }
 
+// What a client's line comes to. For want of memory the session stays as it was, and the line is tried again.
+fn say_often<C: Connection>(
+    dialogue: &mut Dialogue<C>,
+    site: &Site,
+    said: &Said<'_>,
+) -> Result<ServerEffects, SayFault> {
+    for _ in 0..TRIES {
+        match dialogue.say(site.alloc, said, site.moment) {
+            Err(SayFault::NoMemory) => {}
+            outcome => return outcome,
+        }
+    }
+    Err(SayFault::NoMemory)
+}
+
 impl<C: Connection> Servers<C> {
-    /// What the server's next line comes to, or more bytes of it. A server whose connection is to be closed has no next line.
+    /// What the server's next line comes to, or more bytes of it. A server whose connection is to be closed has no next line. One
+    /// for which there is no memory is tried again at the server's later turns. While it waits, no other server has a next line.
     pub fn step<P: Port + Carries<ToServer, Connection = C>>(
         &mut self,
         desk: &mut Desk<P>,
         line: usize,
     ) -> ServerStep {
-        match self.all.get_mut(&line) {
-            Some(server) => server.step(desk),
-            None => ServerStep::Rest,
+        let step = match self.waiting() {
+            Some(waiting) if waiting != line => ServerStep::Rest,
+            _ => self.step_server(desk, line),
+        };
+        if self.waiting().is_some() {
+            self.wake(line);
+        }
+        step
+    }
+
+    // The same while no other server's line waits.
+    fn step_server<P: Port + Carries<ToServer, Connection = C>>(
+        &mut self,
+        desk: &mut Desk<P>,
+        line: usize,
+    ) -> ServerStep {
+        let Servers { all, kept, .. } = self;
+        match all.get_mut(&line) {
+            Some(server) if server.takes_lines() => server.step(desk, line, kept),
+            _ => ServerStep::Rest,
         }
     }
 
@@ -74,7 +111,7 @@ impl<C: Connection> Servers<C> {
         if server.dialogue.lost().is_some() {
             return None;
         }
-        let effects = match server.dialogue.say(desk.site.alloc, said, desk.site.moment) {
+        let effects = match say_often(&mut server.dialogue, &desk.site, said) {
             Ok(effects) => Ok(effects),
             Err(SayFault::NoMemory) => Err(NoMemory),
             Err(SayFault::OtherServer) => return None,
