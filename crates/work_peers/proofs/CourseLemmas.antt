@@ -17,7 +17,7 @@ use Rattle.peer_session.specs.declared.heard.Heard.{Heard}
 use Rattle.peer_session.specs.declared.heard.Heard.TheVariants.{Nothing, Message, Close}
 use Rattle.peer_session.specs.declared.outcome.Outcome.{Outcome}
 use Rattle.bnc_ports.specs.Outgoing.{BeginsOf}
-use Rattle.work_lines.specs.Outgoing.{Outgoing, handed}
+use Rattle.work_lines.specs.Outgoing.{Traffic, handed}
 use Rattle.work_peers.specs.Taking.{IsHeardFrom}
 use Rattle.work_peers.specs.PeerCourse.{PeerCourse, Opens, Hears, Notes, Replies, Publishes, Ticks, Makes, Repeats, Reminds, IsToldByRight, with_pace, nothing_of}
 
@@ -72,7 +72,7 @@ added {later} {text} {room} said piece empty says owes =
     owes ∙ ap (λ (t : List ℕ). said ++ t) (says ∙ ap (λ (r : List ℕ). r ++ piece) empty)
 
 -- where nothing was sent, and nothing is owed
-pub none_handed : (outgoing : Outgoing) → outgoing.sent ≡ [] → outgoing.owed ≡ [] → handed outgoing ≡ []
+pub none_handed : (outgoing : Traffic) → outgoing.sent ≡ [] → outgoing.owed ≡ [] → handed outgoing ≡ []
 none_handed outgoing sent owed = ap (λ (t : List ℕ). t ++ outgoing.owed) sent ∙ owed
 
 -- a course goes on by the terms as they are read

@@ -5,7 +5,6 @@ use crate::kind::ToPeer;
 use crate::peer::Peer;
 use crate::peers::Peers;
 use bnc_ports::{Carries, Connection, Event, Port, Reason};
-use std::net::SocketAddr;
 use work_desk::{Desk, PATIENCE, Site};
 use work_timers::Timer;
 
@@ -24,7 +23,7 @@ impl<C: Connection> Peers<C> {
             self.make_way(desk);
         }
         let Some(connection) = desk.port.open(line) else {
-            self.refuse(desk, None, Reason::Unreachable, dialed);
+            self.tell_unopened(desk, dialed);
             return;
         };
         match self.open(&desk.site, line, connection, dialed) {
@@ -34,11 +33,30 @@ impl<C: Connection> Peers<C> {
                     self.close(desk, line, Reason::NoMemory);
                 }
             }
-            Err(connection) => {
-                let address = desk.port.address(&connection);
-                desk.port.close(connection);
-                self.refuse(desk, address, Reason::NoMemory, dialed);
-            }
+            Err(connection) => self.turn_away(desk, connection, dialed),
+        }
+    }
+
+    // There is no memory for a connection: it is closed. A peer to which this node opened it is dialed later.
+    fn turn_away<P: Carries<ToPeer, Connection = C>>(
+        &mut self,
+        desk: &mut Desk<P>,
+        connection: C,
+        dialed: Option<usize>,
+    ) {
+        let address = desk.port.address(&connection);
+        desk.port.close(connection);
+        self.tell_refused(desk, address, Reason::NoMemory, dialed);
+        if let Some(place) = dialed {
+            self.dial_later(desk, place);
+        }
+    }
+
+    // The port doesn't hand out a connection, which was opened to the peer at that place or by another node.
+    fn tell_unopened<P: Port>(&mut self, desk: &mut Desk<P>, dialed: Option<usize>) {
+        match dialed {
+            Some(place) => self.retry(desk, place),
+            None => self.tell_refused(desk, None, Reason::Unreachable, None),
         }
     }
 
@@ -56,27 +74,12 @@ impl<C: Connection> Peers<C> {
         if self.make_room().is_err() {
             return Err(connection);
         }
-        let peer = Peer::new(site, connection, dialed, &mut self.out)?;
+        let order = self.begun;
+        self.begun = order.saturating_add(1);
+        let peer = Peer::new(site, connection, dialed, order, &mut self.out)?;
         match self.add(line, peer) {
             Ok(()) => Ok(()),
             Err(peer) => Err(peer.into_connection()),
-        }
-    }
-
-    // Tells the operator of a connection that isn't taken in, and why. A peer to which this node opened it is dialed later.
-    fn refuse<P: Port>(
-        &mut self,
-        desk: &mut Desk<P>,
-        address: Option<SocketAddr>,
-        reason: Reason,
-        dialed: Option<usize>,
-    ) {
-        match dialed {
-            Some(place) => {
-                desk.port.report(&Event::PeerRefused { address, reason });
-                self.dial_later(desk, place);
-            }
-            None => self.tell_refused(&mut desk.port, address, reason),
         }
     }
 
@@ -91,7 +94,7 @@ impl<C: Connection> Peers<C> {
             None => false,
         };
         if is_late {
-            self.close(desk, line, Reason::Silent);
+            self.close(desk, line, Reason::Unregistered);
         }
     }
 
@@ -111,7 +114,7 @@ impl<C: Connection> Peers<C> {
         desk.timers.clear(Timer::Unregistered(line));
         desk.timers.clear(Timer::RetryPeer(place));
         desk.timers.clear(Timer::AbsentPeer(place));
-        if let Some(older) = self.settle(line, place) {
+        if let Some(older) = self.settle(line, place, desk.site.now) {
             self.close(desk, older, Reason::Replaced);
         }
         self.check_quiet(desk, line);
@@ -137,9 +140,8 @@ impl<C: Connection> Peers<C> {
         let address = desk.port.address(&connection);
         desk.port.close(connection);
         match self.name(place) {
-            Some(node) => desk.port.report(&Event::PeerDown { node, reason }),
-            None if dialed.is_some() => desk.port.report(&Event::PeerRefused { address, reason }),
-            None => self.tell_refused(&mut desk.port, address, reason),
+            Some(node) => desk.report(&Event::PeerDown { node, reason }),
+            None => self.tell_refused(desk, address, reason, dialed),
         }
         if let Some(place) = place {
             self.miss(desk, place);

@@ -1,6 +1,6 @@
 //! Connections that this node opens.
 use crate::peers::Peers;
-use bnc_ports::{Connection, Dial, Event, Port, Reason};
+use bnc_ports::{Connection, Dial, Event, Port};
 use work_desk::{Desk, RETRY};
 use work_timers::Timer;
 
@@ -23,12 +23,13 @@ impl<C: Connection> Peers<C> {
         }
     }
 
-    /// A connection with the peer at that place could not be made: the operator is told, and it is tried again later.
+    /// A connection with the peer at that place could not be made: the operator is told with which and where, and it is tried
+    /// again later.
     pub fn retry<P: Port>(&mut self, desk: &mut Desk<P>, place: usize) {
-        desk.port.report(&Event::PeerRefused {
-            address: None,
-            reason: Reason::Unreachable,
-        });
+        let address = desk.port.target(Dial::Peer(place));
+        if let Some(node) = self.name(Some(place)) {
+            desk.port.report(&Event::PeerUnreachable { node, address });
+        }
         self.dial_later(desk, place);
     }
 

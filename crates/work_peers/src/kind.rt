@@ -7,5 +7,5 @@ pub struct ToPeer;
 impl Kind for ToPeer {
     ghost use Rattle.work_peers.specs.PeerCourse.{IsToldByRight};
 
-    ghost may_be_told = { IsToldByRight };
+    ghost may_be_told = { λ _. IsToldByRight };
 }

@@ -17,6 +17,7 @@ mod connections;
 mod dialing;
 mod kind;
 pub mod laws;
+mod level;
 mod lives;
 mod neighbour;
 mod packets;

@@ -9,8 +9,8 @@ use crate::peers::Peers;
 use crate::talk::{Talk, owe};
 use bnc_ports::{Connection, Event, Port, Reason};
 use byte_text::NoMemory;
-use gossip_link::{Ack, Arrived, Life, NodeName, Terms, write_ack};
-use peer_session::{Heard, Outcome};
+use gossip_link::{Ack, Arrived, Life, NodeName, Terms, Version, write_ack};
+use peer_session::Outcome;
 use std::alloc::Global;
 use work_desk::{Desk, Site};
 
@@ -58,20 +58,8 @@ impl<C: Connection> Talk<C> {
 }
 
 impl<C: Connection> Peers<C> {
-    /// Notes what a message, which came over that connection and came to that, says of lives.
+    /// Notes what a message says of lives, which came over that connection from the peer at that place and came to that.
     pub(crate) fn note_lives<P: Port>(
-        &mut self,
-        desk: &mut Desk<P>,
-        line: usize,
-        message: Heard,
-        outcome: Outcome,
-    ) {
-        if let Heard::Message(place, arrived) = &message {
-            self.note_lives_in(desk, line, *place, arrived, outcome);
-        }
-    }
-
-    fn note_lives_in<P: Port>(
         &mut self,
         desk: &mut Desk<P>,
         line: usize,
@@ -80,9 +68,12 @@ impl<C: Connection> Peers<C> {
         outcome: Outcome,
     ) {
         match arrived {
-            Arrived::Hello(life, _) => {
-                let is_known = outcome == Outcome::Known;
-                self.judge(desk, line, place, life.incarnation(), is_known);
+            Arrived::Hello(life, version) => {
+                let incarnation = life.incarnation();
+                if outcome == Outcome::Known {
+                    self.know(place, incarnation, *version);
+                }
+                self.judge(desk, line, place, incarnation);
             }
             Arrived::Packet(packet) => self.note_receiver(desk, line, place, packet.receiver()),
             Arrived::Ack(ack) => self.note_receiver(desk, line, place, ack.receiver()),
@@ -90,35 +81,32 @@ impl<C: Connection> Peers<C> {
         }
     }
 
+    // The link knows that life of the peer at that place, since it said hello.
+    fn know(&mut self, place: usize, incarnation: u64, version: Version) {
+        if let Some(neighbour) = self.neighbours.get_mut(place) {
+            neighbour.know(incarnation, version);
+        }
+    }
+
     // The peer at that place said hello in that incarnation. The operator is told once a connection whether the link knows
-    // that life now, or knows a later one; then the peer is told so too.
-    fn judge<P: Port>(
-        &mut self,
-        desk: &mut Desk<P>,
-        line: usize,
-        place: usize,
-        incarnation: u64,
-        is_known: bool,
-    ) {
+    // that life, or knows a later one; then the peer is told so too.
+    fn judge<P: Port>(&mut self, desk: &mut Desk<P>, line: usize, place: usize, said: u64) {
         let Peers {
             all,
             neighbours,
             out,
             ..
         } = self;
-        let (Some(peer), Some(neighbour)) = (all.get_mut(&line), neighbours.get_mut(place)) else {
+        let (Some(peer), Some(neighbour)) = (all.get_mut(&line), neighbours.get(place)) else {
             return;
         };
-        if is_known {
-            neighbour.incarnation = incarnation;
-        }
         if peer.is_judged {
             return;
         }
         peer.is_judged = true;
         let node = neighbour.name.as_bytes();
-        let incarnation = neighbour.incarnation;
-        if is_known {
+        let incarnation = neighbour.known.map_or(said, |known| known.incarnation);
+        if incarnation == said {
             desk.port.report(&Event::PeerGreeted { node, incarnation });
         } else {
             desk.port.report(&Event::PeerBehind { node, incarnation });

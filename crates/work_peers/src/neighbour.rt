@@ -1,7 +1,15 @@
 //! What is kept of a peer over its connections.
 use byte_text::NoMemory;
-use gossip_link::{Link, NodeName, Terms};
+use gossip_link::{Link, NodeName, Terms, Version};
 use std::alloc::Global;
+
+/// The life of a peer that the link knows.
+#[derive(Clone, Copy)]
+pub(crate) struct Known {
+    pub incarnation: u64,
+    /// Whether packets are made for it: its first hello bore no lower version than this program's.
+    pub is_served: bool,
+}
 
 /// What is kept of a peer over its connections.
 #[derive(Drop)]
@@ -10,8 +18,10 @@ pub(crate) struct Neighbour {
     pub(crate) link: Link,
     /// The connection over which it said hello.
     pub(crate) line: Option<usize>,
-    /// The incarnation of the life that the link knows; 0 where it knows none.
-    pub(crate) incarnation: u64,
+    /// The life that the link knows.
+    pub(crate) known: Option<Known>,
+    /// Whether the operator was told that this node and the peer are level.
+    pub(crate) is_level: bool,
     // Whether this node opens the connections: of two nodes, the one whose name is less.
     is_dialed: bool,
 }
@@ -26,9 +36,28 @@ impl Neighbour {
             name,
             link: Link::new(me, copy),
             line: None,
-            incarnation: 0,
+            known: None,
+            is_level: false,
             is_dialed,
         })
+    }
+
+    /// The peer said hello as a life that the link knows since. A later hello of the same life changes nothing.
+    pub(crate) fn know(&mut self, incarnation: u64, version: Version) {
+        if self
+            .known
+            .is_none_or(|known| known.incarnation != incarnation)
+        {
+            self.known = Some(Known {
+                incarnation,
+                is_served: !version.is_lower_than(Version::OWN),
+            });
+        }
+    }
+
+    /// Whether packets are made for the life of the peer that the link knows.
+    pub(crate) fn is_served(&self) -> bool {
+        self.known.is_some_and(|known| known.is_served)
     }
 
     /// Whether this node opens the connections, and there is none.

@@ -118,12 +118,22 @@ impl<C: Connection> Peers<C> {
         };
         let link = &mut neighbour.link;
         let (message, outcome) = peer.talk.arrive(&desk.site, link, taker, out)?;
-        self.note_lives(desk, line, message, outcome);
+        self.note(desk, line, message, outcome);
         Ok(outcome)
     }
 
+    // Notes what a message, which came over that connection and came to that, says of lives and of what the peer may still
+    // have.
+    fn note<P: Port>(&mut self, desk: &mut Desk<P>, line: usize, message: Heard, outcome: Outcome) {
+        if let Heard::Message(place, arrived) = &message {
+            self.note_lives(desk, line, *place, arrived, outcome);
+            self.note_supply(desk, line, *place, arrived, outcome);
+        }
+    }
+
     /// Makes the next packet of what the source holds for the peer of that connection, where one is due. It waits for the
-    /// peer.
+    /// peer. Where nothing is new for the peer, and it has nothing new, the operator is told that the two are level: once for
+    /// each peer.
     pub fn advance<P: Port, S: Source>(&mut self, desk: &mut Desk<P>, line: usize, source: &mut S) {
         let Peers {
             all,
@@ -142,6 +152,7 @@ impl<C: Connection> Peers<C> {
         };
         peer.talk
             .send_next(&desk.site, &mut neighbour.link, source, out);
+        neighbour.tell_level(desk, peer, place);
         if let Some(at) = peer.talk.deadline() {
             desk.timers.set(Timer::UnansweredPacket(line), at);
         }

@@ -1,6 +1,7 @@
 //! A connection with a peer.
 ghost use Rattle.std.specs.Prelude.{◌≡◌, []};
 
+use crate::level::Supply;
 use crate::talk::Talk;
 use bnc_ports::Connection;
 use std::collections::VecDeque;
@@ -16,8 +17,10 @@ pub(crate) struct Peer<C: Connection> {
     is_queued: bool,
     /// The place of the peer to which this node connected.
     pub(crate) dialed: Option<usize>,
-    /// When it came to be there, in milliseconds.
-    pub(crate) came_at: u64,
+    /// How many connections came before it.
+    pub(crate) order: u64,
+    /// What the peer may still have for this node.
+    pub(crate) supply: Supply,
     /// When bytes last came, in milliseconds.
     pub(crate) heard_at: u64,
     /// Whether the operator was told what the peer's hello came to.
@@ -27,12 +30,13 @@ pub(crate) struct Peer<C: Connection> {
 }
 
 impl<C: Connection> Peer<C> {
-    /// A new connection, to the peer at that place where this node opened it. What is said first is written into the room, and
-    /// waits for the peer. For want of memory the connection comes back.
+    /// A new connection, to the peer at that place where this node opened it, behind so many others. What is said first is
+    /// written into the room, and waits for the peer. For want of memory the connection comes back.
     pub(crate) fn new(
         site: &Site,
         connection: C,
         dialed: Option<usize>,
+        order: u64,
         room: &mut Vec<u8>,
     ) -> Result<Peer<C>, C>
         requires { C.sent connection ≡ [] }
@@ -43,7 +47,8 @@ impl<C: Connection> Peer<C> {
             talk,
             is_queued: false,
             dialed,
-            came_at: site.now,
+            order,
+            supply: Supply::Awaited { since: site.now },
             heard_at: site.now,
             is_judged: false,
             is_behind: false,
@@ -58,6 +63,12 @@ impl<C: Connection> Peer<C> {
     /// Whether the other end opened it, and no peer has said hello over it.
     pub(crate) fn is_stranger(&self) -> bool {
         self.dialed.is_none() && self.talk.noted.is_none()
+    }
+
+    /// The peer said hello, at that moment in milliseconds.
+    pub(crate) fn note(&mut self, now: u64) {
+        self.talk.note();
+        self.supply = Supply::Awaited { since: now };
     }
 
     /// Stands in the queue.

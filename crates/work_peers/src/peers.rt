@@ -11,6 +11,8 @@ use std::collections::{BTreeMap, VecDeque};
 #[derive(Drop)]
 pub struct Peers<C: Connection> {
     pub(crate) all: BTreeMap<usize, Peer<C>>,
+    /// How many connections came so far.
+    pub(crate) begun: u64,
     /// In the order of the node's terms.
     pub(crate) neighbours: Vec<Neighbour>,
     // Those connections that have something to do.
@@ -31,6 +33,7 @@ impl<C: Connection> Peers<C> {
         }
         Ok(Peers {
             all: BTreeMap::new(alloc),
+            begun: 0,
             neighbours,
             busy: VecDeque::new(alloc),
             out: Vec::new(alloc),
@@ -65,10 +68,11 @@ impl<C: Connection> Peers<C> {
         self.all.remove(&line)
     }
 
-    /// The peer at that place said hello over that connection: the connection over which it did so before.
-    pub(crate) fn settle(&mut self, line: usize, place: usize) -> Option<usize> {
+    /// The peer at that place said hello over that connection, at that moment in milliseconds: the connection over which it did
+    /// so before.
+    pub(crate) fn settle(&mut self, line: usize, place: usize, now: u64) -> Option<usize> {
         if let Some(peer) = self.all.get_mut(&line) {
-            peer.talk.note();
+            peer.note(now);
         }
         let neighbour = self.neighbours.get_mut(place)?;
         let before = neighbour.line;

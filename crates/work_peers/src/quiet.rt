@@ -17,30 +17,48 @@ impl<C: Connection> Peer<C> {
     fn gone_at(&self) -> u64 {
         self.heard_at.saturating_add(GONE)
     }
+
+    // When it is to be looked at next.
+    fn look_at(&self, now: u64) -> u64 {
+        let at = self.talk.hello_due().min(self.gone_at());
+        match self.supply.awaited_until() {
+            Some(until) if now < until => at.min(until),
+            _ => at,
+        }
+    }
 }
 
 impl<C: Connection> Peers<C> {
     /// Looks at a connection that is greeted: where nothing came over it for five minutes it is closed, and where the peer was
-    /// owed nothing for 60 seconds the own hello waits for it again. It is looked at again once one of the two is due.
+    /// owed nothing for 60 seconds the own hello waits for it again. Where no packet came for ten seconds, the two may be level.
+    /// It is looked at again once one of these is due.
     pub fn check_quiet<P: Carries<ToPeer, Connection = C>>(
         &mut self,
         desk: &mut Desk<P>,
         line: usize,
     ) {
-        let Peers { all, out, .. } = self;
+        let Peers {
+            all,
+            neighbours,
+            out,
+            ..
+        } = self;
         let Some(peer) = all.get_mut(&line) else {
             return;
         };
-        if peer.talk.noted.is_none() {
+        let Some(place) = peer.talk.noted else {
             return;
-        }
+        };
         if peer.gone_at() <= desk.site.now {
             self.close(desk, line, Reason::Unheard);
             return;
         }
         peer.talk.repeat_hello(desk.site.now, out);
-        let next = peer.talk.hello_due().min(peer.gone_at());
-        desk.timers.set(Timer::QuietPeer(line), next);
+        desk.timers
+            .set(Timer::QuietPeer(line), peer.look_at(desk.site.now));
+        if let Some(neighbour) = neighbours.get_mut(place) {
+            neighbour.tell_level(desk, peer, place);
+        }
         self.wake(line);
     }
 

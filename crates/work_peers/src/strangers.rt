@@ -31,24 +31,31 @@ impl<C: Connection> Peers<C> {
         for (line, peer) in self.all.iter() {
             if peer.is_stranger() {
                 count = count.saturating_add(1);
-                if first.is_none_or(|(came_at, _)| peer.came_at < came_at) {
-                    first = Some((peer.came_at, *line));
+                if first.is_none_or(|(order, _)| peer.order < order) {
+                    first = Some((peer.order, *line));
                 }
             }
         }
         (count, first.map(|(_, line)| line))
     }
 
-    /// The operator is told of a connection that another node opened, and that ended before a peer said hello, or that there
-    /// was one more of many.
+    /// The operator is told of a connection that ended before a peer said hello over it: with the name of the peer at that
+    /// place where this node opened it to that one. Of those that others opened only the first ones of a minute are told.
     pub(crate) fn tell_refused<P: Port>(
         &mut self,
-        port: &mut P,
+        desk: &mut Desk<P>,
         address: Option<SocketAddr>,
         reason: Reason,
+        dialed: Option<usize>,
     ) {
-        if self.refusals.add() {
-            port.report(&Event::PeerRefused { address, reason });
+        let is_told = dialed.is_some() || reason == Reason::NoMemory || self.refusals.add();
+        if is_told {
+            let node = self.name(dialed);
+            desk.report(&Event::PeerRefused {
+                node,
+                address,
+                reason,
+            });
         }
     }
 
