@@ -1,11 +1,12 @@
 -- What is left to do of a client's line was called for by that line, and by a registered session where it isn't for the client.
-use Rattle.std.proofs.Common.{◌≡◌, ◌⊎◌, inl, inr, ℕ, List, [], ◌∷◌, ◌++◌, Option, None, Some, refl, sym, ◌∙◌, ap, subst, append_assoc}
+use Rattle.std.proofs.Common.{◌≡◌, ◌⊎◌, inl, inr, ℕ, List, [], ◌∷◌, ◌++◌, Option, Some, refl, sym, ◌∙◌, ap, subst, append_assoc}
 use Rattle.std.specs.Prelude.{unwrap_or}
 use Rattle.std.proofs.lemmas.Option.{none-some}
 use Rattle.std.specs.List.{AllByRecursion}
 use Rattle.chat_batch.specs.declared.facts.Facts.{Facts}
 use Rattle.chat_batch.specs.declared.facts.Answered.{Answered}
 use Rattle.chat_change.specs.declared.change.Change.{Change}
+use Rattle.irc_line.specs.Stream.{Item}
 use Rattle.client_session.specs.declared.effect.Effect.{Effect}
 use Rattle.client_session.specs.declared.effect.Effect.TheVariants.{Send, Put, Ask, Upstream, Close}
 use Rattle.client_session.specs.declared.stage.Stage.{Stage}
@@ -46,7 +47,7 @@ by_answer {session} {todo} answered (Last cluster maximum events event later don
     (run_one_more (after (run (new cluster maximum) events) event) later (Answer answered) ∙ ap (λ (s : Stage). after s (Answer answered)) came)
     left
 
-pub is_left : {IsThere : Source → Type 0} {session : Stage} {todo : List Effect} {told : Told} {nick : List ℕ} → Course IsThere session todo told nick → IsLeft session todo
+pub is_left : {IsThere : Source → Type 0} {heard : List Item} {session : Stage} {todo : List Effect} {told : Told} {nick : List ℕ} → Course IsThere heard session todo told nick → IsLeft session todo
 is_left (Connects cluster maximum told waits went) = Nothing refl
 is_left (Hears directory shown bytes c) = let w = hears_alone c in by_line w.cluster w.maximum w.events (Line directory shown bytes) w.came
 is_left (HearsCut directory c) = let w = hears_alone c in by_line w.cluster w.maximum w.events (CutLine directory) w.came
@@ -137,8 +138,8 @@ module _
       }
 
   -- a marker that is next
-  pub marked : {IsThere : Source → Type 0} {session : Stage} {todo rest : List Effect} {told : Told} {nick : List ℕ} (effect : Effect) (change : Change) → todo ≡ effect ∷ rest → effect ≡ Put change → Course IsThere session todo told nick → IsMarkedBy change
-  marked {IsThere} {session} {todo} {rest} effect change e is c =
+  pub marked : {IsThere : Source → Type 0} {heard : List Item} {session : Stage} {todo rest : List Effect} {told : Told} {nick : List ℕ} (effect : Effect) (change : Change) → todo ≡ effect ∷ rest → effect ≡ Put change → Course IsThere heard session todo told nick → IsMarkedBy change
+  marked {IsThere} {heard} {session} {todo} {rest} effect change e is c =
       marked_left change rest (subst (IsLeft session) (e ∙ ap (λ (f : Effect). f ∷ rest) is) (is_left c))
 
   module _ (same : (facts : Facts) (events : List ClientEvent) → IsOfSame facts (run (Registered facts) events)) where
@@ -172,8 +173,8 @@ module _
         }
 
     -- a line for the network's server that is next
-    pub said_for : {IsThere : Source → Type 0} {session : Stage} {todo rest : List Effect} {told : Told} {nick account network given text : List ℕ} (facts : Facts) (effect : Effect) → facts_in session ≡ Some facts → todo ≡ effect ∷ rest → effect ≡ Upstream text → account ≡ facts.account → network ≡ facts.network → given ≡ text → Course IsThere session todo told nick → IsSaidFor account network given
-    said_for {IsThere} {session} {todo} {rest} {told} {nick} {account} {network} {given} {text} facts effect knows e is of_account of_network is_text c =
+    pub said_for : {IsThere : Source → Type 0} {heard : List Item} {session : Stage} {todo rest : List Effect} {told : Told} {nick account network given text : List ℕ} (facts : Facts) (effect : Effect) → facts_in session ≡ Some facts → todo ≡ effect ∷ rest → effect ≡ Upstream text → account ≡ facts.account → network ≡ facts.network → given ≡ text → Course IsThere heard session todo told nick → IsSaidFor account network given
+    said_for {IsThere} {heard} {session} {todo} {rest} {told} {nick} {account} {network} {given} {text} facts effect knows e is of_account of_network is_text c =
         let said = said_left facts text rest knows (subst (IsLeft session) (e ∙ ap (λ (f : Effect). f ∷ rest) is) (is_left c)) in
         subst (λ (x : List ℕ). IsSaidFor x network given) (sym of_account)
         (subst (λ (x : List ℕ). IsSaidFor facts.account x given) (sym of_network)

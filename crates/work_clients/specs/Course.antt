@@ -1,6 +1,9 @@
--- The course of a client: what its session came to, what of that is left to do, what the client was told, and what nick it
--- knows as its own.
+-- The course of a client: what its session heard and came to, what of that is left to do, what the client was told, and what
+-- nick it knows as its own.
 use Rattle.std.specs.Prelude.{ℕ, ◌≡◌, Bool, true, List, [], ◌∷◌, ◌++◌, Some}
+use Rattle.irc_line.specs.Stream.{Item, items}
+use Rattle.irc_line.specs.Stream.{line as whole_line}
+use Rattle.irc_line.specs.Stream.{too_long as cut_line}
 use Rattle.irc_reply.specs.ToClient.{no_nick, marker_question}
 use Rattle.chat_change.specs.Record.{Record}
 use Rattle.chat_batch.specs.declared.facts.Answered.{Answered}
@@ -29,15 +32,15 @@ IsAct Close = Unit {0}
 -- A text is handed to the connection, and what waits is the same.
 abbrev pub IsHandedOver : Told → List ℕ → Told → Type 0
 IsHandedOver before text after =
-    (after.waiting ≡ before.waiting) × (handed after.outgoing ≡ handed before.outgoing ++ text)
+    (after.waiting ≡ before.waiting) × (handed after.traffic ≡ handed before.traffic ++ text)
 
 -- A text waits, behind the others, and nothing is handed over.
 abbrev pub IsKeptWaiting : Told → List ℕ → Told → Type 0
 IsKeptWaiting before text after =
-    (after.waiting ≡ before.waiting ++ text) × (handed after.outgoing ≡ handed before.outgoing)
+    (after.waiting ≡ before.waiting ++ text) × (handed after.traffic ≡ handed before.traffic)
 
--- What a client's session may have come to, with what is left to do of its last line, what the client was told and what nick
--- it knows, where it may be told of what is there. In turn:
+-- What a client's session may have come to by the lines that it heard, with what is left to do of its last line, what the
+-- client was told and what nick it knows, where it may be told of what is there. In turn:
 --   Connects   it is there, and nothing was told
 --   Hears      a line of the client comes to this, once all of the line before is done
 --   HearsCut   the same of a line that was too long to be taken in
@@ -53,79 +56,89 @@ IsKeptWaiting before text after =
 --   Renames    the line that its nick is another one of its network is handed over, and it knows that one
 --   Learns     it knows another nick of its network, by a line that is passed on
 --   Informs    the answer about a target's read marker is handed over, with the session's own facts, of a set of changes
-pub data Course (IsThere : Source → Type 0) : Stage → List Effect → Told → List ℕ → Type 0 where
+pub data Course (IsThere : Source → Type 0) : List Item → Stage → List Effect → Told → List ℕ → Type 0 where
   Connects : (cluster : List ℕ) (maximum : ℕ) (told : Told)
       → told.waiting ≡ []
-      → handed told.outgoing ≡ []
-      → Course IsThere (new cluster maximum) [] told no_nick
-  Hears : {session : Stage} {told : Told} {nick : List ℕ} (directory : Directory) (shown : Bool) (bytes : List ℕ)
-      → Course IsThere session [] told nick
-      → Course IsThere (step directory shown session bytes).session (step directory shown session bytes).effects told nick
-  HearsCut : {session : Stage} {told : Told} {nick : List ℕ} (directory : Directory)
-      → Course IsThere session [] told nick
-      → Course IsThere (too_long directory session).session (too_long directory session).effects told nick
-  Says : {session : Stage} {todo : List Effect} {before : Told} {nick : List ℕ} (text : List ℕ) (after : Told)
+      → handed told.traffic ≡ []
+      → Course IsThere [] (new cluster maximum) [] told no_nick
+  Hears : {heard : List Item} {session : Stage} {told : Told} {nick : List ℕ}
+      (directory : Directory) (shown : Bool) (bytes : List ℕ)
+      → Course IsThere heard session [] told nick
+      → Course IsThere (heard ++ whole_line bytes ∷ [])
+      (step directory shown session bytes).session (step directory shown session bytes).effects told nick
+  HearsCut : {heard : List Item} {session : Stage} {told : Told} {nick : List ℕ} (directory : Directory)
+      → Course IsThere heard session [] told nick
+      → Course IsThere (heard ++ cut_line ∷ [])
+      (too_long directory session).session (too_long directory session).effects told nick
+  Says : {heard : List Item} {session : Stage} {todo : List Effect} {before : Told} {nick : List ℕ}
+      (text : List ℕ) (after : Told)
       → IsKeptWaiting before text after
-      → Course IsThere session (Send text ∷ todo) before nick → Course IsThere session todo after nick
-  Answers : {session : Stage} {todo : List Effect} {before : Told} {nick : List ℕ}
+      → Course IsThere heard session (Send text ∷ todo) before nick → Course IsThere heard session todo after nick
+  Answers : {heard : List Item} {session : Stage} {todo : List Effect} {before : Told} {nick : List ℕ}
       (question text : List ℕ) (answered : Answered) (after : Told)
       → (answer : IsAnswerTo session question text answered)
       → IsThere (OfPast answer.changes)
       → IsKeptWaiting before text after
-      → Course IsThere session (Ask question ∷ todo) before nick
-      → Course IsThere (session_after session answered) todo after nick
-  Skips : {session : Stage} {todo : List Effect} {told : Told} {nick : List ℕ} (question : List ℕ)
+      → Course IsThere heard session (Ask question ∷ todo) before nick
+      → Course IsThere heard (session_after session answered) todo after nick
+  Skips : {heard : List Item} {session : Stage} {todo : List Effect} {told : Told} {nick : List ℕ}
+      (question : List ℕ)
       → IsUnanswerable session question
-      → Course IsThere session (Ask question ∷ todo) told nick → Course IsThere session todo told nick
-  Acts : {session : Stage} {todo : List Effect} {told : Told} {nick : List ℕ} (effect : Effect)
+      → Course IsThere heard session (Ask question ∷ todo) told nick → Course IsThere heard session todo told nick
+  Acts : {heard : List Item} {session : Stage} {todo : List Effect} {told : Told} {nick : List ℕ} (effect : Effect)
       → IsAct effect
-      → Course IsThere session (effect ∷ todo) told nick → Course IsThere session todo told nick
-  Goes : {session : Stage} {todo : List Effect} {before : Told} {nick : List ℕ} (after : Told)
+      → Course IsThere heard session (effect ∷ todo) told nick → Course IsThere heard session todo told nick
+  Goes : {heard : List Item} {session : Stage} {todo : List Effect} {before : Told} {nick : List ℕ} (after : Told)
       → Moves before after
-      → Course IsThere session todo before nick → Course IsThere session todo after nick
-  Stays : {session : Stage} {todo : List Effect} {before : Told} {nick : List ℕ} (after : Told)
+      → Course IsThere heard session todo before nick → Course IsThere heard session todo after nick
+  Stays : {heard : List Item} {session : Stage} {todo : List Effect} {before : Told} {nick : List ℕ} (after : Told)
       → IsHandedOver before [] after
-      → Course IsThere session todo before nick → Course IsThere session todo after nick
-  Comes : {session : Stage} {todo : List Effect} {before : Told} {nick : List ℕ}
+      → Course IsThere heard session todo before nick → Course IsThere heard session todo after nick
+  Comes : {heard : List Item} {session : Stage} {todo : List Effect} {before : Told} {nick : List ℕ}
       (facts : Facts) (message : Record) (is_own : Bool) (after : Told)
       → facts_in session ≡ Some facts
       → hears_message is_own message facts ≡ true
       → IsThere (OfMessage facts.account facts.network is_own message)
       → IsHandedOver before (live_text facts.caps message) after
-      → Course IsThere session todo before nick → Course IsThere session todo after nick
-  Relays : {session : Stage} {todo : List Effect} {before : Told} {nick : List ℕ}
+      → Course IsThere heard session todo before nick → Course IsThere heard session todo after nick
+  Relays : {heard : List Item} {session : Stage} {todo : List Effect} {before : Told} {nick : List ℕ}
       (facts : Facts) (to : Recipients) (text : List ℕ) (after : Told)
       → facts_in session ≡ Some facts
       → is_recipient to facts ≡ true
       → IsThere (OfLine facts.account facts.network to text)
       → IsHandedOver before text after
-      → Course IsThere session todo before nick → Course IsThere session todo after nick
-  Knows : {session : Stage} {todo : List Effect} {told : Told} {nick : List ℕ} (facts : Facts)
+      → Course IsThere heard session todo before nick → Course IsThere heard session todo after nick
+  Knows : {heard : List Item} {session : Stage} {todo : List Effect} {told : Told} {nick : List ℕ} (facts : Facts)
       → facts_in session ≡ Some facts
-      → Course IsThere session todo told nick → Course IsThere session todo told facts.nick
-  Renames : {session : Stage} {todo : List Effect} {before : Told} {old : List ℕ}
+      → Course IsThere heard session todo told nick → Course IsThere heard session todo told facts.nick
+  Renames : {heard : List Item} {session : Stage} {todo : List Effect} {before : Told} {old : List ℕ}
       (facts : Facts) (nick : List ℕ) (after : Told)
       → facts_in session ≡ Some facts
       → IsThere (OfNick facts.account facts.network nick)
       → IsHandedOver before (nick_line old nick) after
-      → Course IsThere session todo before old → Course IsThere session todo after nick
-  Learns : {session : Stage} {todo : List Effect} {told : Told} {old : List ℕ} (facts : Facts) (nick : List ℕ)
+      → Course IsThere heard session todo before old → Course IsThere heard session todo after nick
+  Learns : {heard : List Item} {session : Stage} {todo : List Effect} {told : Told} {old : List ℕ}
+      (facts : Facts) (nick : List ℕ)
       → facts_in session ≡ Some facts
       → IsThere (OfNick facts.account facts.network nick)
-      → Course IsThere session todo told old → Course IsThere session todo told nick
-  Informs : {session : Stage} {todo : List Effect} {before : Told} {nick : List ℕ}
+      → Course IsThere heard session todo told old → Course IsThere heard session todo told nick
+  Informs : {heard : List Item} {session : Stage} {todo : List Effect} {before : Told} {nick : List ℕ}
       (target text : List ℕ) (answered : Answered) (after : Told)
       → (answer : IsAnswerTo session (marker_question target) text answered)
       → IsThere (OfPast answer.changes)
       → IsHandedOver before text after
-      → Course IsThere session todo before nick
-      → Course IsThere (session_after session answered) todo after nick
+      → Course IsThere heard session todo before nick
+      → Course IsThere heard (session_after session answered) todo after nick
 
--- these bytes are all that was handed to a connection in some course of its client
-pub record IsToldByRight (bytes : List ℕ) : Type 0 where
+-- These bytes are all that was handed to a connection in some course of its client. The session heard what came over this
+-- connection and nothing else: the first items of what was received, in order, each once.
+pub record IsToldByRight (received bytes : List ℕ) : Type 0 where
+  pub heard : List Item
+  pub unheard : List Item
   pub session : Stage
   pub todo : List Effect
   pub told : Told
   pub nick : List ℕ
-  pub course : Course IsByRight session todo told nick
-  pub all : handed told.outgoing ≡ bytes
+  pub course : Course IsByRight heard session todo told nick
+  pub own : items received ≡ heard ++ unheard
+  pub all : handed told.traffic ≡ bytes

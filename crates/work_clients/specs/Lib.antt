@@ -8,5 +8,6 @@ pub mod Course
 pub mod Said
 pub mod Own
 pub mod Marking
--- what only the proofs use of the code: the line that is written once for many sessions
+-- what only the proofs use of the code: a client as a worker has it, and the line that is written once for many sessions
+pub mod Served
 pub mod LiveText

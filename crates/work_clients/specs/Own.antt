@@ -8,6 +8,7 @@ use Rattle.chat_page.specs.Scope.{Scope}
 use Rattle.client_session.specs.declared.effect.Effect.{Effect}
 use Rattle.client_session.specs.declared.stage.Stage.{Stage}
 use Rattle.client_session.specs.Session.{facts_in}
+use Rattle.irc_line.specs.Stream.{Item}
 use Rattle.irc_caps.specs.declared.recipients.Recipients.{Recipients}
 use Rattle.work_lines.specs.Outgoing.{Told}
 use Rattle.work_clients.specs.Course.{Course}
@@ -32,10 +33,11 @@ pub record HasOwnOf (scope : Scope) (Had Has : Source → Type 0) : Type 0 where
 abbrev pub IsAmong : (Source → Bool) → Source → Type 0
 IsAmong these source = these source ≡ true
 
--- By sources of one account and network alone the client may be told the same. They are those of its session, where it is
--- registered.
-pub record HearsItsOwnAlone (session : Stage) (todo : List Effect) (told : Told) (nick : List ℕ) : Type 0 where
+-- By the same lines of its own and by sources of one account and network alone the client may be told the same. They are
+-- those of its session, where it is registered.
+pub record HearsItsOwnAlone (heard : List Item) (session : Stage) (todo : List Effect) (told : Told) (nick : List ℕ)
+    : Type 0 where
   pub scope : Scope
   pub account : (facts : Facts) → facts_in session ≡ Some facts → facts.account ≡ scope.account
   pub network : (facts : Facts) → facts_in session ≡ Some facts → facts.network ≡ scope.network
-  pub course : Course (IsOwn scope) session todo told nick
+  pub course : Course (IsOwn scope) heard session todo told nick

@@ -15,7 +15,7 @@ impl<X: Attachment, C: Connection> Client<X, C> {
     fn reason_when_due(&self) -> Option<Reason> {
         match self.fate {
             Fate::Stays if self.network.is_some() => None,
-            Fate::Stays => Some(Reason::Silent),
+            Fate::Stays => Some(Reason::Unregistered),
             Fate::Ends(reason) | Fate::Lost(reason) => Some(reason),
         }
     }
@@ -59,9 +59,14 @@ impl<X: Attachment, C: Connection> Client<X, C> {
 
 impl<X: Attachment, C: Connection> Clients<X, C> {
     // The operator is told of a client that is gone and had not registered, or that there was one more of many.
-    fn tell_refused<P: Port>(&mut self, port: &mut P, address: Option<SocketAddr>, reason: Reason) {
-        if self.refusals.add() {
-            port.report(&Event::ClientRefused { address, reason });
+    fn tell_refused<P: Port>(
+        &mut self,
+        desk: &mut Desk<P>,
+        address: Option<SocketAddr>,
+        reason: Reason,
+    ) {
+        if reason == Reason::NoMemory || self.refusals.add() {
+            desk.report(&Event::ClientRefused { address, reason });
         }
     }
 
@@ -75,13 +80,13 @@ impl<X: Attachment, C: Connection> Clients<X, C> {
     // A connection over which no client can be served is closed. The operator is told.
     fn refuse<P: Carries<ToClient>>(
         &mut self,
-        port: &mut P,
+        desk: &mut Desk<P>,
         connection: P::Connection,
         reason: Reason,
     ) {
-        let address = port.address(&connection);
-        port.close(connection);
-        self.tell_refused(port, address, reason);
+        let address = desk.port.address(&connection);
+        desk.port.close(connection);
+        self.tell_refused(desk, address, reason);
     }
 
     /// A client came, whose attachment is under a ticket. Where it can't be taken in its connection is closed.
@@ -94,13 +99,13 @@ impl<X: Attachment, C: Connection> Clients<X, C> {
     ) {
         let attachment = self.lobby.admit(rt, ticket);
         let Some(connection) = desk.port.open(line) else {
-            return self.tell_refused(&mut desk.port, None, Reason::Closed);
+            return self.tell_refused(desk, None, Reason::Closed);
         };
         let Some(attachment) = attachment else {
-            return self.refuse(&mut desk.port, connection, Reason::NoPlace);
+            return self.refuse(desk, connection, Reason::NoPlace);
         };
         if let Err(connection) = self.begin(&desk.site, connection, attachment, ticket) {
-            return self.refuse(&mut desk.port, connection, Reason::NoMemory);
+            return self.refuse(desk, connection, Reason::NoMemory);
         }
         self.wake(line);
         if desk.set_patience(line, PATIENCE).is_err() {
@@ -170,24 +175,29 @@ impl<X: Attachment, C: Connection> Clients<X, C> {
             return;
         };
         let network = client.network;
+        let reason = client.reason_to_tell(reason);
         let connection = client.into_connection();
         let Desk {
             site,
             port,
             timers,
+            shortage,
             ..
         } = desk;
         timers.clear(Timer::Unregistered(line));
         let address = port.address(&connection);
         port.close(connection);
         match site.network_at(network) {
-            Some(config) => port.report(&Event::ClientOut {
-                account: config.account.as_bytes(),
-                network: config.network.as_bytes(),
-                address,
-                reason,
-            }),
-            None => self.tell_refused(port, address, reason),
+            Some(config) => {
+                let event = Event::ClientOut {
+                    account: config.account.as_bytes(),
+                    network: config.network.as_bytes(),
+                    address,
+                    reason,
+                };
+                shortage.report(port, &event);
+            }
+            None => self.tell_refused(desk, address, reason),
         }
     }
 }

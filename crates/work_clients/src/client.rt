@@ -1,7 +1,6 @@
 //! One client.
 ghost use Rattle.std.specs.Prelude.{◌≡◌, [], IfOk, OnErr, IfSome, drop};
-ghost use Rattle.work_clients.specs.Course.{Course};
-ghost use Rattle.work_clients.specs.Source.{IsByRight};
+ghost use Rattle.work_clients.specs.Served.{IsServed};
 
 use crate::turned_away::TurnedAway;
 use attach::Attachment;
@@ -12,7 +11,8 @@ use std::collections::VecDeque;
 use work_desk::{Fate, Site};
 use work_lines::{Guest, Input};
 
-/// A client. All that was told to it, and all that waits, was told by right.
+/// A client. All that was told to it, and all that waits, was told by right, and its session heard what came over its
+/// connection alone.
 #[derive(Drop)]
 pub(crate) struct Client<X: Attachment, C: Connection> {
     pub(crate) guest: Guest<X, C>,
@@ -31,7 +31,7 @@ pub(crate) struct Client<X: Attachment, C: Connection> {
     pub(crate) ticket: u64,
     /// Whether it stands in the queue of those that have something to do.
     pub(crate) is_queued: bool,
-    ghost by_right: { ∥ Course IsByRight session (drop done effects.items) guest told ∥₁ },
+    ghost by_right: { ∥ IsServed input session (drop done effects.items) guest told ∥₁ },
 }
 
 /// What came of telling a client something as it happens.
@@ -55,8 +55,10 @@ pub(crate) fn delivery_of(is_taken: bool) -> Delivery {
 }
 
 impl<X: Attachment, C: Connection> Client<X, C> {
-    /// A client that hasn't registered yet, and to which nothing was told. For want of memory the connection comes back.
+    /// A client that hasn't registered yet, from which nothing came, and to which nothing was told. For want of memory the
+    /// connection comes back.
     pub(crate) fn new(site: &Site, connection: C, attachment: X) -> Result<Client<X, C>, C>
+        requires received { C.received connection ≡ [] }
         requires sent { C.sent connection ≡ [] }
         requires owed { (X.state attachment).owed ≡ [] }
     {

@@ -40,8 +40,8 @@ impl<X: Attachment, C: Connection> Clients<X, C> {
         }
     }
 
-    /// A client that came under that ticket begins its session over a connection, to which nothing was told, with an attachment
-    /// to which nothing is owed. For want of memory the connection comes back, and the attachment is let go.
+    /// A client that came under that ticket begins its session over a connection, over which nothing came and nothing was told,
+    /// with an attachment to which nothing is owed. For want of memory the connection comes back, and the attachment is let go.
     pub(crate) fn begin(
         &mut self,
         site: &Site,
@@ -49,6 +49,7 @@ impl<X: Attachment, C: Connection> Clients<X, C> {
         attachment: X,
         ticket: u64,
     ) -> Result<(), C>
+        requires received { C.received connection ≡ [] }
         requires sent { C.sent connection ≡ [] }
         requires owed { (X.state attachment).owed ≡ [] }
     {

@@ -35,6 +35,15 @@ impl<X: Attachment, C: Connection> Client<X, C> {
         self.turned_away == TurnedAway::Waits
     }
 
+    /// Why it is gone, as the operator is told. Of one that is turned away that is so however it goes, but for want of memory.
+    pub(crate) fn reason_to_tell(&self, reason: Reason) -> Reason {
+        match self.turned_away {
+            TurnedAway::No => reason,
+            _ if reason == Reason::NoMemory => reason,
+            _ => Reason::WrongSecret,
+        }
+    }
+
     /// What the client is to do next, where its line came to that. One that is turned away waits.
     pub(crate) fn hold<P: Port>(&mut self, desk: &mut Desk<P>, step: ClientStep) -> ClientStep {
         let is_new = self.turned_away == TurnedAway::No && self.network.is_none();

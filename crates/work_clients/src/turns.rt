@@ -100,7 +100,8 @@ impl<X: Attachment, C: Connection> Client<X, C> {
         self.hold(desk, step)
     }
 
-    // The client's next line, once all of the line before is done, or more bytes for it.
+    // The client's next line, once all of the line before is done, or more bytes for it. No line follows one that its session
+    // couldn't hear.
     fn hear<K: Peek, P: Carries<ToClient, Connection = C>>(
         &mut self,
         desk: &mut Desk<P>,
@@ -124,7 +125,10 @@ impl<X: Attachment, C: Connection> Client<X, C> {
                         self.done = 0;
                         ClientStep::Do
                     }
-                    Err(fault) => ClientStep::Over(reason_of(fault)),
+                    Err(fault) => {
+                        self.input.lose();
+                        ClientStep::Over(reason_of(fault))
+                    }
                 }
             }
             Next::TooLong => match self.session.too_long(site.alloc, &site.directory) {
@@ -133,7 +137,10 @@ impl<X: Attachment, C: Connection> Client<X, C> {
                     self.done = 0;
                     ClientStep::Do
                 }
-                Err(_) => ClientStep::Over(Reason::NoMemory),
+                Err(_) => {
+                    self.input.lose();
+                    ClientStep::Over(Reason::NoMemory)
+                }
             },
             Next::More => step_after(
                 self.guest

@@ -1,9 +1,9 @@
-use Rattle.std.proofs.Common.{sym}
+use Rattle.std.proofs.Common.{sym, refl}
 use Rattle.std.proofs.Math.Logic.{∥∥₁_map}
-use Rattle.work_clients.proofs.CourseLemmas.{knows_own}
+use Rattle.work_clients.proofs.CourseLemmas.{goes_on, knows_own}
 use Rattle.work_clients.proofs.client.Client.know_nick.Goals as goal
 
 pub invariant_of-self : goal.invariant_of-self
 invariant_of-self g c = record {
-  by_right = ∥∥₁_map c.args.self.now.by_right (knows_own c.in-Some.facts.now (sym c.in-Some.ensures) c.in_ok-self.ensures);
+  by_right = ∥∥₁_map c.args.self.now.by_right (goes_on refl (λ h. knows_own c.in-Some.facts.now (sym c.in-Some.ensures) c.in_ok-self.ensures));
 }

@@ -1,8 +1,8 @@
-use Rattle.std.proofs.Common.{ℕ, List, sym, subst}
+use Rattle.std.proofs.Common.{ℕ, List, sym, subst, refl}
 use Rattle.std.proofs.Math.Logic.{∥∥₁_map}
 use Rattle.irc_caps.specs.declared.recipients.Recipients.TheVariants.{All}
 use Rattle.passed_lines.specs.Passing.{IsNickOf}
-use Rattle.work_clients.proofs.CourseLemmas.{learned}
+use Rattle.work_clients.proofs.CourseLemmas.{goes_on, learned}
 use Rattle.work_clients.proofs.client.Client.learn_nick.Goals as goal
 
 pub invariant_of-self : goal.invariant_of-self
@@ -10,6 +10,6 @@ invariant_of-self g c =
     let entry = c.args.entry.now in
     let theirs : ∥ IsNickOf entry.account entry.network c.args.nick ∥₁ = subst (λ (n : List ℕ). ∥ IsNickOf entry.account entry.network n ∥₁) (sym c.requires) entry.is_theirs in
     record {
-      by_right = ∥∥₁_map c.args.self.now.by_right (learned c.in-Some.field-0.now All c.args.nick
-          c.in-Some.ensures.facts c.as_bytes-account.ensures c.as_bytes-network.ensures c.in-Some.ensures.hears theirs);
+      by_right = ∥∥₁_map c.args.self.now.by_right (goes_on refl (λ h. learned c.in-Some.field-0.now All c.args.nick
+          c.in-Some.ensures.facts c.as_bytes-account.ensures c.as_bytes-network.ensures c.in-Some.ensures.hears theirs));
     }

@@ -8,7 +8,7 @@ invariant_of-result g c =
     let arm = c.in-Some-Upstream in
     let door = c.nothing_happens_before_the_door.ensures in
     record {
-      is_said = ∥∥₁_map c.args.self.now.by_right (said_for door.outside door.entering c.each_reaches_its_own_past_alone.ensures.same
+      is_said = ∥∥₁_map c.args.self.now.by_right (λ served. said_for door.outside door.entering c.each_reaches_its_own_past_alone.ensures.same
           c.in_ok-facts.facts.now arm.field-0.now (sym c.in_ok-facts.ensures) (rw c.as_slice.ensures.value at arm.ensures.next) arm.field-0-is
-          c.as_bytes.ensures c.as_bytes-2.ensures c.as_bytes-3.ensures);
+          c.as_bytes.ensures c.as_bytes-2.ensures c.as_bytes-3.ensures served.course);
     }

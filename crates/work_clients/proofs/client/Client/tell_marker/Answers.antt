@@ -1,7 +1,7 @@
 use Rattle.std.proofs.Common.{ℕ, List, sym, ◌∙◌, subst}
 use Rattle.std.proofs.Math.Logic.{∥∥₁_map}
 use Rattle.work_clients.specs.Question.{IsAnswerTo}
-use Rattle.work_clients.proofs.CourseLemmas.{told_so_far, stayed, informed}
+use Rattle.work_clients.proofs.CourseLemmas.{goes_on, told_so_far, stayed, informed}
 use Rattle.work_clients.proofs.client.Client.tell_marker.Goals as goal
 
 pub offer-requires : goal.offer-requires
@@ -9,7 +9,7 @@ offer-requires g c = ∥∥₁_map c.args.self.now.by_right told_so_far
 
 pub invariant_of-self : goal.invariant_of-self
 invariant_of-self g c = record {
-  by_right = ∥∥₁_map c.args.self.now.by_right (stayed c.offer.new.self c.if-not-offer.ensures.waiting c.if-not-offer.ensures.handed);
+  by_right = ∥∥₁_map c.args.self.now.by_right (goes_on c.offer.ensures.received (λ h. stayed c.offer.new.self c.if-not-offer.ensures.waiting c.if-not-offer.ensures.handed));
 }
 
 pub invariant_of-self-in-Ok-Some : goal.invariant_of-self-in-Ok-Some
@@ -19,6 +19,6 @@ invariant_of-self-in-Ok-Some g c =
     let answered = c.in-Ok-Some.answered in
     let answers : IsAnswerTo c.args.self.now.session question text answered = subst (λ (t : List ℕ). IsAnswerTo c.args.self.now.session question t answered) (sym c.as_slice.ensures.value) (rw c.in-Ok-Some.field-0-is at c.in-Ok-Some.ensures) in
     record {
-      by_right = ∥∥₁_map c.args.self.now.by_right (informed c.args.target.now question text answered c.offer.new.self
-          (c.as_bytes-question.ensures ∙ c.in-Ok.ensures) c.answered.ensures answers c.if-not-offer.ensures.waiting c.if-not-offer.ensures.handed);
+      by_right = ∥∥₁_map c.args.self.now.by_right (goes_on c.offer.ensures.received (λ h. informed c.args.target.now question text answered c.offer.new.self
+          (c.as_bytes-question.ensures ∙ c.in-Ok.ensures) c.answered.ensures answers c.if-not-offer.ensures.waiting c.if-not-offer.ensures.handed));
     }

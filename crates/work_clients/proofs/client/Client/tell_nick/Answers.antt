@@ -3,7 +3,7 @@ use Rattle.std.proofs.Math.Logic.{∥∥₁_map}
 use Rattle.irc_caps.specs.declared.recipients.Recipients.TheVariants.{All}
 use Rattle.passed_lines.specs.Passing.{IsNickOf}
 use Rattle.work_clients.specs.Nick.{nick_line}
-use Rattle.work_clients.proofs.CourseLemmas.{told_so_far, stayed, renamed}
+use Rattle.work_clients.proofs.CourseLemmas.{goes_on, told_so_far, stayed, renamed}
 use Rattle.work_clients.proofs.client.Client.tell_nick.Goals as goal
 
 pub offer-requires : goal.offer-requires
@@ -11,7 +11,7 @@ offer-requires g c = ∥∥₁_map c.args.self.now.by_right told_so_far
 
 pub invariant_of-self : goal.invariant_of-self
 invariant_of-self g c = record {
-  by_right = ∥∥₁_map c.args.self.now.by_right (stayed c.offer.new.self c.if-not-offer.ensures.waiting c.if-not-offer.ensures.handed);
+  by_right = ∥∥₁_map c.args.self.now.by_right (goes_on c.offer.ensures.received (λ h. stayed c.offer.new.self c.if-not-offer.ensures.waiting c.if-not-offer.ensures.handed));
 }
 
 pub invariant_of-self-2 : goal.invariant_of-self-2
@@ -19,7 +19,7 @@ invariant_of-self-2 g c =
     let entry = c.args.entry.now in
     let theirs : ∥ IsNickOf entry.account entry.network c.args.nick ∥₁ = subst (λ (n : List ℕ). ∥ IsNickOf entry.account entry.network n ∥₁) (sym c.requires) entry.is_theirs in
     record {
-      by_right = ∥∥₁_map c.args.self.now.by_right (renamed c.in-Some.field-0.now All c.args.nick c.as_slice.result.now c.offer.new.self
+      by_right = ∥∥₁_map c.args.self.now.by_right (goes_on c.offer.ensures.received (λ h. renamed c.in-Some.field-0.now All c.args.nick c.as_slice.result.now c.offer.new.self
           c.in-Some.ensures.facts c.as_bytes-account.ensures c.as_bytes-network.ensures c.in-Some.ensures.hears theirs
-          (c.as_slice.ensures.value ∙ c.in-Ok.ensures ∙ (ap (λ (old : List ℕ). nick_line old c.as_bytes-2.result.now) c.as_bytes.ensures ∙ ap (nick_line c.args.self.now.told) c.as_bytes-2.ensures)) c.if-not-offer.ensures.waiting c.if-not-offer.ensures.handed);
+          (c.as_slice.ensures.value ∙ c.in-Ok.ensures ∙ (ap (λ (old : List ℕ). nick_line old c.as_bytes-2.result.now) c.as_bytes.ensures ∙ ap (nick_line c.args.self.now.told) c.as_bytes-2.ensures)) c.if-not-offer.ensures.waiting c.if-not-offer.ensures.handed));
     }
