@@ -5,7 +5,7 @@ use crate::station::WorkEnd;
 use crate::work_port::WorkPort;
 use crate::worker::Worker;
 use attach::Attachment;
-use passed_lines::{NetworkEntry, Passed};
+use passed_lines::NetworkEntry;
 use work_servers::Standing;
 
 impl<N: Node, X: Attachment, P: WorkPort> Worker<N, X, P> {
@@ -21,7 +21,9 @@ impl<N: Node, X: Attachment, P: WorkPort> Worker<N, X, P> {
                 self.clients
                     .tell_message(&mut self.desk, network, &live.lend());
             }
-            Mail::Relay { network, line } => return self.pass_on_here(network, &line.lend()),
+            Mail::Relay { network, line } => {
+                self.clients.pass_on(&mut self.desk, network, &line.lend());
+            }
             Mail::Say { network, said } => return self.say(network, &said.lend()),
             Mail::Marked { network, target } => {
                 return self.tell_mark(network, target.as_bytes(), None);
@@ -29,16 +31,6 @@ impl<N: Node, X: Attachment, P: WorkPort> Worker<N, X, P> {
             Mail::Published => self.publish(),
         }
         Ok(())
-    }
-
-    /// Passes a line of a server on to this worker's sessions of the network.
-    pub(crate) fn pass_on_here(
-        &mut self,
-        network: usize,
-        passed: &Passed<'_>,
-    ) -> Result<(), WorkEnd> {
-        self.clients.pass_on(&mut self.desk, network, passed);
-        self.tell_mark_of_joined(network, passed.text)
     }
 
     // How the session with a network's server stands now.

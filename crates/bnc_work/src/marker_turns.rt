@@ -7,28 +7,7 @@ use crate::worker::Worker;
 use attach::Attachment;
 use byte_text::Text;
 use chat_change::{Buffer, Change};
-use irc_line::{TagLimit, read_line};
 use std::alloc::{AllocError, Global};
-
-// A line by which somebody joins a channel (RFC 2812, section 3.2.1).
-#[derive(Clone, Copy)]
-struct Join<'a> {
-    nick: &'a [u8],
-    channel: &'a [u8],
-}
-
-// What a line says of a channel that is joined.
-fn join_of(bytes: &[u8]) -> Option<Join<'_>> {
-    let bytes = bytes.strip_suffix(b"\r\n").unwrap_or(bytes);
-    let line = read_line(bytes, TagLimit::Server).ok()?;
-    if !line.command().eq_ignore_ascii_case(b"JOIN") {
-        return None;
-    }
-    let source = line.source()?;
-    let nick = source.split(|byte| *byte == b'!').next()?;
-    let channel = line.parameters().first().copied()?;
-    Some(Join { nick, channel })
-}
 
 /// A buffer whose marker changes that come bring further, and the node's marker before they are taken, in milliseconds.
 #[derive(Drop)]
@@ -93,24 +72,17 @@ pub(crate) fn marks_ahead<N: Node>(
 }
 
 impl<N: Node, X: Attachment, P: WorkPort> Worker<N, X, P> {
-    /// Those sessions of the network that joined a channel by this line of its server are told the channel's read marker.
-    pub(crate) fn tell_mark_of_joined(
-        &mut self,
-        network: usize,
-        bytes: &[u8],
-    ) -> Result<(), WorkEnd> {
-        let Some(join) = join_of(bytes) else {
+    /// All workers' sessions of a network are told the read marker of the channel that was joined by the last line of its server,
+    /// where it joined one.
+    pub(crate) fn tell_mark_of_joined(&mut self, line: usize) -> Result<(), WorkEnd> {
+        let Some(network) = self.servers.network(line) else {
             return Ok(());
         };
-        let is_own = match self.desk.site.entry(network) {
-            Some(entry) => entry.nick().eq_ignore_ascii_case(join.nick),
-            None => false,
+        let Some(channel) = self.servers.take_joined(line) else {
+            return Ok(());
         };
-        if is_own {
-            self.tell_mark(network, join.channel, None)
-        } else {
-            Ok(())
-        }
+        self.post_mark(network, channel.as_bytes());
+        self.tell_mark(network, channel.as_bytes(), None)
     }
 
     /// All workers' sessions are told of what was put, where it is a marker, but for one client.

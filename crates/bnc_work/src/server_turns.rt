@@ -93,35 +93,36 @@ impl<N: Node, X: Attachment, P: WorkPort> Worker<N, X, P> {
         if let Some(standing) = self.servers.note_entry(&mut self.desk, line) {
             self.spread(standing, effects.has_passed_on());
         }
-        if self.do_server_effects(line, &effects)? {
+        if self.do_server_effects(line, &effects) {
             self.servers.recycle(line, effects);
+            self.tell_mark_of_joined(line)
         } else {
             self.close_server(line, Reason::NoMemory);
+            Ok(())
         }
-        Ok(())
     }
 
     // Does these in their order. False where the node refuses a change: the rest is left then.
-    fn do_server_effects(&mut self, line: usize, effects: &ServerEffects) -> Result<bool, WorkEnd> {
+    fn do_server_effects(&mut self, line: usize, effects: &ServerEffects) -> bool {
         for place in 0..usize::MAX {
             let Some(deed) = effects.at(place) else {
-                return Ok(true);
+                return true;
             };
             match deed {
                 Deed::Sent => {}
                 Deed::Put(put) => {
                     if !self.put_from(line, &put) {
-                        return Ok(false);
+                        return false;
                     }
                 }
-                Deed::PassOn(passed) => self.pass_on(line, &passed)?,
+                Deed::PassOn(passed) => self.pass_on(line, &passed),
                 Deed::Close => {
                     self.servers.end(line, Reason::Ended);
                     self.servers.wake(line);
                 }
             }
         }
-        Ok(true)
+        true
     }
 
     // Puts what a server's line came to, and says whether the node has it. A message is told as it comes, also where it waits
@@ -156,14 +157,14 @@ impl<N: Node, X: Attachment, P: WorkPort> Worker<N, X, P> {
     }
 
     // Passes a line of a server on to all workers' sessions of its network.
-    fn pass_on(&mut self, line: usize, passed: &Passed<'_>) -> Result<(), WorkEnd> {
+    fn pass_on(&mut self, line: usize, passed: &Passed<'_>) {
         let Some(network) = self.servers.network(line) else {
-            return Ok(());
+            return;
         };
         if self.desk.site.workers > 1 {
             self.post_line(network, passed);
         }
-        self.pass_on_here(network, passed)
+        self.clients.pass_on(&mut self.desk, network, passed);
     }
 
     // Tells the other workers a line that is passed on.

@@ -248,6 +248,7 @@ impl<N: Node, X: Attachment, P: WorkPort> Worker<N, X, P> {
         self.look_after_timers()?;
         self.clients.tell_refusals(&mut self.desk);
         self.peers.tell_refusals(&mut self.desk);
+        self.desk.begin_turn();
         if let Some(line) = self.servers.next_busy() {
             self.serve_server(line)?;
         }
