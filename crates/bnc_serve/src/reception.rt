@@ -12,6 +12,7 @@ use std::io::Eprint;
 use std::net::SocketAddr;
 use std::sync::Wait;
 use std::time::Clock;
+use work_desk::Shortage;
 
 // So many clients at most wait for a place.
 const MOST_QUEUED: usize = 16;
@@ -34,6 +35,8 @@ pub(crate) struct Reception<X> {
     queue: VecDeque<(TcpStream, SocketAddr)>,
     // Those that were closed before they were handed in.
     refusals: Refusals,
+    // Those of them for which there was no memory.
+    shortage: Shortage,
 }
 
 // Takes connections in for as long as the system can wait for them. Then the workers are told to end.
@@ -77,6 +80,7 @@ impl<X: Attachment> Reception<X> {
             next: 0,
             queue: VecDeque::new(alloc),
             refusals: Refusals::new(),
+            shortage: Shortage::new(),
         }
     }
 
@@ -84,14 +88,15 @@ impl<X: Attachment> Reception<X> {
     // system can't wait.
     fn wait(&mut self) -> bool {
         let most = if self.queue.is_empty() {
-            self.refusals.patience()
+            self.refusals.patience().or(self.shortage.patience())
         } else {
             Some(PATIENCE)
         };
         self.listeners.wait(most)
     }
 
-    // The operator is told once a minute how many more clients were refused than were told one by one.
+    // The operator is told once a minute how many more clients were refused than were told one by one, and how many for want of
+    // memory.
     fn tell_refusals<R: Clock + Eprint>(&mut self, rt: &R) {
         let Some(now) = monotonic_ms(rt) else {
             return;
@@ -99,13 +104,17 @@ impl<X: Attachment> Reception<X> {
         if let Some(count) = self.refusals.take_untold(now) {
             report(rt, &Event::ClientsRefused { count });
         }
+        if let Some(count) = self.shortage.take(now) {
+            report(rt, &Event::OutOfMemory { count });
+        }
     }
 
     // The operator is told that a client was closed before it was handed to a worker, or that there was one more of many.
     fn tell_refused<R: Clock + Eprint>(&mut self, rt: &R, address: SocketAddr, reason: Reason) {
-        if self.refusals.add() {
-            let address = Some(address);
-            report(rt, &Event::ClientRefused { address, reason });
+        let address = Some(address);
+        let event = Event::ClientRefused { address, reason };
+        if self.shortage.is_told(&event) && self.refusals.add() {
+            report(rt, &event);
         }
     }
 
