@@ -8,3 +8,4 @@ pub mod Differing
 pub mod Beginnings
 -- what the contracts of the readers cite besides
 pub mod Sections
+pub mod Parts

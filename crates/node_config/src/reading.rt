@@ -1,11 +1,16 @@
 //! Reading a configuration.
-ghost use Rattle.std.specs.Prelude.{IfOk, IfErr};
+ghost use Rattle.std.specs.Prelude.{◌≡◌, true, false, IfOk, IfErr};
 ghost use Rattle.toml.specs.View.{table_view};
 ghost use Rattle.node_config.specs.Document.{IsDocument, IsRefused};
+ghost use Rattle.node_config.specs.Differing.{all_differ, same_peer, has_peer, same_account};
+ghost use Rattle.node_config.specs.Differing.{same_network, have_accounts};
 ghost use Rattle.node_config.specs.Meaning.{AreLimitsOf, IsConfigOf, Says};
+ghost use Rattle.node_config.specs.Names.{is_cluster_name};
+ghost use Rattle.node_config.specs.Parts.{IsHeadOf, AreListsOf};
 ghost use Rattle.node_config.specs.Sections.{table_of};
 
 use crate::config::Config;
+use crate::entries::{Account, Network, Peer};
 use crate::fault::{ConfigFault, ConfigPlace, ValueFault};
 use crate::keys::check_keys;
 use crate::limits::{
@@ -15,7 +20,10 @@ use crate::limits::{
 use crate::networks::{read_accounts, read_networks};
 use crate::peers::read_peers;
 use crate::section::Section;
+use byte_text::Text;
+use peer_lines::{NodeName, SharedWord};
 use std::alloc::Global;
+use std::net::SocketAddr;
 use toml::Table;
 
 /// Reads a configuration. It is refused for the first of these: it isn't UTF-8 or TOML, a key is missing or isn't known, a
@@ -54,6 +62,24 @@ fn line_at(bytes: &[u8], at: usize) -> usize {
     ends.saturating_add(1)
 }
 
+// Who the node is, and where it listens.
+#[derive(Drop)]
+struct Head {
+    name: Text,
+    node: NodeName,
+    listen: SocketAddr,
+    peer_listen: SocketAddr,
+    peer_word: SharedWord,
+}
+
+// The lists of a document.
+#[derive(Drop)]
+struct Lists {
+    peers: Vec<Peer>,
+    accounts: Vec<Account>,
+    networks: Vec<Network>,
+}
+
 fn read_values(alloc: Global, table: &Table) -> Result<Config, ValueFault>
     ensures { IfOk result (λ config. IsConfigOf (table_view table.now) config) }
 {
@@ -61,16 +87,20 @@ fn read_values(alloc: Global, table: &Table) -> Result<Config, ValueFault>
         table,
         place: ConfigPlace::Top,
     };
-    let name = top.cluster_name(alloc, "name")?;
-    let node = top.node_name(alloc, "node")?;
-    let listen = top.address("listen")?;
-    let peer_listen = top.address("peer_listen")?;
-    let peer_word = top.shared_word(alloc, "peer_word")?;
+    let Head {
+        name,
+        node,
+        listen,
+        peer_listen,
+        peer_word,
+    } = read_head(alloc, top)?;
     let limits = read_limits(top)?;
     let maximum = top.number_or_least("maximum", LEAST_MAXIMUM, MOST_MAXIMUM)?;
-    let peers = read_peers(alloc, top, &node)?;
-    let accounts = read_accounts(alloc, top)?;
-    let networks = read_networks(alloc, top, accounts.as_slice())?;
+    let Lists {
+        peers,
+        accounts,
+        networks,
+    } = read_lists(alloc, top, &node)?;
     Ok(Config {
         name,
         node,
@@ -79,6 +109,42 @@ fn read_values(alloc: Global, table: &Table) -> Result<Config, ValueFault>
         peer_word,
         limits,
         maximum,
+        peers,
+        accounts,
+        networks,
+    })
+}
+
+fn read_head(alloc: Global, top: Section<'_>) -> Result<Head, ValueFault>
+    ensures named { IfOk result (λ head. is_cluster_name head.name ≡ true) }
+    ensures values { IfOk result (λ head. IsHeadOf (table_of top.entry) head) }
+{
+    let name = top.cluster_name(alloc, "name")?;
+    let node = top.node_name(alloc, "node")?;
+    let listen = top.address("listen")?;
+    let peer_listen = top.address("peer_listen")?;
+    let peer_word = top.shared_word(alloc, "peer_word")?;
+    Ok(Head {
+        name,
+        node,
+        listen,
+        peer_listen,
+        peer_word,
+    })
+}
+
+fn read_lists(alloc: Global, top: Section<'_>, node: &NodeName) -> Result<Lists, ValueFault>
+    ensures peers { IfOk result (λ l. all_differ same_peer l.peers.items ≡ true) }
+    ensures others { IfOk result (λ l. has_peer l.peers.items node.now ≡ false) }
+    ensures accounts { IfOk result (λ l. all_differ same_account l.accounts.items ≡ true) }
+    ensures networks { IfOk result (λ l. all_differ same_network l.networks.items ≡ true) }
+    ensures known { IfOk result (λ l. have_accounts l.accounts.items l.networks.items ≡ true) }
+    ensures values { IfOk result (λ l. AreListsOf (table_of top.entry) l) }
+{
+    let peers = read_peers(alloc, top, node)?;
+    let accounts = read_accounts(alloc, top)?;
+    let networks = read_networks(alloc, top, accounts.as_slice())?;
+    Ok(Lists {
         peers,
         accounts,
         networks,
