@@ -1,5 +1,6 @@
 //! The world of a script: nine nodes, and the directory that their sessions go by.
-ghost use Rattle.std.specs.Prelude.{◌≡◌, ◌≢◌, ◌<◌, [], map, length, Ok, IfOk, IfErr, OnOk};
+ghost use Rattle.std.specs.Prelude.{◌≡◌, ◌≢◌, ◌<◌, [], ◌∷◌, ◌++◌, map, length, Ok, IfOk, IfErr, OnOk};
+ghost use Rattle.std.specs.Prelude.{false};
 ghost use Rattle.byte_text.specs.Writes.{Writes};
 ghost use Rattle.chat_change.specs.Words.{begins_with};
 ghost use Rattle.gossip_delta.specs.ChangeLine.{read_change};
@@ -65,6 +66,31 @@ impl Model for World {
     ghost invariant = { λ w. (length w.nodes.items ≡ node_count) × (w.selected < node_count) };
 }
 
+// A network that isn't up.
+fn network_of(alloc: Global, network: &[u8], nick: &[u8]) -> Result<Network, NoMemory>
+    ensures { IfOk result (λ made. made ≡ record {
+      name = network.now;
+      entry = record { is_up = false; nick = nick.now; channels = []; takes_redact = false };
+    }) }
+{
+    let entry = Entry::new(false, Text::new(alloc, nick)?, Vec::new(alloc), false);
+    Ok(Network::new(Text::new(alloc, network)?, entry))
+}
+
+// An account of that name without a secret, with its one network.
+fn account_of(alloc: Global, account: &[u8], network: Network) -> Result<Account, NoMemory>
+    ensures { IfOk result (λ made. made ≡ record {
+      name = account.now;
+      secret = [];
+      networks = network ∷ [];
+    }) }
+{
+    let name = Text::new(alloc, account)?;
+    let mut made = Account::new(alloc, name, Text::new(alloc, b"")?);
+    made.add(network)?;
+    Ok(made)
+}
+
 // The one account with its one network, which isn't up.
 fn directory_of(
     alloc: Global,
@@ -75,12 +101,10 @@ fn directory_of(
     ensures { IfOk result
         (λ directory. directory ≡ spec.directory_of account.now network.now nick.now) }
 {
-    let entry = Entry::new(false, Text::new(alloc, nick)?, Vec::new(alloc), false);
-    let name = Text::new(alloc, account)?;
-    let mut entry_of = Account::new(alloc, name, Text::new(alloc, b"")?);
-    entry_of.add(Network::new(Text::new(alloc, network)?, entry))?;
+    let network = network_of(alloc, network, nick)?;
+    let account = account_of(alloc, account, network)?;
     let mut directory = Directory::new(alloc);
-    directory.add(entry_of)?;
+    directory.add(account)?;
     Ok(directory)
 }
 
@@ -89,29 +113,31 @@ fn facts_of(alloc: Global, account: &[u8], network: &[u8], nick: &[u8]) -> Resul
     ensures { IfOk result
         (λ facts. facts ≡ spec.facts_of account.now network.now nick.now) }
 {
-    Ok(Facts {
-        account: Text::new(alloc, account)?,
-        network: Text::new(alloc, network)?,
-        nick: Text::new(alloc, nick)?,
-        caps: CapSet::all(),
-        reference: 1,
-        cluster: Text::new(alloc, b"bnc.example")?,
-        maximum: 100,
-    })
+    Facts::new(
+        alloc,
+        account,
+        network,
+        nick,
+        CapSet::all(),
+        b"bnc.example",
+        100,
+    )
 }
 
 fn copy_of(alloc: Global, facts: &Facts) -> Result<Facts, NoMemory>
     ensures { IfOk result (λ copy. copy ≡ facts.now) }
 {
-    Ok(Facts {
-        account: facts.account.try_clone(alloc)?,
-        network: facts.network.try_clone(alloc)?,
-        nick: facts.nick.try_clone(alloc)?,
-        caps: facts.caps,
-        reference: facts.reference,
-        cluster: facts.cluster.try_clone(alloc)?,
-        maximum: facts.maximum,
-    })
+    let mut copy = Facts::new(
+        alloc,
+        facts.account.as_bytes(),
+        facts.network.as_bytes(),
+        facts.nick.as_bytes(),
+        facts.caps,
+        facts.cluster.as_bytes(),
+        facts.maximum,
+    )?;
+    copy.reference = facts.reference;
+    Ok(copy)
 }
 
 fn first_life(alloc: Global, name: &[u8]) -> Result<Life, NoMemory>
@@ -123,22 +149,29 @@ fn first_life(alloc: Global, name: &[u8]) -> Result<Life, NoMemory>
     }
 }
 
+// One life more, of the node of that name.
+fn push_life(alloc: Global, lives: &mut Vec<Life>, name: &[u8]) -> Result<(), NoMemory>
+    ensures { IfOk result (λ _. lives.new.items
+        ≡ lives.old.items ++ record { node = name.now; incarnation = 1 } ∷ []) }
+{
+    let life = first_life(alloc, name)?;
+    push(lives, life)
+}
+
 fn first_lives(alloc: Global) -> Result<Vec<Life>, NoMemory>
     ensures { IfOk result (λ lives. lives.items ≡ spec.first_lives) }
 {
-    let one = first_life(alloc, b"n1")?;
-    let two = first_life(alloc, b"n2")?;
-    let three = first_life(alloc, b"n3")?;
-    let four = first_life(alloc, b"n4")?;
-    let five = first_life(alloc, b"n5")?;
-    let six = first_life(alloc, b"n6")?;
-    let seven = first_life(alloc, b"n7")?;
-    let eight = first_life(alloc, b"n8")?;
-    let nine = first_life(alloc, b"n9")?;
-    match vec![in alloc; one, two, three, four, five, six, seven, eight, nine] {
-        Ok(lives) => Ok(lives),
-        Err(_) => Err(NoMemory),
-    }
+    let mut lives = Vec::new(alloc);
+    push_life(alloc, &mut lives, b"n1")?;
+    push_life(alloc, &mut lives, b"n2")?;
+    push_life(alloc, &mut lives, b"n3")?;
+    push_life(alloc, &mut lives, b"n4")?;
+    push_life(alloc, &mut lives, b"n5")?;
+    push_life(alloc, &mut lives, b"n6")?;
+    push_life(alloc, &mut lives, b"n7")?;
+    push_life(alloc, &mut lives, b"n8")?;
+    push_life(alloc, &mut lives, b"n9")?;
+    Ok(lives)
 }
 
 // A node in each of those lives.
