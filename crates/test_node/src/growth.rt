@@ -9,6 +9,9 @@ use shared_node::{Naming, Pass, PutFault, SharedNode};
 use std::alloc::Global;
 use std::sync::Wait;
 
+/// How often a call is made again that was refused for want of memory.
+pub const REFUSALS: usize = 3;
+
 /// What a pass puts changes on: a node, or what stands under its lock.
 pub trait Target<J: Naming> {
     fn put(&mut self, pass: &mut Pass<J>, changes: &[Change]) -> Result<(), PutFault>;
@@ -54,7 +57,7 @@ fn sees_markers<J: Naming>(
 }
 
 // The pass sees the first markers, so many of them, once each, and nothing else.
-fn sees_first<J: Naming>(
+fn look_at_first<J: Naming>(
     alloc: Global,
     facts: &Facts,
     pass: &mut Pass<J>,
@@ -68,27 +71,73 @@ fn sees_first<J: Naming>(
     }
 }
 
-// Puts the changes. Where they weren't published, for want of memory, none of them is seen, and a put of nothing publishes
-// those that wait: so many.
+// The same, looked at again where there was no memory for it.
+fn sees_first<J: Naming>(
+    alloc: Global,
+    facts: &Facts,
+    pass: &mut Pass<J>,
+    count: usize,
+) -> Result<(), Fault> {
+    for _ in 0..REFUSALS {
+        match look_at_first(alloc, facts, pass, count) {
+            Err(Fault::NoMemory) => {}
+            looked => return looked,
+        }
+    }
+    look_at_first(alloc, facts, pass, count)
+}
+
+// How many of so many changes wait, where they weren't published for want of memory. None where they were.
+fn waiting(put: Result<(), PutFault>, count: usize) -> Result<Option<usize>, Fault> {
+    match put {
+        Ok(()) => Ok(None),
+        Err(PutFault::NoMemory { appended }) => Ok(Some(appended)),
+        Err(PutFault::Waiting) => Ok(Some(count)),
+        Err(PutFault::Exhausted) => Err(Fault::Exhausted),
+    }
+}
+
+// A put of nothing publishes what waits. Where it is refused, it is made again, and nothing more is seen meanwhile than so many
+// of the first markers.
+fn publish<J: Naming, T: Target<J>>(
+    alloc: Global,
+    facts: &Facts,
+    target: &mut T,
+    pass: &mut Pass<J>,
+    seen: usize,
+) -> Result<(), Fault> {
+    for _ in 0..REFUSALS {
+        if waiting(target.put(pass, &[]), 0)?.is_none() {
+            return Ok(());
+        }
+        sees_first(alloc, facts, pass, seen)?;
+    }
+    target.put(pass, &[])?;
+    Ok(())
+}
+
+// Puts the changes behind the first ones, of which so many are there. Where that is refused, those that were appended are
+// published, and it is answered how many are there then.
 fn put_some<J: Naming, T: Target<J>>(
     alloc: Global,
     facts: &Facts,
     target: &mut T,
     pass: &mut Pass<J>,
     changes: &[Change],
+    there: usize,
 ) -> Result<Option<usize>, Fault> {
-    let waiting = match target.put(pass, changes) {
-        Ok(()) => return Ok(None),
-        Err(PutFault::NoMemory { appended }) => appended,
-        Err(PutFault::Waiting) => changes.len(),
-        Err(PutFault::Exhausted) => return Err(Fault::Exhausted),
+    let rest = changes.get(there..).unwrap_or(&[]);
+    let Some(appended) = waiting(target.put(pass, rest), rest.len())? else {
+        return Ok(None);
     };
-    sees_first(alloc, facts, pass, 0)?;
-    target.put(pass, &[])?;
-    Ok(Some(waiting))
+    sees_first(alloc, facts, pass, there)?;
+    publish(alloc, facts, target, pass, there)?;
+    let there = there.saturating_add(appended);
+    sees_first(alloc, facts, pass, there)?;
+    Ok(Some(there))
 }
 
-// Puts markers, and the rest of them where the put was refused: then says how many waited.
+// Puts markers, and the rest of them again and again where a put was refused: then says how many waited at first.
 fn put_all<J: Naming, T: Target<J>>(
     alloc: Global,
     facts: &Facts,
@@ -96,11 +145,13 @@ fn put_all<J: Naming, T: Target<J>>(
     pass: &mut Pass<J>,
     changes: &[Change],
 ) -> Result<Option<usize>, Fault> {
-    let waited = put_some(alloc, facts, target, pass, changes)?;
-    let there = waited.unwrap_or(changes.len());
-    sees_first(alloc, facts, pass, there)?;
-    if there < changes.len() {
-        target.put(pass, &changes[there..])?;
+    let waited = put_some(alloc, facts, target, pass, changes, 0)?;
+    let mut there = waited.unwrap_or(changes.len());
+    for _ in 0..REFUSALS {
+        if there < changes.len() {
+            let some = put_some(alloc, facts, target, pass, changes, there)?;
+            there = some.unwrap_or(changes.len());
+        }
     }
     sees_first(alloc, facts, pass, changes.len())?;
     Ok(waited)

@@ -3,7 +3,7 @@ ghost use Rattle.shared_node.specs.Names.{IsNamed};
 
 use crate::asks::facts;
 use crate::fault::Fault;
-use crate::growth::put_markers;
+use crate::growth::{REFUSALS, put_markers};
 use crate::rows::{LONG, Play, SHORT};
 use crate::steps::Cluster;
 use crate::threads::puts_beside_asks;
@@ -102,10 +102,25 @@ fn play_anew<R: Threads + Wait + AllocGlobal + Sync>(
     play::<Brand, R>(rt, Unnamed::new(passes), row)
 }
 
+// Plays again on a new node where a row ended for want of memory.
+fn play_again<R: Threads + Wait + AllocGlobal + Sync>(
+    rt: &R,
+    passes: usize,
+    row: Play,
+) -> Result<u64, Fault> {
+    for _ in 0..REFUSALS {
+        match play_anew(rt, passes, row) {
+            Err(Fault::NoMemory) => {}
+            played => return played,
+        }
+    }
+    play_anew(rt, passes, row)
+}
+
 #[test]
 fn short_rows_come_to_their_totals(rt: HostRuntime) {
     for (name, passes, row, total) in SHORT {
-        assert_eq!(rt; play_anew(&rt, passes, row), Ok(total), "{name}");
+        assert_eq!(rt; play_again(&rt, passes, row), Ok(total), "{name}");
     }
 }
 
