@@ -5,9 +5,11 @@
 //!     > line of a client
 //!     + line of a client, which comes with CR LF
 //!     ? tells how the session stands
+//!     = line of the server, of which only the channel is told that the session itself joins by it
+//!     * tells the words by which the server refused the session
 //!     ! starts the session
 //!     --
-//!     `send`, `put`, `relay` and `close` with what they carry, and how the session stands
+//!     `send`, `put`, `relay` and `close` with what they carry, `joins`, `refused`, and how the session stands
 //!
 //! Each line comes at the moment 1000. A session is of the account `demo` with the network `net`, as `al`, in the channels
 //! #a and #b, of the node n1 in its incarnation 7. It is new, or the server has welcomed it (`up`), having acknowledged
@@ -145,6 +147,12 @@ fn tell_session(out: &mut Vec<u8>, session: &Upstream) -> Result<(), Error> {
     Ok(())
 }
 
+// Tells the channel that the session itself joins by a line of the server.
+fn tell_joined(out: &mut Vec<u8>, session: &Upstream, line: &str) -> Result<(), Error> {
+    let channel = session.joined(line.as_bytes()).unwrap_or(b"nothing");
+    Ok(tell_row(out, b"joins ", channel)?)
+}
+
 fn step(
     alloc: Global,
     session: &mut Upstream,
@@ -183,6 +191,8 @@ fn play_line(
     let (mark, line) = text.split_once(" ").unwrap_or((text, ""));
     let effects = match mark {
         "?" => return tell_session(out, session),
+        "=" => return tell_joined(out, session, line),
+        "*" => return Ok(tell_row(out, b"refused ", session.refusal())?),
         "+" => {
             let whole = format!(in alloc; "{line}\r\n")?;
             step_again(alloc, session, ">", whole.as_str())?

@@ -98,11 +98,13 @@ fn tell_faults_of_nodes(out: &mut Vec<u8>) -> io::Result<()> {
     tell_faults(out, "shared_node", &puts)
 }
 
-const REASONS: [Reason; 15] = [
+const REASONS: [Reason; 17] = [
     Reason::Closed,
     Reason::Unreachable,
     Reason::Ended,
     Reason::Silent,
+    Reason::Unregistered,
+    Reason::WrongSecret,
     Reason::BadLine,
     Reason::WrongWord,
     Reason::UnknownNode,
@@ -212,6 +214,13 @@ fn tell_servers(out: &mut Vec<u8>) -> io::Result<()> {
                 account: ACCOUNT,
                 network: NETWORK,
                 reason: Reason::Unreachable,
+                words: None,
+            },
+            Event::UpstreamDown {
+                account: ACCOUNT,
+                network: NETWORK,
+                reason: Reason::Ended,
+                words: Some(b"Closing Link: al (K-lined)"),
             },
         ],
     )
@@ -234,16 +243,28 @@ fn tell_peers(out: &mut Vec<u8>) -> io::Result<()> {
                 node: b"n2",
                 incarnation,
             },
+            Event::PeerLevel { node: b"n2" },
+            Event::PeerUnreachable {
+                node: b"n2",
+                address: address_of("10.0.0.2:7001"),
+            },
             Event::PeerAbsent { node: b"n2" },
             Event::PeerDown {
                 node: b"n2",
                 reason: Reason::Unacknowledged,
             },
             Event::PeerRefused {
+                node: None,
                 address: address_of("[::1]:7001"),
                 reason: Reason::WrongWord,
             },
+            Event::PeerRefused {
+                node: Some(b"n2"),
+                address: address_of("10.0.0.2:7001"),
+                reason: Reason::WrongWord,
+            },
             Event::PeersRefused { count: 1990 },
+            Event::OutOfMemory { count: 3 },
         ],
     )
 }
