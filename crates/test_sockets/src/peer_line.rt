@@ -10,7 +10,7 @@ use std::net::SocketAddr;
 pub(crate) struct ToPeer;
 
 impl Kind for ToPeer {
-    ghost may_be_told = { λ _. Unit {0} };
+    ghost may_be_told = { λ _ _. Unit {0} };
 }
 
 /// Opens the connection of that number, where it is there and was not opened before.

@@ -115,14 +115,14 @@ fn bytes_are_told_between_mail(rt: HostRuntime) {
     let (listener, address) = listener(&rt);
     let mut ports = two_ports(&rt, address);
     let (_near, mut far) = connected(&rt, &listener, &mut ports);
-    for _ in 0..100 {
+    for _ in 0..1000 {
         assert!(rt; ports.second.post(0, Mail::Published).is_ok());
     }
-    assert!(rt; ports.second.backlog(0) == 100 && ports.second.backlog(1) == 0);
+    assert!(rt; ports.second.backlog(0) == 1000 && ports.second.backlog(1) == 0);
     assert!(rt; is_published(&rt, &mut ports.first));
     assert!(rt; send(&mut ports.second, &mut far, b"PING x\r\n") == Ok(8));
     assert!(rt; are_bytes_between(&rt, &mut ports.first, 66));
-    assert!(rt; ports.second.backlog(0) >= 33);
+    assert!(rt; ports.second.backlog(0) >= 933);
 }
 
 // A connection that a worker has is neither handed out again nor given up.

@@ -39,6 +39,10 @@ impl<R: Net + Wait + Clock + Eprint + AllocGlobal + Drop> Port for UntilTold<R> 
         self.port.dial(what)
     }
 
+    fn target(&self, what: Dial) -> Option<SocketAddr> {
+        self.port.target(what)
+    }
+
     fn post(&mut self, worker: usize, mail: Mail) -> Result<(), PortFault> {
         self.port.post(worker, mail)
     }

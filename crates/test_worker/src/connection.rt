@@ -8,23 +8,36 @@ use journal::{Journal, Piece};
 #[derive(Drop)]
 pub struct MemoryConnection {
     number: usize,
+    received: Journal,
     sent: Journal,
 }
 
 impl MemoryConnection {
-    /// The connection of that number, over which nothing was sent.
+    /// The connection of that number, over which nothing came and nothing was sent.
     pub fn new(number: usize) -> MemoryConnection
-        ensures { result.sent.bytes ≡ [] }
+        ensures received { result.received.bytes ≡ [] }
+        ensures sent { result.sent.bytes ≡ [] }
     {
         MemoryConnection {
             number,
+            received: Journal::new(),
             sent: Journal::new(),
         }
     }
 
+    /// Keeps that the other end gave these bytes.
+    pub fn note_received(&mut self, bytes: &[u8])
+        ensures received { self.new.received.bytes ≡ self.old.received.bytes ++ bytes.now }
+        ensures sent { self.new.sent.bytes ≡ self.old.sent.bytes }
+    {
+        let piece = Piece { bytes };
+        self.received = self.received.then(&piece);
+    }
+
     /// Keeps that the other end took these bytes.
-    pub fn note(&mut self, bytes: &[u8])
-        ensures { self.new.sent.bytes ≡ self.old.sent.bytes ++ bytes.now }
+    pub fn note_sent(&mut self, bytes: &[u8])
+        ensures sent { self.new.sent.bytes ≡ self.old.sent.bytes ++ bytes.now }
+        ensures received { self.new.received.bytes ≡ self.old.received.bytes }
     {
         let piece = Piece { bytes };
         self.sent = self.sent.then(&piece);
@@ -32,6 +45,8 @@ impl MemoryConnection {
 }
 
 impl Connection for MemoryConnection {
+    ghost received = { λ connection. connection.received.bytes };
+
     ghost sent = { λ connection. connection.sent.bytes };
 
     fn number(&self) -> usize {

@@ -404,6 +404,14 @@ impl<R: Wait + Drop> Port for &mut MemoryPort<R> {
         (**self).begin(what).ok_or(PortFault)
     }
 
+    fn target(&self, what: Dial) -> Option<SocketAddr> {
+        let address = match what {
+            Dial::Network(_) => "10.0.0.1:6667",
+            Dial::Peer(_) => "10.0.0.2:7001",
+        };
+        address.parse::<SocketAddr>().ok()
+    }
+
     fn post(&mut self, worker: usize, mail: Mail) -> Result<(), PortFault> {
         match (**self).tell_post(worker, &mail) {
             Ok(()) => Ok(()),
@@ -449,10 +457,12 @@ impl<K: Kind, R: Wait + Drop> Carries<K> for &mut MemoryPort<R> {
         connection: &mut MemoryConnection,
         buffer: &mut [u8],
     ) -> Result<usize, Halt> {
-        match self.lines.get_mut(connection.number()) {
-            Some(line) => line.take(buffer),
-            None => Err(Halt::Closed),
-        }
+        let Some(line) = self.lines.get_mut(connection.number()) else {
+            return Err(Halt::Closed);
+        };
+        let count = line.take(buffer)?;
+        connection.note_received(&buffer[..count]);
+        Ok(count)
     }
 
     fn send(&mut self, connection: &mut MemoryConnection, bytes: &[u8]) -> Result<usize, Halt> {
@@ -460,7 +470,7 @@ impl<K: Kind, R: Wait + Drop> Carries<K> for &mut MemoryPort<R> {
             return Err(Halt::Closed);
         };
         let count = line.put(bytes)?;
-        connection.note(&bytes[..count]);
+        connection.note_sent(&bytes[..count]);
         Ok(count)
     }
 
