@@ -1,7 +1,8 @@
 /* Laid before the C library: refuses requests for memory. Either those whose numbers are REFUSE and the next ones, TOGETHER of
    them (1 where it is missing); that one was refused is told by the file that REFUSED names. Or each of which a file tells: RATE
-   names it, and it has three numbers of eight bytes. Of so many requests as the first one says one is refused, and none while
-   it is 0; the second one counts the requests meanwhile, and the third one those that were refused. */
+   names it, and it has four numbers of eight bytes, or three. Of so many requests as the first one says one is refused, and none
+   while it is 0; the second one counts the requests meanwhile, and the third one those that were refused. The fourth one says
+   how many are refused in a row (1 where it is 0 or missing). */
 #include <errno.h>
 #include <fcntl.h>
 #include <stdint.h>
@@ -28,7 +29,7 @@ __attribute__((constructor)) static void begin(void) {
     first = number("REFUSE", 0);
     together = number("TOGETHER", 1);
     if (file < 0) return;
-    void *it = mmap(NULL, 3 * sizeof *rate, PROT_READ | PROT_WRITE, MAP_SHARED, file, 0);
+    void *it = mmap(NULL, 4 * sizeof *rate, PROT_READ | PROT_WRITE, MAP_SHARED, file, 0);
     if (it != MAP_FAILED) rate = it;
     close(file);
 }
@@ -36,7 +37,9 @@ __attribute__((constructor)) static void begin(void) {
 /* Whether this request is one of those that the file tells of. */
 static int is_at_rate(void) {
     uint64_t one_of = rate ? __atomic_load_n(&rate[0], __ATOMIC_SEQ_CST) : 0;
-    if (!one_of || __atomic_add_fetch(&rate[1], 1, __ATOMIC_SEQ_CST) % one_of) return 0;
+    if (!one_of) return 0;
+    uint64_t in_a_row = __atomic_load_n(&rate[3], __ATOMIC_SEQ_CST);
+    if (__atomic_add_fetch(&rate[1], 1, __ATOMIC_SEQ_CST) % one_of >= (in_a_row ? in_a_row : 1)) return 0;
     __atomic_add_fetch(&rate[2], 1, __ATOMIC_SEQ_CST);
     return 1;
 }

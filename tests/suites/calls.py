@@ -68,7 +68,7 @@ file_is_right("test_peers", "links_refused", "2 cases of 40 rows, 0 wrong")
 CAME_TO = re.compile(rb"  left: Err\((?:Refused\()?(.*?)\)+\n right: Ok\(\d+\)\n")
 
 
-def passes(crate, name, rows, may_come_to=()):
+def passes(crate, name, may_come_to=()):
     """A test of a crate's own, which makes again what was refused. It passes, or it came to one of these."""
 
     def call(fixture):
@@ -81,17 +81,15 @@ def passes(crate, name, rows, may_come_to=()):
             return word
 
         expect("without a refusal", 0, fixture.play(crate, name, tests=True).status)
-        refuse(fixture, run, rows)
+        refuse(fixture, run)
 
     add(f"calls: {crate}, {name.rpartition('::')[2].replace('_', ' ')}", call)
 
 
-# (each call is made twice at most)
-passes("test_attach", "memory::a_refused_ring_is_asked_for_again", ROWS[:1])
-passes("test_attach", "memory::a_refused_box_or_entry_is_asked_for_again", ROWS[:1])
+passes("test_attach", "memory::a_refused_ring_is_asked_for_again")
+passes("test_attach", "memory::a_refused_box_or_entry_is_asked_for_again")
 # (of three markers so many waited as the word says, and all else was right)
-passes("test_node", "play::short_rows_come_to_their_totals", ROWS[:2],
-       ("NoMemory", "Waited(0", "Waited(1", "Waited(2", "Waited(3"))
+passes("test_node", "play::short_rows_come_to_their_totals", ("Waited(0", "Waited(1", "Waited(2", "Waited(3"))
 
 
 def workers_end(fixture):

@@ -105,7 +105,7 @@ def refused(fixture, *lines):
     client.hear(":bnc.example 464 * :Password incorrect", "ERROR :Closing link")
     expect("whether a second went by", True, time.monotonic() - begun >= 0.9)
     client.hear_end()
-    node.wait_for(f"client refused: {spelled(client.address)}: it ended as the protocol says")
+    node.wait_for(f"client refused: {spelled(client.address)}: its account, its network or its secret is wrong")
     node.client("the next client").register()
 
 

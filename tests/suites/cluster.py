@@ -116,6 +116,23 @@ def a_node_that_was_killed_gets_its_past_back(fixture):
 
 
 @test
+def nodes_tell_when_they_are_level(fixture):
+    """Each of the two, so that the next may be restarted; and where neither has anything, ten seconds after the hello."""
+    cluster = Cluster(fixture)
+    cluster.say_first(said(1))
+    for node, other in ((cluster.first, "n2"), (cluster.second, "n1")):
+        node.wait_for(f"peer level: {other}: each has what the other had")
+
+
+@test
+def nodes_that_have_nothing_are_level(fixture):
+    """Ten seconds after they greeted each other."""
+    cluster = Cluster(fixture)
+    for node, other in ((cluster.first, "n2"), (cluster.second, "n1")):
+        node.wait_for(f"peer level: {other}: each has what the other had")
+
+
+@test
 def more_than_a_packet_comes_across(fixture):
     """A packet has at most 256 changes; the page shows the last hundred of a thousand messages."""
     cluster = Cluster(fixture)

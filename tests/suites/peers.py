@@ -271,6 +271,72 @@ def a_hello_that_comes_again_changes_nothing(fixture):
     expect("how often the peer was greeted", 1, sum("peer greeted: n0" in line for line in node.log()))
 
 
+def level(node, name="n0"):
+    """How often the node told that it and that peer are level."""
+    return sum(f"peer level: {name}: each has what the other had" in line for line in node.log())
+
+
+@test
+def a_node_and_its_peer_are_level_once(fixture):
+    """Once the peer has acknowledged all, and its last packet had fewer changes than one may have. Over a later connection that
+    is not told again."""
+    node = begun(fixture)
+    first = Peer.dial(node).greet()
+    first.give(0, POST_ONE)
+    first.hear_acknowledged(1)
+    first.hear_packet(0, 1, POST_ONE)
+    expect("how often it was told before the acknowledgement", 0, level(node))
+    first.acknowledge(1)
+    node.wait_for("peer level: n0: each has what the other had")
+    first.close()
+    node.wait_for("peer down: n0")
+    again = Peer.dial(node).greet()
+    again.give(1, POST_TWO)
+    again.hear_acknowledged(2)
+    again.hear_packet(1, 2, POST_TWO)
+    again.acknowledge(2)
+    again.give(2, "C MARK demo net #a 1")
+    again.hear_acknowledged(3)
+    expect("how often it was told", 1, level(node))
+
+
+@test
+def a_peer_with_more_to_give_is_not_level(fixture):
+    """Its packet of 256 changes may be followed by another."""
+    node = begun(fixture)
+    changes = [f"C MARK demo net #m{number} {number + 1}" for number in range(300)]
+    peer = Peer.dial(node).greet()
+    peer.give(0, *changes[:256])
+    peer.hear_acknowledged(256)
+    peer.hear_packet(0, 256, *changes[:256])
+    peer.acknowledge(256)
+    peer.give(256, *changes[256:])
+    peer.hear_acknowledged(300)
+    peer.hear_packet(256, 300, *changes[256:])
+    expect("how often it was told before the acknowledgement", 0, level(node))
+    peer.acknowledge(300)
+    node.wait_for("peer level: n0: each has what the other had")
+
+
+@test
+def who_can_not_be_reached_is_told(fixture):
+    """With the name and the address of the peer."""
+    node = Node(fixture, name="n1", peers=[("n2", NOBODY)], servers=[NOBODY]).begin()
+    node.wait_for("peer unreachable: n2 at 127.0.0.1:1")
+
+
+@test
+def a_peer_that_ends_before_its_hello_is_told_by_name(fixture):
+    """Where the node opened the connection."""
+    listener = Listener(fixture)
+    node = Node(fixture, name="n1", peers=[("n2", listener.address)], servers=[NOBODY]).begin()
+    peer = Peer(fixture, listener.accept("the peer n2").socket, "n2")
+    peer.hear("W green")
+    peer.hear_hello()
+    peer.close()
+    node.wait_for(f"peer refused: n2 at 127.0.0.1:{listener.address[1]}: the other end closed it")
+
+
 @test
 def a_peer_that_is_behind_is_told(fixture):
     """Its clock was set back: it says a smaller incarnation. It learns which one is known and is sent no packet; what it brings

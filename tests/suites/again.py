@@ -1,0 +1,183 @@
+"""Requests for memory that are refused while a node is at work: some of them in a row, at each place in turn (docs/OPERATING.md,
+"What it logs" and "Servers"; docs/PROTOCOL.md, "Lives and numbers"). What can be done later is done."""
+
+import mmap
+import select
+import struct
+import time
+
+from harness.clocks import Clocks
+from harness.failure import Failed, expect
+from harness.node import Node
+from harness.peer import Peer
+from harness.registry import test
+from harness.server import Server
+
+NOBODY = ("127.0.0.1", 1)
+PAST = "batch draft/chathistory"
+# More requests than a node ever makes.
+MANY = 1 << 62
+# So many requests at most are made because of a line or a packet.
+REQUESTS = 60
+# After so many seconds it is over, and what waits to be published is tried again.
+OVER, LATER = 0.1, 1
+
+
+class Refusals:
+    """The file by which the library is told which requests to refuse, and the node's clocks."""
+
+    def __init__(self, fixture):
+        path, self.clocks = fixture.write("rate", bytes(32)), Clocks(fixture)
+        with open(path, "r+b") as file:
+            self.map = mmap.mmap(file.fileno(), 32)
+        libraries = f"LD_PRELOAD={fixture.shims.path('refuse')}:{self.clocks.library}"
+        self.front = ["env", libraries, f"RATE={path}", self.clocks.setting]
+
+    def set(self, passed, refused):
+        """From now on so many requests pass, and then so many are refused."""
+        self.map[8:] = struct.pack("=QQQ", MANY - passed - 1, 0, refused)
+        self.map[:8] = struct.pack("=Q", MANY)
+
+    def count(self):
+        """How many were refused."""
+        return struct.unpack("=Q", self.map[16:24])[0]
+
+    def end(self):
+        """Refuses nothing more, and answers how many were refused."""
+        self.map[:8] = bytes(8)
+        return self.count()
+
+
+def outcome(refusals, peer, refused):
+    """What came of a packet with one change: it was acknowledged, or the connection was closed, or so many requests were refused
+    and nothing came."""
+    end = over = time.monotonic() + peer.fixture.patience()
+    while time.monotonic() < over:
+        if over == end and refusals.count() == refused:
+            over = time.monotonic() + OVER
+        if not select.select([peer.socket], [], [], 0.01)[0]:
+            continue
+        came = peer.receive()
+        if not came:
+            return "closed"
+        expect("what came of a packet", f"A {peer.other} {peer.life} 1\r\n", came.decode())
+        return "acknowledged"
+    return "nothing"
+
+
+def is_there(client):
+    """Whether the page has the message, though nothing else is put."""
+    return bool(client.ask("CHATHISTORY LATEST #a * 1"))
+
+
+def taken(fixture, refusals, name, passed, refused):
+    """What comes of a packet of a message for a node that has had none, while so many requests in a row are refused behind so
+    many. None where fewer are made."""
+    # (one of an older version is told nothing else but acknowledgements)
+    node = Node(fixture, name, peers=[("n0", NOBODY, ("version", 2))], servers=[NOBODY], workers=1, front=refusals.front).begin()
+    fixture.logs.pop()
+    client, peer = node.client().register(PAST), Peer.dial(node, version=2, told=2).greet()
+    refusals.set(passed, refused)
+    peer.give(0, "C POST demo net #a m1 1000 P #a bob!b@h :hi")
+    came = outcome(refusals, peer, refused)
+    was_refused = refusals.end()
+    if came == "nothing" and not is_there(client):
+        refusals.clocks.skip(LATER)
+        came = "published later" if is_there(client) else "not taken"
+    if came != "acknowledged":
+        peer.close()
+        peer = Peer.dial(node, version=2, told=2).greet()
+        peer.give(0, "C POST demo net #a m1 1000 P #a bob!b@h :hi")
+        peer.hear_acknowledged(1)
+    if not is_there(client):
+        raise Failed(f"a packet is acknowledged, and its message isn't there: {refused} refused behind {passed}")
+    node.kill()
+    return came if was_refused else None
+
+
+@test
+def what_a_peer_brings_is_published_though_memory_was_short(fixture):
+    """Two requests in a row are refused, at each place in turn. The packet is acknowledged; or the connection is closed, or
+    nothing is said, and the packet is taken when it comes again. Where its message only waits to be published, that is done a
+    second later though nothing else is put."""
+    refusals, counts = Refusals(fixture), {}
+    for passed in range(REQUESTS):
+        came = taken(fixture, refusals, f"x{passed}", passed, 2)
+        if not came:
+            break
+        counts[came] = counts.get(came, 0) + 1
+    if not counts:
+        raise Failed("no request for memory was refused: is the program built with a sanitizer, which has its own malloc?")
+    fixture.notes.append(", ".join(f"{count} {what}" for what, count in sorted(counts.items())))
+    expect("whether some waited", True, "published later" in counts)
+
+
+def told(fixture, name, passed, line, refused):
+    """What a client is told of a server's line while so many requests in a row are refused behind so many: the line, or nothing
+    where the client was closed. None where fewer are made. The session stays."""
+    server, refusals = Server(fixture), Refusals(fixture)
+    node = Node(fixture, name, servers=[server.address], workers=1, front=refusals.front).begin()
+    fixture.logs.pop()
+    session = server.register()
+    client = node.client().register()
+    refusals.set(passed, refused)
+    session.say(line)
+    server.settled(session)
+    was_refused = refusals.end()
+    came = client.receive().decode()
+    expect(f"whether the session ended with {refused} refused behind {passed}", False, node.told("upstream down"))
+    if came not in (f"{line}\r\n", ""):
+        raise Failed(f"a client was told {came!r} with {refused} refused behind {passed}")
+    node.kill()
+    return came if was_refused else None
+
+
+@test
+def a_line_of_a_server_is_read_again_where_memory_was_short(fixture):
+    """Nine requests in a row are refused, at each place in turn. The session stays, and the line is told as if nothing had been. A
+    client for which there was no memory is closed, without a part of a line."""
+    counts = {}
+    for kind in ("TOPIC", "PRIVMSG"):
+        for passed in range(REQUESTS):
+            came = told(fixture, f"x{passed}", passed, f":bob!b@h {kind} #a :hi", 9)
+            if came is None:
+                break
+            what = "told" if came else "closed"
+            counts[what] = counts.get(what, 0) + 1
+            if passed == 0:
+                expect(f"whether a {kind} was told", "told", what)
+    if not counts:
+        raise Failed("no request for memory was refused: is the program built with a sanitizer, which has its own malloc?")
+    fixture.notes.append(", ".join(f"{count} {what}" for what, count in sorted(counts.items())))
+
+
+def without_memory(fixture, name, line):
+    """A node for whose server's line eleven requests in a row are refused, and its session, a client and the server."""
+    server, refusals = Server(fixture), Refusals(fixture)
+    node = Node(fixture, name, servers=[server.address], workers=1, front=refusals.front).begin()
+    session = server.register()
+    client = node.client().register()
+    refusals.set(0, 11)
+    session.say(line)
+    return node, server, session, client
+
+
+@test
+def a_line_that_is_only_passed_on_is_dropped_where_there_is_no_memory(fixture):
+    """Once it was tried at ten turns. The session stays, and the next line is told."""
+    first, second = ":bob!b@h TOPIC #a :first", ":bob!b@h TOPIC #a :second"
+    node, server, session, client = without_memory(fixture, "x1", first)
+    server.settled(session)
+    session.say(second)
+    line = client.line("a line")
+    expect("what is told", second, client.line("the second line") if line == first else line)
+    expect("whether the session ended", False, node.told("upstream down"))
+
+
+@test
+def a_message_for_which_there_is_no_memory_ends_the_session(fixture):
+    """Once it was tried at ten turns. No client is told it."""
+    node, _, session, client = without_memory(fixture, "x1", ":bob!b@h PRIVMSG #a :hi")
+    session.hear_end()
+    node.wait_for("upstream down: demo/net: no memory")
+    client.ping()

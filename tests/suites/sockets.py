@@ -1,0 +1,219 @@
+"""Sockets that take little, are interrupted, are read late, or aren't there (docs/OPERATING.md, "Clients that are slow, or gone",
+"What it logs" and "Size"). What comes over them is whole."""
+
+import select
+import time
+
+from harness.client import greeting, page
+from harness.connection import connect, spelled
+from harness.failure import Failed, expect
+from harness.node import Node
+from harness.peer import Peer
+from harness.registry import add, test
+from harness.server import Server
+
+NOBODY = ("127.0.0.1", 1)
+BODY = "x" * 440
+OFFERED = "message-tags"
+
+
+def said(number):
+    return f"@msgid=m{number:04} :bob!b@h PRIVMSG #a :{number} {BODY}"
+
+
+def everybody_is_served(**faults):
+    """A test that a server, a client and a peer are served whole by a node whose sockets have these faults."""
+
+    def call(fixture):
+        front = ["env", f"LD_PRELOAD={fixture.shims.path('sockets')}", *(f"{name}={value}" for name, value in faults.items())]
+        server = Server(fixture)
+        node = Node(fixture, servers=[server.address], channels=["#a"], peers=[("n0", NOBODY)], bound=1024, front=front).begin()
+        session = server.register(OFFERED, channels=["#a"])
+        clients = [node.client(f"client {number}") for number in range(2)]
+        for client in clients:
+            client.register("batch draft/chathistory message-tags", channels=["#a"])
+        lines = [said(number) for number in range(30)]
+        session.say(*lines)
+        for client in clients:
+            client.hear(*lines)
+            client.say("CHATHISTORY LATEST #a * 100", "TOPIC #a :" + BODY, "PING end")
+            client.hear(*page(1, "#a", *lines), ":bnc.example PONG bnc.example :end")
+        session.hear(*2 * ["TOPIC #a :" + BODY])
+        peer = Peer.dial(node).greet()
+        head = peer.line("a packet").split(" ")
+        expect("a packet of all", ["0", "30", "30"], head[5:])
+        changes = [peer.line("a change") for _ in lines]
+        expect("the changes", [f":{number} {BODY}" for number in range(30)], [line.split(" ", 10)[10] for line in changes])
+        peer.acknowledge(30)
+        peer.give(0, *(f"C MARK demo net #m{number} 5000" for number in range(200)))
+        peer.hear_acknowledged(200)
+
+    return call
+
+
+for what, faults in (
+    ("take 50 bytes of each write", {"MOUTHFUL": 50}),
+    ("take a byte of each write", {"MOUTHFUL": 1}),
+    ("are interrupted at each second read and write", {"INTERRUPTED": 1}),
+    ("are interrupted, and take 50 bytes of each write", {"INTERRUPTED": 1, "MOUTHFUL": 50}),
+):
+    add(f"sockets: some that {what}", everybody_is_served(**faults))
+
+
+# So much is asked for before anything is read: nine pages of a thousand messages.
+PAGES, MOST, LATE = 9, 1000, 4 << 20
+
+
+@test
+def four_megabytes_reach_a_late_reader_whole(fixture):
+    """It asks for pages of so much, and reads them a second later. Nothing is missing, and nothing comes twice."""
+    server = Server(fixture)
+    node = Node(fixture, servers=[server.address], maximum=MOST, bound=1024).begin()
+    session = server.register(OFFERED)
+    lines = [said(number) for number in range(MOST)]
+    session.say(*lines)
+    server.settled(session)
+    client = node.client("the late reader", room=4096).register("batch draft/chathistory message-tags", maximum=MOST)
+    client.say(*(f"CHATHISTORY LATEST #a * {MOST}" for _ in range(PAGES)), "PING end")
+    wanted = [*(line for number in range(PAGES) for line in page(number + 1, "#a", *lines)), ":bnc.example PONG bnc.example :end"]
+    wanted = "".join(f"{line}\r\n" for line in wanted).encode()
+    if len(wanted) < LATE:
+        raise Failed(f"that is no more than {len(wanted)} bytes")
+    time.sleep(1)
+    came = bytearray(client.held)
+    while len(came) < len(wanted):
+        more = client.receive(1 << 20)
+        if not more:
+            raise Failed(f"the connection was closed behind {len(came)} bytes of {len(wanted)}")
+        came += more
+    if came != wanted:
+        at = next(at for at in range(len(wanted)) if came[:at + 1] != wanted[:at + 1])
+        raise Failed(f"byte {at}: expected {wanted[at:at + 80]!r}, came {bytes(came[at:at + 80])!r}")
+    fixture.notes.append(f"{len(wanted)} bytes")
+    client.ping()
+
+
+@test
+def a_client_that_asks_while_a_page_is_owed_waits(fixture):
+    """Its lines are taken in their order: nobody hears the marker that it set behind its questions before it has read the
+    answers."""
+    server = Server(fixture)
+    node = Node(fixture, servers=[server.address], maximum=MOST, bound=1024).begin()
+    session = server.register(OFFERED)
+    lines = [said(number) for number in range(MOST)]
+    session.say(*lines)
+    server.settled(session)
+    others = [node.client(f"client {number}").register("draft/read-marker", maximum=MOST) for number in range(2)]
+    slow = node.client("the slow client", room=4096)
+    slow.register("batch draft/chathistory draft/read-marker message-tags", maximum=MOST)
+    mark = "MARKREAD #a timestamp=1970-01-01T00:00:05.000Z"
+    slow.say(*(f"CHATHISTORY LATEST #a * {MOST}" for _ in range(2 * PAGES)), mark)
+    time.sleep(1)
+    for other in others:
+        other.ping()
+        expect("what came before", b"", other.held)
+    for number in range(2 * PAGES):
+        slow.hear(*page(number + 1, "#a", *lines))
+    for client in (slow, *others):
+        client.hear(f":bnc.example {mark}")
+        client.ping()
+
+
+# So many descriptors a node has, so many connect, and so long nothing changes while there is none left.
+DESCRIPTORS, GUESTS, WHILE = 20, 40, 2.5
+
+
+@test
+def without_descriptors_nobody_spins_and_everybody_is_served_in_the_end(fixture):
+    """Whoever finds none left waits, and is served once others have left. The operator is told once. The others are served
+    meanwhile."""
+    server = Server(fixture)
+    front = ["sh", "-c", f'ulimit -n {DESCRIPTORS}; exec "$@"', "sh"]
+    node = Node(fixture, servers=[server.address], places=2 * GUESTS, front=front).begin()
+    session = server.register()
+    guests = [node.client(f"guest {number}") for number in range(GUESTS)]
+    for guest in guests:
+        guest.say("PASS s3cret", "NICK al", "USER demo/net 0 * :Al", "PING in")
+    node.wait_for("accept failed")
+    fixture.until("some are in", lambda: sum("client in: " in line for line in node.log()) >= 5)
+    time.sleep(0.3)
+    inside = [guest for guest in guests if select.select([guest.socket], [], [], 0)[0]]
+    if not 5 <= len(inside) < DESCRIPTORS:
+        raise Failed(f"{len(inside)} guests are in")
+    for guest in inside:
+        guest.hear(*greeting(), ":bnc.example PONG bnc.example :in")
+    before = node.processor_seconds()
+    time.sleep(WHILE)
+    used = node.processor_seconds() - before
+    if used > WHILE / 5:
+        raise Failed(f"the node took {used:.2f} seconds of processor time in {WHILE} seconds in which nothing happened")
+    expect("how often it is told", 1, sum("accept failed" in line for line in node.log()))
+    session.say(":bob!b@h PRIVMSG #a :hi")
+    for guest in inside:
+        guest.hear(":bob!b@h PRIVMSG #a :hi")
+        guest.ping()
+    outside, rounds = [guest for guest in guests if guest not in inside], 0
+    while inside:
+        # (those that are in leave, and as many of the others come in)
+        for guest in inside:
+            guest.close()
+        begun = time.monotonic()
+        fixture.until("the next are in", lambda: not outside or select.select([it.socket for it in outside], [], [], 0)[0])
+        if time.monotonic() - begun > 3:
+            raise Failed(f"who waited was let in after {time.monotonic() - begun:.1f} seconds")
+        time.sleep(0.3)
+        inside = [guest for guest in outside if select.select([guest.socket], [], [], 0)[0]]
+        outside = [guest for guest in outside if guest not in inside]
+        for guest in inside:
+            guest.hear(*greeting(), ":bnc.example PONG bnc.example :in")
+        rounds += 1
+    expect("who is still let wait", [], [guest.name for guest in outside])
+    node.client("one that comes later").register()
+    server.settled(session)
+    fixture.notes.append(f"{rounds} rounds, {used:.2f} seconds of processor time in {WHILE}")
+
+
+# So many strangers come to the peers' port of a node that has so many descriptors.
+STRANGERS, LIMIT = 150, 40
+
+
+@test
+def strangers_at_the_door_of_peers_leave_descriptors_for_clients(fixture):
+    """Of those who say no hello ten stay, of a node with one peer. So a client gets in, and the peer."""
+    front = ["sh", "-c", f'ulimit -n {LIMIT}; exec "$@"', "sh"]
+    node = Node(fixture, peers=[("n0", NOBODY)], servers=[NOBODY], front=front).begin()
+    strangers = [connect(fixture, node.peers) for _ in range(STRANGERS)]
+    client = node.client().register()
+    Peer.dial(node).greet()
+    client.ping()
+    for stranger in strangers:
+        stranger.close()
+
+
+# So many packets at most come from a peer before it is closed, and so many at once.
+REPEATED, AT_ONCE = 400000, 1000
+
+
+@test
+def a_peer_that_repeats_a_packet_and_reads_nothing_is_closed(fixture):
+    """Once more than 1,048,576 bytes would wait for it, beyond what the system's own buffers hold. Clients are served
+    meanwhile."""
+    node = Node(fixture, peers=[("n0", NOBODY, ("version", 2))], servers=[NOBODY]).begin()
+    client = node.client().register()
+    peer = Peer(fixture, connect(fixture, node.peers, room=2048), "n0", version=2, told=2).greet()
+    packet = f"D {peer.life} {peer.other} 0 {2**64 - 1} 1\r\nC MARK demo net #a 5000\r\n".encode()
+    end = "peer down: n0: it did not read what was owed to it"
+    for number in range(0, REPEATED, AT_ONCE):
+        try:
+            peer.send(AT_ONCE * packet)
+        except ConnectionError:
+            break
+        client.ping()
+        if node.told(end):
+            break
+    node.wait_for(end)
+    client.ping()
+    again = Peer.dial(node, version=2, told=2).greet()
+    again.give(0, "C MARK demo net #a 6000")
+    again.hear_acknowledged(1)
+    fixture.notes.append(f"{number + AT_ONCE} packets at most")

@@ -1,0 +1,174 @@
+"""Several workers, and what they tell each other (docs/OPERATING.md, "Size": clients go to the workers in turn, network i is served
+by worker i modulo `workers`)."""
+
+import statistics
+import subprocess
+import sys
+import time
+
+from harness import processes
+from harness.client import greeting
+from harness.clocks import Clocks
+from harness.connection import connect
+from harness.failure import Failed, expect
+from harness.node import Node
+from harness.peer import Peer
+from harness.registry import test
+from harness.server import Server
+from suites.turns import Ear, reads_all, says_without_pause
+
+NOBODY = ("127.0.0.1", 1)
+
+
+@test
+def three_workers_pass_on_each_line_once(fixture):
+    """Lines of either network's server, of any kind, reach the clients of each worker, in their order. So does what a client
+    says reach its server."""
+    servers = [Server(fixture), Server(fixture)]
+    node = Node(fixture, servers=[it.address for it in servers], workers=3).begin()
+    sessions = [it.register("draft/message-redaction message-tags") for it in servers]
+    for network, server, session in zip(node.networks, servers, sessions):
+        clients = [node.client(f"client {number} of {network}") for number in range(6)]
+        for client in clients:
+            client.register("draft/message-redaction message-tags", network=network)
+        lines = []
+        for number in range(50):
+            lines += [f":bob!b@h TOPIC #a :{number}", f"@msgid=m{number} :bob!b@h PRIVMSG #a :{number}",
+                      f":irc.example 372 al :- {number}", f":bob!b@h REDACT #a m{number}"]
+        lines += [":al!a@h JOIN #c", ":al!a@h NICK bo", ":bo!a@h NICK al", ":al!a@h PART #c"]
+        session.say(*lines)
+        for number, client in enumerate(clients):
+            client.hear(*lines)
+            client.say(f"MODE #a +{number}", f"PRIVMSG #a :from {number}", f"WHOIS {number}")
+            session.hear(f"MODE #a +{number}", f"PRIVMSG #a :from {number}", f"WHOIS {number}")
+        server.settled(session)
+        for client in clients:
+            client.ping()
+            client.close()
+
+
+@test
+def a_line_that_is_under_way_to_a_server_that_is_gone_reaches_nobody_else(fixture):
+    """A client of the other worker speaks while the session ends. Those who come then have the numbers of what is gone: they hear
+    their own answers alone, and so does the next session."""
+    clocks, server = Clocks(fixture), Server(fixture)
+    node = Node(fixture, servers=[server.address], workers=2, front=clocks.front).begin()
+    session = server.register()
+    node.client("a client of the first worker").register()
+    speaker = node.client("the speaker").register()
+    for turn in range(4):
+        speaker.say(*300 * [f"TOPIC #a :{turn}"])
+        session.close()
+        guests = [node.client(f"guest {number}").register() for number in range(6)]
+        peers = [connect(fixture, node.peers) for _ in range(2)]
+        speaker.say("PING over")
+        while speaker.line("an answer") != ":bnc.example PONG bnc.example :over":
+            pass
+        clocks.skip(60)
+        session = server.register()
+        for guest in guests:
+            guest.ping()
+            guest.close()
+        for peer in peers:
+            peer.close()
+
+
+# How often an answer is waited for, and for how many seconds at most.
+ROUNDS, SOON = 15, 1
+
+
+def soon(what, took):
+    """Fails where one of these waits took too long."""
+    if max(took) > 3 * SOON or statistics.median(took) > SOON:
+        raise Failed(f"{what} took {statistics.median(took):.2f} seconds, and once {max(took):.2f}")
+
+
+def answered(fixture, which):
+    """A server of that worker says lines without pause, each of which the other worker is told by a mail. There a client is
+    answered, another one lets itself in, and a peer is greeted and acknowledged."""
+    servers = [Server(fixture), Server(fixture)]
+    node = Node(fixture, servers=[it.address for it in servers], peers=[("n0", NOBODY)], bound=1 << 20, places=64).begin()
+    sessions = [server.register("message-tags") for server in servers]
+    network = node.networks[which]
+    beside = [node.client(f"client {number}").register(network=network) for number in range(6)]
+    quiet = [node.client(f"client {number} of the other network") for number in range(2)]
+    for client in quiet:
+        client.register(network=node.networks[1 - which])
+    for client in beside:
+        reads_all(fixture, client)
+    says_without_pause(fixture, sessions[which], ":bob!b@h PRIVMSG #a :hi")
+    Ear(sessions[which], "nothing").beside()
+    pings, entries, packets = [], [], []
+    for number in range(ROUNDS):
+        for client in quiet:
+            began = time.monotonic()
+            client.ping()
+            pings.append(time.monotonic() - began)
+        began = time.monotonic()
+        newcomer = node.client("a newcomer")
+        newcomer.say("PASS s3cret", "NICK al", f"USER demo/{node.networks[1 - which]} 0 * :Al")
+        newcomer.hear(*greeting(network=node.networks[1 - which]))
+        entries.append(time.monotonic() - began)
+        newcomer.close()
+        began = time.monotonic()
+        peer = Peer.dial(node, incarnation=5 + number).greet()
+        peer.give(0, "C MARK demo net #a 5000")
+        while peer.line("an acknowledgement") != f"A {peer.other} {peer.life} 1":
+            pass
+        packets.append(time.monotonic() - began)
+        peer.close()
+    for what, took in (("a PING", pings), ("a registration", entries), ("a hello and a packet", packets)):
+        soon(what, took)
+    fixture.notes.append("; ".join(f"{what} {max(took):.3f} seconds at most" for what, took in
+                                   (("a PING", pings), ("a registration", entries), ("a hello and a packet", packets))))
+
+
+@test
+def all_are_answered_beside_a_server_without_pause_at_the_first_worker(fixture):
+    answered(fixture, 0)
+
+
+@test
+def all_are_answered_beside_a_server_without_pause_at_the_second_worker(fixture):
+    answered(fixture, 1)
+
+
+# So many strangers connect again and again, for so many seconds, and what each of them does.
+STRANGERS, SECONDS = 8, 3
+STRANGER = """
+import socket, sys
+print("here", flush=True)
+while True:
+    try:
+        socket.create_connection((sys.argv[1], int(sys.argv[2])), 5).close()
+    except OSError:
+        continue
+"""
+
+
+@test
+def strangers_that_connect_again_and_again_hold_nobody_up(fixture):
+    """Eight of them do so at either port as fast as they are taken in. A client's PING is answered meanwhile, and a line of the
+    server is heard."""
+    server = Server(fixture)
+    node = Node(fixture, servers=[server.address], peers=[("n0", NOBODY)], places=64).begin()
+    session = server.register()
+    clients = [node.client(f"client {number}").register() for number in range(2)]
+    for number in range(STRANGERS):
+        host, port = node.clients if number % 2 else node.peers
+        words = [sys.executable, "-c", STRANGER, host, str(port)]
+        stranger = processes.start(words, stdin=subprocess.DEVNULL, stdout=subprocess.PIPE, stderr=subprocess.DEVNULL)
+        fixture.at_end(lambda stranger=stranger: processes.end(stranger))
+        expect("what a stranger says first", b"here\n", stranger.stdout.readline())
+    took, end = [], time.monotonic() + SECONDS
+    while time.monotonic() < end:
+        for client in clients:
+            began = time.monotonic()
+            client.ping()
+            session.say(":bob!b@h PRIVMSG #a :hi")
+            for other in clients:
+                other.hear(":bob!b@h PRIVMSG #a :hi")
+            took.append(time.monotonic() - began)
+    soon("an answer", took)
+    node.wait_for("peer refused: ")
+    fixture.notes.append(f"{max(took):.3f} seconds at most, {len(took)} answers")
