@@ -11,7 +11,6 @@
 //! [`Unnamed`], and calls a function that is generic in the name. What stands under the lock is in [`laws`].
 #![tactic(auto)]
 
-mod entrance;
 mod faults;
 mod half;
 pub mod laws;

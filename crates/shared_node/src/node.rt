@@ -1,17 +1,18 @@
 //! The node: the writing half under a lock, and its passes.
-ghost use Rattle.std.specs.Prelude.{◌≡◌, ◌≢◌, ◌+◌, ◌++◌, [], length, MatchResult, IfOk, IfErr, IsErrAnd, OnErr, vec_len};
+ghost use Rattle.std.specs.Prelude.{◌≡◌, ◌≢◌, ◌+◌, ◌++◌, length, MatchResult, IfOk, IfErr, IsErrAnd, OnErr, vec_len};
 ghost use Rattle.std.specs.List.{sum_by};
-ghost use Rattle.shared_node.specs.Lists.{state_of, under};
+ghost use Rattle.published_log.specs.Log.{total};
+ghost use Rattle.shared_node.specs.Lists.{under};
 ghost use Rattle.shared_node.specs.Names.{IsNamed};
 ghost use Rattle.shared_node.specs.Passes.{FollowsAll, IsBadCount, newcomers};
-ghost use Rattle.shared_node.specs.Puts.{total, appended_of};
+ghost use Rattle.shared_node.specs.Puts.{appended_of};
 
 use crate::faults::{NodeFault, PutFault};
-use crate::half::{VersionWriter, WritingHalf};
+use crate::half::WritingHalf;
 use crate::pass::{Pass, Receipt};
-use change_log::{AnyPrefix, Naming, Unnamed, Version};
+use change_log::{Naming, Unnamed};
 use chat_change::Change;
-use chat_state::State;
+use published_log::LogWriter;
 use std::alloc::Global;
 use std::sync::{Mutex, Wait};
 
@@ -22,17 +23,6 @@ pub const MOST_PASSES: usize = 64;
 #[derive(Drop)]
 pub struct SharedNode<J: Naming, R: Wait + Drop> {
     half: Mutex<WritingHalf<J, R>>,
-}
-
-fn empty_version(alloc: Global, list: AnyPrefix) -> Version
-    requires { list.seen.log ≡ [] }
-    ensures list { result.list ≡ list }
-    ensures state { result.state ≡ state_of [] }
-{
-    Version {
-        state: State::new(alloc),
-        list,
-    }
 }
 
 impl<J: Naming, R: Wait + Drop> SharedNode<J, R> {
@@ -54,13 +44,10 @@ impl<J: Naming, R: Wait + Drop> SharedNode<J, R> {
         }
         let (history, list, tally, mut all) = name.named::<J>();
         let spare = all.empty();
-        let nothing = list.any();
-        let first = empty_version(alloc, nothing.again());
-        let second = empty_version(alloc, nothing);
-        let Ok(writer) = VersionWriter::<J>::new(alloc, first, second, passes) else {
+        let Ok(log) = LogWriter::new(alloc, history, list.again(), passes) else {
             return Err(NodeFault::NoMemory);
         };
-        let half = WritingHalf::new(writer, rt, history, list.again(), tally, spare, passes);
+        let half = WritingHalf::new(log, rt, tally, spare, passes);
         let seated = half.seat_all(alloc, &list, &mut all, passes)?;
         let half = Mutex::new(half);
         Ok((SharedNode { half }, seated))

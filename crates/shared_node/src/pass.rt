@@ -3,8 +3,8 @@ ghost use Rattle.std.specs.Prelude.{◌≡◌, MatchBool};
 ghost use mathlib.Core.List.{IsPrefix};
 ghost use Rattle.shared_node.specs.Passes.{IsSamePut};
 
-use crate::entrance::Entrance;
 use change_log::{Naming, Prefix};
+use published_log::Entrance;
 use std::marker::Model;
 use std::sync::ledger::Share;
 
@@ -23,7 +23,7 @@ pub struct Pass<J: Naming> {
 }
 
 impl<J: Naming> Model for Pass<J> {
-    ghost use Rattle.std.specs.Prelude.{◌≡◌, true, is_some};
+    ghost use Rattle.std.specs.Prelude.{◌≡◌, true};
     ghost use Rattle.shared_node.specs.Passes.{PassValue, pass_value};
 
     ghost Value = { PassValue };
@@ -31,7 +31,7 @@ impl<J: Naming> Model for Pass<J> {
     ghost view = { λ p. pass_value p.number p.count p.list p.told };
 
     ghost invariant = { λ p. (p.share.parts ≡ 1) × (p.share.amount ≡ p.count)
-        × (is_some p.entrance.home ≡ true) };
+        × (p.entrance ≡ true) };
 }
 
 /// A list that was published. Contracts see it as its entries.

@@ -1,19 +1,17 @@
 //! What a pass reads, without a lock.
-ghost use Rattle.std.specs.Prelude.{◌≡◌, ◌≢◌, ◌↔◌, Err, true, IsTrue, is_some, IfOk, IfSome, IfNone, OnErr};
-ghost use mathlib.Core.List.{IsPrefix};
+ghost use Rattle.std.specs.Prelude.{◌≡◌, ◌≢◌, ◌↔◌, Err, IsTrue, IfOk, OnErr};
 ghost use Rattle.byte_text.specs.Writes.{Writes};
 ghost use Rattle.chat_history.specs.History.{mark, norm};
 ghost use Rattle.chat_history.specs.Lookups.{IsShown};
 ghost use Rattle.chat_history.specs.Numbering as numbering;
 ghost use Rattle.chat_history.specs.Retention as retention;
 ghost use Rattle.chat_batch.specs.Answers.{answer_of};
-ghost use Rattle.shared_node.specs.Lists.{changes_in, state_of};
+ghost use Rattle.shared_node.specs.Lists.{changes_in};
 ghost use Rattle.shared_node.specs.Passes.{Reads};
 
-use crate::entrance::{Entrance, Visit};
 use crate::faults::AskFault;
 use crate::pass::Pass;
-use change_log::{Naming, Prefix};
+use change_log::Naming;
 use chat_batch::{AnswerFault, Answered, Facts, answer};
 use chat_change::{Buffer, Change, Moment, MsgId};
 use chat_state::{NoEntry, Peek};
@@ -21,29 +19,6 @@ use gossip_delta::{Delta, DeltaFault, Source, delta_since};
 use irc_line::Line;
 use std::alloc::Global;
 use std::io::Write;
-
-// Enters the published version, where its list follows what was seen and told. From then on it is what was seen.
-fn enter<J: Naming>(
-    entrance: &mut Entrance<J>,
-    seen: &mut Prefix<J>,
-    told: &Prefix<J>,
-) -> Option<Visit<J>>
-    requires { is_some entrance.old.home ≡ true }
-    ensures version { IfSome result (λ v. v.reading.part.value.state ≡ state_of seen.new) }
-    ensures follows { IfSome result (λ _. IsPrefix seen.old seen.new
-        × IsPrefix told.now seen.new) }
-    ensures refused { IfNone result (seen.new ≡ seen.old) }
-    ensures stands { IfNone result (is_some entrance.new.home ≡ true) }
-{
-    let visit = entrance.enter()?;
-    let list = visit.list();
-    if !list.follows(seen) || !list.follows(told) {
-        entrance.leave(visit);
-        return None;
-    }
-    *seen = list;
-    Some(visit)
-}
 
 impl<J: Naming> Pass<J> {
     /// Answers a question about the past ([`answer`]), from the state of a list that follows all that the pass has seen or
@@ -67,7 +42,7 @@ impl<J: Naming> Pass<J> {
             → (self.new ≡ self.old) × (writer.new ≡ writer.old) }
         ensures memory { result ≡ Err AskFault.NoMemory → writer.new ≡ writer.old }
     {
-        let Some(visit) = enter(&mut self.entrance, &mut self.list, &self.told) else {
+        let Some(visit) = self.entrance.enter(&mut self.list, &self.told) else {
             return Err(AskFault::NoEntry);
         };
         let answered = answer(alloc, visit.state(), facts, line, writer);
@@ -92,7 +67,7 @@ impl<J: Naming> Pass<J> {
         ensures seen { result ≢ Err DeltaFault.NoEntry → Reads self.old self.new }
         ensures no_entry { result ≡ Err DeltaFault.NoEntry → self.new ≡ self.old }
     {
-        let Some(visit) = enter(&mut self.entrance, &mut self.list, &self.told) else {
+        let Some(visit) = self.entrance.enter(&mut self.list, &self.told) else {
             return Err(DeltaFault::NoEntry);
         };
         let floors = visit.state().due_floors(alloc, now, days);
@@ -111,7 +86,7 @@ impl<J: Naming> Pass<J> {
         ensures seen { result ≢ Err DeltaFault.NoEntry → Reads self.old self.new }
         ensures no_entry { result ≡ Err DeltaFault.NoEntry → self.new ≡ self.old }
     {
-        let Some(visit) = enter(&mut self.entrance, &mut self.list, &self.told) else {
+        let Some(visit) = self.entrance.enter(&mut self.list, &self.told) else {
             return Err(DeltaFault::NoEntry);
         };
         let delta = delta_since(alloc, visit.state(), from);
@@ -130,7 +105,7 @@ impl<J: Naming> Pass<J> {
         ensures seen { IfOk result (λ _. Reads self.old self.new) }
         ensures no_entry { OnErr result (self.new ≡ self.old) }
     {
-        let Some(visit) = enter(&mut self.entrance, &mut self.list, &self.told) else {
+        let Some(visit) = self.entrance.enter(&mut self.list, &self.told) else {
             return Err(NoEntry);
         };
         let shown = visit.state().is_shown(buffer, id);
@@ -147,7 +122,7 @@ impl<J: Naming> Pass<J> {
         ensures seen { IfOk result (λ _. Reads self.old self.new) }
         ensures no_entry { OnErr result (self.new ≡ self.old) }
     {
-        let Some(visit) = enter(&mut self.entrance, &mut self.list, &self.told) else {
+        let Some(visit) = self.entrance.enter(&mut self.list, &self.told) else {
             return Err(NoEntry);
         };
         let marker = visit.state().mark(buffer);

@@ -2,9 +2,8 @@
 ghost use Rattle.std.specs.Prelude.{◌≡◌, ◌≢◌, ◌+◌, [], IfOk, IfErr, vec_len, vec_capacity};
 ghost use Rattle.std.specs.List.{sum_by};
 ghost use Rattle.shared_node.specs.Passes.{pass_value, newcomers};
-ghost use Rattle.shared_node.specs.Puts.{total};
+ghost use Rattle.published_log.specs.Log.{total};
 
-use crate::entrance::Entrance;
 use crate::faults::NodeFault;
 use crate::half::WritingHalf;
 use crate::pass::Pass;
@@ -20,7 +19,7 @@ impl<J: Naming, R: Wait + Drop> WritingHalf<J, R> {
         ensures pass { IfOk result (λ p. p ≡ pass_value number 0 list.now list.now) }
         ensures fault { IfErr result (λ e. e ≡ NodeFault.NoReader) }
     {
-        let Ok(reader) = self.writer.factory().reader() else {
+        let Some(entrance) = self.log.entrance() else {
             return Err(NodeFault::NoReader);
         };
         Ok(Pass {
@@ -28,7 +27,7 @@ impl<J: Naming, R: Wait + Drop> WritingHalf<J, R> {
             count: 0,
             list: list.again(),
             told: list.again(),
-            entrance: Entrance::new(reader),
+            entrance,
             share,
         })
     }

@@ -2,10 +2,10 @@ use Rattle.std.proofs.Common.{◌≡◌, List, [], ◌++◌, drop, fold, Option,
 use Rattle.std.proofs.lemmas.List.{append-nil}
 use Rattle.change_log.specs.declared.version.Version.{Version}
 use Rattle.change_log.specs.declared.version.Operation.{Operation}
-use Rattle.shared_node.specs.Puts.{all_put, half_value}
+use Rattle.published_log.specs.Log.{all_put, log_value}
 use Rattle.change_log.specs.Versions.{entries_of, held, stepped}
 use Rattle.change_log.proofs.CallerLemmas.{all_made}
-use Rattle.shared_node.proofs.half.WritingHalf.publish_all.Goals as goal
+use Rattle.published_log.proofs.log_writer.LogWriter.publish.Goals as goal
 
 -- where nothing is stuck, all that waits is pending
 all_pending : (pending waits : List Operation) (stuck : Option Operation) → stuck ≡ None → pending ++ held stuck ≡ waits → pending ≡ waits
@@ -28,7 +28,7 @@ invariant_of-self-2 g c =
     let pending : List Operation = drop c.unstick.new.writer.behind c.unstick.new.writer.log.items in
     let next = c.in-Ok.ensures.0 ∙ ap (λ d. fold stepped d.shown.value pending) c.unstick.ensures.published in
     let t = all_made g.J.Naming.book v c.replace_with-published.new.dest.desk.shown.value ops pending c.self.inside.list i.0 i.1 i.2 (all_pending pending ops c.unstick.new.stuck c.if-not-unstick.ensures.moved c.unstick.ensures.waiting) next in
-    rw (c.in-Ok.ensures.1, c.if-not-unstick.ensures.moved) (t.0, tt, sym (append-nil c.replace_with-published.new.dest.desk.shown.value.list.seen.log ∙ t.1), i.3, i.4, i.5)
+    rw (c.in-Ok.ensures.1, c.if-not-unstick.ensures.moved) (t.0, tt, sym (append-nil c.replace_with-published.new.dest.desk.shown.value.list.seen.log ∙ t.1))
 
 pub returns : goal.returns
 returns g c =
@@ -40,4 +40,4 @@ returns g c =
     let t = all_made g.J.Naming.book v c.replace_with-published.new.dest.desk.shown.value ops pending c.self.inside.list i.0 i.1 i.2 (all_pending pending ops c.unstick.new.stuck c.if-not-unstick.ensures.moved c.unstick.ensures.waiting) next in
     let rest : entries_of (drop c.replace_with-published.new.dest.behind c.replace_with-published.new.dest.log.items ++ held c.unstick.new.stuck) ≡ [] = rw (c.in-Ok.ensures.1, c.if-not-unstick.ensures.moved) refl in
     let all = t.1 ∙ i.2 ∙ ap all_put c.self.view_is in
-    λ j. half_value (all j) (rest j)
+    λ j. log_value (all j) (rest j)

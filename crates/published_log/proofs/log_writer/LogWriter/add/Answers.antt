@@ -1,9 +1,9 @@
-use Rattle.std.proofs.Common.{◌≡◌, List, [], ◌∷◌, ◌++◌, length, drop, Option, None, ap, sym, ◌∙◌, arith, length-append}
+use Rattle.std.proofs.Common.{◌≡◌, List, [], ◌∷◌, ◌++◌, drop, Option, None, ap, sym, ◌∙◌}
 use Rattle.std.proofs.lemmas.List.{append-nil}
 use Rattle.change_log.specs.declared.version.Operation.{Operation}
 use Rattle.change_log.specs.Versions.{entries_of, held}
 use Rattle.change_log.proofs.CallerLemmas.{one_more, entries_of-append}
-use Rattle.shared_node.proofs.half.WritingHalf.append.Goals as goal
+use Rattle.published_log.proofs.log_writer.LogWriter.add.Goals as goal
 
 -- where nothing is stuck, what waits is what was pending, and then the change
 more_waits : (pending waits waits' : List Operation) (stuck : Option Operation) (op : Operation) → stuck ≡ None → pending ++ held stuck ≡ waits → waits' ≡ pending ++ op ∷ [] → waits' ≡ waits ++ op ∷ []
@@ -13,21 +13,21 @@ more_waits pending waits waits' stuck op none was now =
 pub invariant_of-self-2 : goal.invariant_of-self-2
 invariant_of-self-2 g c =
     let i = c.self.invariant in
-    let op : Operation = record { entry = record { by = c.pass.inside.number; change = c.in_ok-change.change }; after = c.any.result } in
+    let op : Operation = record { entry = record { by = c.args.by; change = c.in_ok-change.change }; after = c.any.result } in
     let ops : List Operation = drop c.self.inside.writer.behind c.self.inside.writer.log.items ++ held c.self.inside.stuck in
     let pending : List Operation = drop c.unstick.new.writer.behind c.unstick.new.writer.log.items in
     let waits : List Operation = drop c.queue.new.writer.behind c.queue.new.writer.log.items ++ held c.queue.new.stuck in
     let more = more_waits pending ops waits c.unstick.new.stuck op c.if-not-unstick.ensures.moved c.unstick.ensures.waiting c.queue.ensures.waiting in
     let added = c.if-not-add.ensures in
     let t = one_more g.J.Naming.book c.self.inside.writer.desk.shown.value ops waits op c.self.inside.list c.add.new.self i.0 i.1 i.2 added c.any.ensures.1 c.any.ensures.0 more in
-    rw (c.queue.ensures.published, c.unstick.ensures.published) (t.0, t.1, t.2, omega (arith, c.add-2.ensures.total, c.audit.ensures.total, i.3, ap length added, length-append c.self.inside.list (op.entry ∷ [])), i.4, i.5)
+    rw (c.queue.ensures.published, c.unstick.ensures.published) (t.0, t.1, t.2)
 
 pub returns-clause-waiting : goal.returns-clause-waiting
 returns-clause-waiting g c =
-    let op : Operation = record { entry = record { by = c.pass.inside.number; change = c.in_ok-change.change }; after = c.any.result } in
+    let op : Operation = record { entry = record { by = c.args.by; change = c.in_ok-change.change }; after = c.any.result } in
     let ops : List Operation = drop c.self.inside.writer.behind c.self.inside.writer.log.items ++ held c.self.inside.stuck in
     let pending : List Operation = drop c.unstick.new.writer.behind c.unstick.new.writer.log.items in
     let waits : List Operation = drop c.queue.new.writer.behind c.queue.new.writer.log.items ++ held c.queue.new.stuck in
     let more = more_waits pending ops waits c.unstick.new.stuck op c.if-not-unstick.ensures.moved c.unstick.ensures.waiting c.queue.ensures.waiting in
     let cloned = c.in_ok-change.ensures in
-    ap entries_of more ∙ entries_of-append ops (op ∷ []) ∙ ap (λ l. l.waiting ++ op.entry ∷ []) c.self.view_is ∙ (λ i. c.args.self.now.waiting ++ record { by = (c.pass.view_is i).number; change = cloned i } ∷ [])
+    ap entries_of more ∙ entries_of-append ops (op ∷ []) ∙ ap (λ l. l.waiting ++ op.entry ∷ []) c.self.view_is ∙ (λ i. c.args.self.now.waiting ++ record { by = c.args.by; change = cloned i } ∷ [])
