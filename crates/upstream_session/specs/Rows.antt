@@ -207,11 +207,16 @@ redaction u source target id =
     then Put (change.Redact (buffer_of u.home.account u.home.network talk) id None) ∷ []
     else []
 
+-- the redaction, and the line for the sessions that know of redactions
+abbrev pub relay_redaction : Connection → Reading → List ℕ → List ℕ → List ℕ → List UpEffect
+relay_redaction u line bytes target id =
+    redaction u (source_of u line.source) target id
+    ++ Relay (relayed_line line.source bytes) (Holding MessageRedaction) ∷ []
+
 abbrev pub redact : Connection → Reading → List ℕ → List (List ℕ) → ServerStep
 redact u line bytes (target ∷ id ∷ more) =
     if u.entry.is_up && u.entry.takes_redact
-    then stays u (redaction u (source_of u line.source) target id
-    ++ Relay (relayed_line line.source bytes) (Holding MessageRedaction) ∷ [])
+    then stays u (relay_redaction u line bytes target id)
     else stays u (pass_on u line bytes)
 redact u line bytes parameters = stays u (pass_on u line bytes)
 

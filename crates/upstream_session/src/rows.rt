@@ -18,7 +18,7 @@ use crate::effects::{one, push, send};
 use crate::messages::{Stamp, has_buffer, is_same_nick, made_id, stamp_of};
 use crate::scratch::Scratch;
 use byte_text::{NoMemory, Text};
-use chat_change::{Change, Kind, Message, Moment, is_id, is_target, lawful_id};
+use chat_change::{Change, Kind, Message, Moment, MsgId, is_id, is_target, lawful_id};
 use irc_caps::{Capability, Recipients, request, with_acknowledged, with_offers};
 use irc_line::Line;
 use irc_reply::to_client::{relayed_line, tagged_line};
@@ -431,6 +431,24 @@ impl Connection {
         Ok(effects)
     }
 
+    // A message is kept under that id, with the tags of its line.
+    fn keep_under(
+        &self,
+        alloc: Global,
+        scratch: &mut Scratch,
+        line: &Line<'_>,
+        message: Message<'_>,
+        id: MsgId,
+        at: Moment,
+    ) -> Result<Vec<UpEffect>, NoMemory>
+        requires { messages.can_be_kept self.now (value_of message) ≡ true }
+        ensures { IfOk result (λ list. list.items ≡ messages.post self.now id at
+            (messages.kept_tags line.now.tags) (value_of message.entry) ∷ []) }
+    {
+        let post = self.post(alloc, scratch, id, at, line.tags(), message)?;
+        scratch.one(alloc, post)
+    }
+
     fn keep_made(
         &self,
         alloc: Global,
@@ -454,8 +472,7 @@ impl Connection {
                 Ok((MessageOutcome::Stays, list))
             }
             Some(id) => {
-                let post = self.post(alloc, scratch, id, at, line.tags(), message)?;
-                let list = scratch.one(alloc, post)?;
+                let list = self.keep_under(alloc, scratch, line, message, id, at)?;
                 Ok((MessageOutcome::Counts(self.serial + 1), list))
             }
         }
@@ -479,8 +496,7 @@ impl Connection {
         match id {
             None => self.keep_made(alloc, scratch, line, bytes, message, at),
             Some(id) => {
-                let post = self.post(alloc, scratch, id, at, line.tags(), message)?;
-                let list = scratch.one(alloc, post)?;
+                let list = self.keep_under(alloc, scratch, line, message, id, at)?;
                 Ok((MessageOutcome::Stays, list))
             }
         }
@@ -610,6 +626,27 @@ impl Connection {
         }
     }
 
+    // The message is redacted, and the line is passed on to the sessions that know of redactions.
+    fn relay_redaction(
+        &self,
+        alloc: Global,
+        scratch: &mut Scratch,
+        line: &Line<'_>,
+        bytes: &[u8],
+        target: &[u8],
+        id: &[u8],
+    ) -> Result<Vec<UpEffect>, NoMemory>
+        ensures { IfOk result (λ list. list.items
+            ≡ spec.relay_redaction self.now line.now bytes.now target.now id.now) }
+    {
+        let source = self.source_of(line.source());
+        let mut list = self.redaction(alloc, scratch, source, target, id)?;
+        let text = relayed_line(scratch.text_room(alloc), line.source(), bytes)?;
+        let to = Recipients::Holding(Capability::MessageRedaction);
+        push(&mut list, UpEffect::Relay(text, to))?;
+        Ok(list)
+    }
+
     /// REDACT (IRCv3 draft/message-redaction).
     fn redact(
         &self,
@@ -625,12 +662,7 @@ impl Connection {
         match parameters {
             [target, id, ..] => {
                 if self.entry.is_up() && self.entry.takes_redact() {
-                    let source = self.source_of(line.source());
-                    let mut list = self.redaction(alloc, scratch, source, target, id)?;
-                    let text = relayed_line(scratch.text_room(alloc), line.source(), bytes)?;
-                    let to = Recipients::Holding(Capability::MessageRedaction);
-                    push(&mut list, UpEffect::Relay(text, to))?;
-                    Ok(list)
+                    self.relay_redaction(alloc, scratch, line, bytes, target, id)
                 } else {
                     self.pass_on(alloc, scratch, line, bytes)
                 }
