@@ -1,5 +1,5 @@
 //! Reading the lists of accounts and networks.
-ghost use Rattle.std.specs.Prelude.{◌≡◌, true, false, IfOk};
+ghost use Rattle.std.specs.Prelude.{◌≡◌, true, false, IfOk, OnOk};
 ghost use Rattle.std.specs.List.{list_any};
 ghost use Rattle.std.specs.Str.{bytes_eq};
 ghost use Rattle.node_config.specs.Differing as spec;
@@ -105,18 +105,21 @@ fn read_network(
     ensures new { IfOk result (λ n. spec.has_network before.now n.account n.name ≡ false) }
     ensures values { IfOk result (λ n. IsNetworkOf (table_of entry.entry) n) }
 {
+    let network = network_in(alloc, entry)?;
+    check_network(entry, accounts, before, &network)?;
+    Ok(network)
+}
+
+// The network that a table says.
+fn network_in(alloc: Global, entry: Section<'_>) -> Result<Network, ValueFault>
+    ensures { IfOk result (λ n. IsNetworkOf (table_of entry.entry) n) }
+{
     let account = entry.name(alloc, "account")?;
     let name = entry.name(alloc, "name")?;
     let address = entry.address("address")?;
     let nick = entry.target(alloc, "nick")?;
     let user = entry.target(alloc, "user")?;
     let channels = entry.channels(alloc, "channels")?;
-    if !has_account(accounts, account.as_bytes()) {
-        return Err(entry.wrong("account", Allowed::KnownAccount));
-    }
-    if has_network(before, account.as_bytes(), name.as_bytes()) {
-        return Err(entry.wrong("name", Allowed::NewName));
-    }
     Ok(Network {
         account,
         name,
@@ -125,4 +128,25 @@ fn read_network(
         user,
         channels,
     })
+}
+
+// Refuses a network of none of the accounts, and one that is among those before.
+fn check_network(
+    entry: Section<'_>,
+    accounts: &[Account],
+    before: &[Network],
+    network: &Network,
+) -> Result<(), ValueFault>
+    ensures known { OnOk result (spec.has_account accounts.now network.now.account ≡ true) }
+    ensures new { OnOk result
+        (spec.has_network before.now network.now.account network.now.name ≡ false) }
+{
+    let account = network.account.as_bytes();
+    if !has_account(accounts, account) {
+        return Err(entry.wrong("account", Allowed::KnownAccount));
+    }
+    if has_network(before, account, network.name.as_bytes()) {
+        return Err(entry.wrong("name", Allowed::NewName));
+    }
+    Ok(())
 }
