@@ -29,7 +29,7 @@ pub trait Carries<K: Kind>: Port {
     type Connection: Connection;
 
     /// The connection of that number, of which the port told as new. None where it isn't there, or was handed out before.
-    fn open(&mut self, line: usize) -> Option<Self::Connection>
+    fn open(&mut self, number: usize) -> Option<Self::Connection>
         ensures received { IfSome result (λ connection. Self.Connection.received connection ≡ []) }
         ensures sent { IfSome result (λ connection. Self.Connection.sent connection ≡ []) };
 

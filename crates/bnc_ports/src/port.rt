@@ -15,7 +15,7 @@ pub enum Dial {
 pub enum Happening<M> {
     /// A client came. Its attachment was sent to the lobby under the ticket.
     Client {
-        line: usize,
+        number: usize,
         ticket: u64,
     },
     /// The client that came under the ticket is to go, if it isn't registered: others wait for its place.
@@ -24,21 +24,21 @@ pub enum Happening<M> {
     },
     /// A node connected to this one.
     Peer {
-        line: usize,
+        number: usize,
     },
     /// A connection that was asked for is there.
     Opened {
-        line: usize,
+        number: usize,
         what: Dial,
     },
     /// A connection that was asked for could not be made. The line is given up.
     Refused {
-        line: usize,
+        number: usize,
         what: Dial,
     },
     /// Bytes may be there, or room for bytes.
     Ready {
-        line: usize,
+        number: usize,
         readable: bool,
         writable: bool,
     },
@@ -73,7 +73,7 @@ pub trait Port: Drop {
     fn next(&mut self, patience: u64) -> Result<Happening<Self::Mail>, PortFault>;
 
     /// Gives up a connection that was never opened. One that isn't there is left so.
-    fn give_up(&mut self, line: usize);
+    fn give_up(&mut self, number: usize);
 
     /// Begins a connection: `Opened` or `Refused` of that line follows.
     fn dial(&mut self, what: Dial) -> Result<usize, PortFault>;
@@ -82,7 +82,7 @@ pub trait Port: Drop {
     fn target(&self, what: Dial) -> Option<SocketAddr>;
 
     /// Hands mail to another worker.
-    fn post(&mut self, worker: usize, mail: Self::Mail) -> Result<(), PortFault>;
+    fn send_mail(&mut self, worker: usize, mail: Self::Mail) -> Result<(), PortFault>;
 
     /// How many workers there are.
     fn workers(&self) -> usize;
