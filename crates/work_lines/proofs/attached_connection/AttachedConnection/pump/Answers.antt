@@ -1,7 +1,7 @@
 use Rattle.std.proofs.Math.Logic.{∥∥₁_map}
 use Rattle.work_lines.specs.Outgoing.{handed}
 use Rattle.work_lines.proofs.BeginsLemmas.{without_waiting, over_same}
-use Rattle.work_lines.proofs.guest.Guest.pump.Goals as goal
+use Rattle.work_lines.proofs.attached_connection.AttachedConnection.pump.Goals as goal
 
 pub write-requires : goal.write-requires
 write-requires g c =

@@ -1,7 +1,7 @@
 use Rattle.std.proofs.Common.{sym, subst}
 use Rattle.work_lines.specs.Incoming.{AreGiven}
 use Rattle.work_lines.specs.Outgoing.{Traffic}
-use Rattle.work_lines.proofs.pipe.Pipe.fill.Goals as goal
+use Rattle.work_lines.proofs.send_queue.SendQueue.fill.Goals as goal
 
 pub returns-clause-given : goal.returns-clause-given
 returns-clause-given g c = λ given are.

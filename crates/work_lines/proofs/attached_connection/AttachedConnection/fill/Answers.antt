@@ -1,7 +1,7 @@
 use Rattle.std.proofs.Common.{sym, subst}
 use Rattle.work_lines.specs.Incoming.{AreGiven}
 use Rattle.work_lines.specs.Outgoing.{Told}
-use Rattle.work_lines.proofs.guest.Guest.fill.Goals as goal
+use Rattle.work_lines.proofs.attached_connection.AttachedConnection.fill.Goals as goal
 
 pub returns-clause-given : goal.returns-clause-given
 returns-clause-given g c = λ given are.

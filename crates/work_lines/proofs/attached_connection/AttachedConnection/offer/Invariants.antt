@@ -1,6 +1,6 @@
 use Rattle.std.proofs.Common.{◌≡◌}
 use Rattle.work_lines.specs.Outgoing.{handed}
-use Rattle.work_lines.proofs.guest.Guest.offer.Given as goal
+use Rattle.work_lines.proofs.attached_connection.AttachedConnection.offer.Given as goal
 
 abbrev pub invariant-loop : goal.invariant-loop
 invariant-loop g l =

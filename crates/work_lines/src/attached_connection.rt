@@ -9,7 +9,7 @@ ghost use Rattle.work_lines.specs.declared.input.Filled.TheVariants as filled;
 use crate::feeders::Feeders;
 use crate::input::{Filled, Input};
 use crate::pending::Pending;
-use crate::pipe::{Pipe, Pumped};
+use crate::send_queue::{Pumped, SendQueue};
 use attach::Attachment;
 use bnc_ports::{Carries, Connection, Kind};
 use byte_text::{NoMemory, find_byte};
@@ -32,14 +32,14 @@ enum Offered {
 /// The connection of a client, with its attachment. Contracts see what came over it, what was sent over it, what is owed to it,
 /// and what waits.
 #[derive(Drop)]
-pub struct Guest<X: Attachment, C: Connection> {
-    pipe: Pipe<C>,
+pub struct AttachedConnection<X: Attachment, C: Connection> {
+    queue: SendQueue<C>,
     attachment: X,
     // Lines that the client's own line called for.
     waiting: Pending,
 }
 
-impl<X: Attachment, C: Connection> Model for Guest<X, C> {
+impl<X: Attachment, C: Connection> Model for AttachedConnection<X, C> {
     ghost use Rattle.std.specs.Prelude.{◌++◌};
     ghost use Rattle.work_lines.specs.Outgoing.{Told};
 
@@ -47,25 +47,25 @@ impl<X: Attachment, C: Connection> Model for Guest<X, C> {
 
     ghost view = { λ g. record {
       traffic = record {
-        received = g.pipe.received;
-        sent = g.pipe.sent;
-        owed = g.pipe.owed ++ (X.state g.attachment).owed;
+        received = g.queue.received;
+        sent = g.queue.sent;
+        owed = g.queue.owed ++ (X.state g.attachment).owed;
       };
       waiting = g.waiting;
     } };
 }
 
-impl<X: Attachment, C: Connection> Guest<X, C> {
+impl<X: Attachment, C: Connection> AttachedConnection<X, C> {
     /// A client's connection, over which nothing was sent, and its attachment, to which nothing is owed. It takes no memory.
-    pub fn new(alloc: Global, connection: C, attachment: X) -> Guest<X, C>
+    pub fn new(alloc: Global, connection: C, attachment: X) -> AttachedConnection<X, C>
         requires sent { C.sent connection ≡ [] }
         requires owed { (X.state attachment).owed ≡ [] }
         ensures received { result.traffic.received ≡ C.received connection }
         ensures handed { handed result.traffic ≡ [] }
         ensures waiting { result.waiting ≡ [] }
     {
-        Guest {
-            pipe: Pipe::new(alloc, connection),
+        AttachedConnection {
+            queue: SendQueue::new(alloc, connection),
             attachment,
             waiting: Pending::new(alloc),
         }
@@ -73,7 +73,7 @@ impl<X: Attachment, C: Connection> Guest<X, C> {
 
     /// The number by which the port tells of the connection.
     pub fn number(&self) -> usize {
-        self.pipe.number()
+        self.queue.number()
     }
 
     /// The place of its attachment.
@@ -85,21 +85,21 @@ impl<X: Attachment, C: Connection> Guest<X, C> {
     pub fn connection(&self) -> &C
         ensures { C.sent result.now ≡ self.now.traffic.sent }
     {
-        self.pipe.connection()
+        self.queue.connection()
     }
 
     /// The connection alone. The attachment is let go, which frees its place.
     pub fn into_connection(self) -> C
         ensures { C.sent result ≡ self.traffic.sent }
     {
-        self.pipe.into_connection()
+        self.queue.into_connection()
     }
 
     /// There may be room for bytes again.
     pub fn mark_writable(&mut self)
         ensures { self.new ≡ self.old }
     {
-        self.pipe.mark_writable();
+        self.queue.mark_writable();
     }
 
     /// Takes in more bytes that come over the connection.
@@ -117,7 +117,7 @@ impl<X: Attachment, C: Connection> Guest<X, C> {
         ensures handed { handed self.new.traffic ≡ handed self.old.traffic }
         ensures waiting { self.new.waiting ≡ self.old.waiting }
     {
-        self.pipe.fill::<K, P>(input, port, chunk, feeders)
+        self.queue.fill::<K, P>(input, port, chunk, feeders)
     }
 
     /// Lines that the client's own line called for wait, behind the others. Each goes out once what is owed and it are at
@@ -132,7 +132,7 @@ impl<X: Attachment, C: Connection> Guest<X, C> {
 
     // How many bytes are owed, and weren't sent yet.
     fn owed(&self) -> usize {
-        self.attachment.owed().saturating_add(self.pipe.owed())
+        self.attachment.owed().saturating_add(self.queue.owed())
     }
 
     // Hands a line to the attachment. False where it doesn't fit into the bound.
@@ -156,7 +156,8 @@ impl<X: Attachment, C: Connection> Guest<X, C> {
         port: &mut P,
         line: &[u8],
     ) -> bool
-        requires { ∥ BeginsOf (K.may_be_told self.old.traffic.received) (handed self.old.traffic) ∥₁ }
+        requires { ∥ BeginsOf (K.may_be_told self.old.traffic.received)
+            (handed self.old.traffic) ∥₁ }
         ensures handed { MatchBool result
             (handed self.new.traffic ≡ handed self.old.traffic ++ line.now)
             (handed self.new.traffic ≡ handed self.old.traffic) }
@@ -176,7 +177,8 @@ impl<X: Attachment, C: Connection> Guest<X, C> {
 
     // Writes once, so that less is owed. False where nothing is owed, or the connection takes nothing.
     fn make_room<K: Kind, P: Carries<K, Connection = C>>(&mut self, port: &mut P) -> bool
-        requires { ∥ BeginsOf (K.may_be_told self.old.traffic.received) (handed self.old.traffic) ∥₁ }
+        requires { ∥ BeginsOf (K.may_be_told self.old.traffic.received)
+            (handed self.old.traffic) ∥₁ }
         ensures handed { handed self.new.traffic ≡ handed self.old.traffic }
         ensures waiting { self.new.waiting ≡ self.old.waiting }
         ensures received { self.new.traffic.received ≡ self.old.traffic.received }
@@ -197,16 +199,16 @@ impl<X: Attachment, C: Connection> Guest<X, C> {
         ensures waiting { self.new.waiting ≡ self.old.waiting }
         ensures received { self.new.traffic.received ≡ self.old.traffic.received }
     {
-        if self.pipe.owed() != 0 {
+        if self.queue.owed() != 0 {
             return None;
         }
         if self.attachment.owed() == 0 {
             return Some(Pumped::All);
         }
-        if !self.pipe.is_writable() {
+        if !self.queue.is_writable() {
             return Some(Pumped::Blocked);
         }
-        match self.pipe.refill(&mut self.attachment) {
+        match self.queue.refill(&mut self.attachment) {
             Ok(()) => None,
             Err(NoMemory) => Some(Pumped::NoMemory),
         }
@@ -214,14 +216,15 @@ impl<X: Attachment, C: Connection> Guest<X, C> {
 
     // One write of what is owed.
     fn write<K: Kind, P: Carries<K, Connection = C>>(&mut self, port: &mut P) -> Pumped
-        requires { ∥ BeginsOf (K.may_be_told self.old.traffic.received) (handed self.old.traffic) ∥₁ }
+        requires { ∥ BeginsOf (K.may_be_told self.old.traffic.received)
+            (handed self.old.traffic) ∥₁ }
         ensures handed { handed self.new.traffic ≡ handed self.old.traffic }
         ensures waiting { self.new.waiting ≡ self.old.waiting }
         ensures received { self.new.traffic.received ≡ self.old.traffic.received }
     {
         match self.load() {
             Some(pumped) => pumped,
-            None => self.pipe.pump::<K, P>(port),
+            None => self.queue.pump::<K, P>(port),
         }
     }
 

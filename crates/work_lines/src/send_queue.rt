@@ -35,13 +35,13 @@ pub enum Pumped {
 /// A connection, and what is owed to it. Contracts see the bytes that came over it, those that were sent over it, and those
 /// that are owed.
 #[derive(Drop)]
-pub struct Pipe<C: Connection> {
+pub struct SendQueue<C: Connection> {
     connection: C,
     output: Pending,
     is_writable: bool,
 }
 
-impl<C: Connection> Model for Pipe<C> {
+impl<C: Connection> Model for SendQueue<C> {
     ghost use Rattle.work_lines.specs.Outgoing.{Traffic};
 
     ghost Value = { Traffic };
@@ -53,14 +53,14 @@ impl<C: Connection> Model for Pipe<C> {
     } };
 }
 
-impl<C: Connection> Pipe<C> {
+impl<C: Connection> SendQueue<C> {
     /// A connection to which nothing is owed. There may be room for bytes. It takes no memory.
-    pub fn new(alloc: Global, connection: C) -> Pipe<C>
+    pub fn new(alloc: Global, connection: C) -> SendQueue<C>
         ensures received { result.received ≡ C.received connection }
         ensures sent { result.sent ≡ C.sent connection }
         ensures owed { result.owed ≡ [] }
     {
-        Pipe {
+        SendQueue {
             connection,
             output: Pending::new(alloc),
             is_writable: true,
