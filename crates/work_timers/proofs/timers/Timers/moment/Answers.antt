@@ -1,6 +1,0 @@
-use Rattle.std.proofs.Common.{◌∙◌}
-use Rattle.work_timers.proofs.AgreementLemmas.{found}
-use Rattle.work_timers.proofs.timers.Timers.moment.Goals as goal
-
-pub returns : goal.returns
-returns c = c.copied.ensures ∙ c.get.ensures.value ∙ found c.self.inside.moments c.args.self.now c.args.timer c.self.view_is

@@ -1,0 +1,13 @@
+//! Connections that end.
+use bnc_ports::Reason;
+
+/// Whether and when a connection is closed.
+#[derive(Clone, Copy, Debug, PartialEq, Eq)]
+pub enum Closing {
+    /// It stays.
+    Open,
+    /// It is closed once what is owed is written.
+    AfterWrites(Reason),
+    /// It is closed at once.
+    AtOnce(Reason),
+}
