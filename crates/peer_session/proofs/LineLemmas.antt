@@ -1,5 +1,5 @@
 -- The lines of a connection, in turn.
-use Rattle.std.proofs.Common.{◌≡◌, ℕ, List, [], ◌∷◌, ◌++◌, Option, Some, None, Ok, Err, false, refl, sym, ap, ◌∙◌, subst, ◌⊎◌, inl, inr, ⊎_elim}
+use Rattle.std.proofs.Common.{◌≡◌, ℕ, List, [], ◌∷◌, ◌++◌, Option, Some, None, Ok, Err, true, false, refl, sym, ap, ◌∙◌, subst, ◌⊎◌, inl, inr, ⊎_elim}
 use Rattle.peer_lines.specs.Gather as gather
 use Rattle.peer_lines.specs.Gather.{Gather, pushed}
 use Rattle.peer_lines.specs.declared.gather.Arrived.{Arrived}
@@ -13,7 +13,7 @@ use Rattle.gossip_link.specs.declared.handshake.Action.{Action}
 use Rattle.gossip_link.specs.declared.handshake.Action.TheVariants as act
 use Rattle.peer_session.specs.declared.heard.Heard.TheVariants.{Message, Close}
 use Rattle.gossip_link.specs.declared.handshake.Handshake.{Handshake}
-use Rattle.peer_session.specs.Session.{Session, Step, new, step, acted, handed_up, gathered, greeting}
+use Rattle.peer_session.specs.Session.{Session, Step, new, step, acted, handed_up, gathered, greeting, fault_of, is_close}
 use Rattle.peer_session.specs.Pace as pace
 use Rattle.peer_session.specs.Lines.{after_lines, last_step}
 
@@ -23,8 +23,8 @@ use Rattle.peer_session.specs.Lines.{after_lines, last_step}
 record Goes (s : Session) (x : Step) : Type 0 where
   side : x.session.handshake.side ≡ s.handshake.side
   stage : (x.session.handshake.stage ≡ s.handshake.stage) ⊎ (x.session.handshake.stage ≡ Refused)
-  ends : x.heard ≡ Close → x.session.handshake.stage ≡ Refused
-  rests : x.heard ≡ Close → pace.is_due x.session.pace ≡ false
+  ends : is_close x.heard ≡ true → x.session.handshake.stage ≡ Refused
+  rests : is_close x.heard ≡ true → pace.is_due x.session.pace ≡ false
 
 gathered_goes : (s : Session) (place : ℕ) (g : Gather) (answer : gather.ArrivedOrFault) → Goes s (gathered s place g answer)
 gathered_goes s place g (Ok None) = record { side = refl; stage = inl refl; ends = λ e. cc e; rests = λ e. cc e }
@@ -156,10 +156,10 @@ sends t side before l =
     (λ is. ⊎_elim (λ r. inr (is.0, sym r ∙ is.1, is.2)) (λ r. absurd (close_is_no_greeting is.0 (sym r ∙ is.1))) (last_of t side before l))
     (acted_sent t (record s { handshake = record s.handshake { stage = after t s.handshake.stage l } }) l a)
 
-closes_at : (t : Terms) (s : Session) (l : Option PeerLine) (a : Action) → a ≡ act.Close → ((acted t s l a).heard ≡ Close) × ((acted t s l a).sent ≡ [])
-closes_at t s l a e = subst (λ b. ((acted t s l b).heard ≡ Close) × ((acted t s l b).sent ≡ [])) (sym e) (refl, refl)
+closes_at : (t : Terms) (s : Session) (l : Option PeerLine) (a : Action) → a ≡ act.Close → ((acted t s l a).heard ≡ Close (fault_of l)) × ((acted t s l a).sent ≡ [])
+closes_at t s l a e = subst (λ b. ((acted t s l b).heard ≡ Close (fault_of l)) × ((acted t s l b).sent ≡ [])) (sym e) (refl, refl)
 
-pub nothing_follows : (t : Terms) (s : Session) (l next : Option PeerLine) → (step t s l).heard ≡ Close → (pace.is_due (step t s l).session.pace ≡ false) × ((step t (step t s l).session next).heard ≡ Close) × ((step t (step t s l).session next).sent ≡ [])
+pub nothing_follows : (t : Terms) (s : Session) (l next : Option PeerLine) → is_close (step t s l).heard ≡ true → (pace.is_due (step t s l).session.pace ≡ false) × ((step t (step t s l).session next).heard ≡ Close (fault_of next)) × ((step t (step t s l).session next).sent ≡ [])
 nothing_follows t s l next e =
     let here : Session = record s { handshake = record s.handshake { stage = after t s.handshake.stage l } } in
     let goes = acted_goes t here l (action s.handshake.side (after t s.handshake.stage l)) in

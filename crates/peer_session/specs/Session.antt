@@ -1,5 +1,5 @@
 -- One connection with a peer, and what comes of each of its lines.
-use Rattle.std.specs.Prelude.{ℕ, ◌≡◌, ◌++◌, Option, Some, None, List, [], Ok, Err}
+use Rattle.std.specs.Prelude.{ℕ, ◌≡◌, ◌++◌, Bool, true, false, Option, Some, None, List, [], Ok, Err}
 use Rattle.peer_lines.specs.Gather as gather
 use Rattle.peer_lines.specs.Gather.{Gather, pushed}
 use Rattle.peer_lines.specs.Spelling.{Spells, written}
@@ -11,6 +11,8 @@ use Rattle.gossip_link.specs.declared.handshake.Side.{Side}
 use Rattle.gossip_link.specs.declared.handshake.Stage.TheVariants.{Silent, Refused}
 use Rattle.gossip_link.specs.declared.handshake.Action.{Action}
 use Rattle.gossip_link.specs.declared.handshake.Action.TheVariants as act
+use Rattle.peer_session.specs.declared.heard.Fault.{Fault}
+use Rattle.peer_session.specs.declared.heard.Fault.TheVariants.{WrongWord, UnknownNode, BadLine}
 use Rattle.peer_session.specs.declared.heard.Heard.{Heard}
 use Rattle.peer_session.specs.declared.heard.Heard.TheVariants.{Nothing, Message, Close}
 use Rattle.peer_session.specs.declared.pace.Pace.{Pace}
@@ -58,26 +60,37 @@ refused s = record {
   pace = pace.new;
 }
 
-abbrev pub closed : Session → Step
-closed s = record { session = refused s; heard = Close; sent = [] }
+-- the fault of a line that the handshake refuses, by what the line is
+abbrev pub fault_of : Option PeerLine → Fault
+fault_of (Some (line.Word word)) = WrongWord
+fault_of (Some (line.Hello life version)) = UnknownNode
+fault_of _ = BadLine
+
+-- whether the connection is to be closed
+abbrev pub is_close : Heard → Bool
+is_close (Close fault) = true
+is_close _ = false
+
+abbrev pub closed : Session → Fault → Step
+closed s fault = record { session = refused s; heard = Close fault; sent = [] }
 
 abbrev pub gathered : Session → ℕ → Gather → gather.ArrivedOrFault → Step
 gathered s place g (Ok None) =
     record { session = record s { gather = g }; heard = Nothing; sent = [] }
 gathered s place g (Ok (Some arrived)) =
     record { session = record s { gather = g }; heard = Message place arrived; sent = [] }
-gathered s place g (Err fault) = closed s
+gathered s place g (Err fault) = closed s BadLine
 
 -- a line that is handed up is gathered
 abbrev pub handed_up : Session → ℕ → Option PeerLine → Step
-handed_up s place None = closed s
+handed_up s place None = closed s BadLine
 handed_up s place (Some l) = gathered s place (pushed s.gather l).gather (pushed s.gather l).answer
 
 abbrev pub acted : Terms → Session → Option PeerLine → Action → Step
 acted t s l act.Wait = record { session = s; heard = Nothing; sent = [] }
 acted t s l (act.GreetAndHandUp place) = record (handed_up s place l) { sent = greeting t place }
 acted t s l (act.HandUp place) = handed_up s place l
-acted t s l act.Close = closed s
+acted t s l act.Close = closed s (fault_of l)
 
 -- what comes of a line. None stands for one that can't be read or is too long
 abbrev pub step : Terms → Session → Option PeerLine → Step

@@ -7,7 +7,7 @@ ghost use Rattle.peer_lines.specs.declared.gather.Arrived.{Arrived};
 ghost use Rattle.gossip_link.specs.Handshake.{Terms, names_of, ArePeers};
 ghost use Rattle.gossip_link.specs.declared.handshake.Side.{Side};
 ghost use Rattle.gossip_link.specs.declared.handshake.Side.TheVariants.{Acceptor};
-ghost use Rattle.peer_session.specs.Session.{Session, greeting, step};
+ghost use Rattle.peer_session.specs.Session.{Session, greeting, step, fault_of, is_close};
 ghost use Rattle.peer_session.specs.Lines.{last_step};
 ghost use Rattle.peer_session.specs.declared.heard.Heard.TheVariants.{Message, Close};
 ghost use Rattle.peer_session.specs.Pace as pace;
@@ -64,7 +64,7 @@ pub fn closed_after_three_packets()
 /// so far, with it, are the shared word, then a hello of a configured peer other than this node, then what that peer
 /// sends; and it goes to that peer's place. Something is sent because of a line only where the other node opened the
 /// connection and the lines are such a word and such a first hello, and no more: it is the greeting to that peer, so no
-/// stranger is told the word. After Close no packet is due, and there is nothing but Close.
+/// stranger is told the word. Once a connection is to be closed no packet is due, and each further line is refused.
 pub fn messages_come_from_peers()
     ensures arrives { (t : Terms) (side : Side) (before : List (Option PeerLine))
         (line : Option PeerLine) (place : ℕ) (arrived : Arrived) →
@@ -78,9 +78,9 @@ pub fn messages_come_from_peers()
         × (place : ℕ) × (slice_get (names_of t) place ≡ Some are.peer.node)
         × ((last_step t side before line).sent ≡ greeting t place)) }
     ensures closed { (t : Terms) (s : Session) (line next : Option PeerLine) →
-        (step t s line).heard ≡ Close → let then = step t (step t s line).session next in
+        is_close (step t s line).heard ≡ true → let then = step t (step t s line).session next in
         (pace.is_due (step t s line).session.pace ≡ false)
-        × (then.heard ≡ Close) × (then.sent ≡ []) }
+        × (then.heard ≡ Close (fault_of next)) × (then.sent ≡ []) }
 {
     gossip_link::laws::handshake();
 }

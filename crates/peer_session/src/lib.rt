@@ -29,7 +29,7 @@ pub use gossip_link::{
     Arrived, Life, Link, LinkFault, NodeName, PeerTerms, SharedWord, Side, Terms, Version,
 };
 pub use greeting::say_hello_again;
-pub use heard::Heard;
+pub use heard::{Fault, Heard};
 pub use outcome::Outcome;
 pub use pace::{ACK_WAIT_MS, MOST_UNANSWERED};
 pub use session::PeerSession;

@@ -6,7 +6,7 @@ ghost use Rattle.peer_session.specs.Session as spec;
 ghost use Rattle.peer_session.specs.Pace as pace;
 
 use crate::greeting::greet;
-use crate::heard::Heard;
+use crate::heard::{Fault, Heard};
 use crate::pace::Pace;
 use byte_text::NoMemory;
 use gossip_link::{Action, Gather, Handshake, LinkFault, PeerLine, Side, Terms, read_peer};
@@ -76,8 +76,8 @@ impl PeerSession {
     ///
     /// A message arrives only from a configured peer that has said the right word and hello. The connection is to be closed
     /// where a line can't be read, is too long, or breaks the order of lines, and so is it where it wasn't read or gathered
-    /// for want of memory. Then nothing is left of a packet that wasn't whole, further lines come to Close, and no packet is
-    /// due.
+    /// for want of memory. Then nothing is left of a packet that wasn't whole, further lines come to [`Heard::Close`], and no
+    /// packet is due.
     pub fn hear(
         &mut self,
         alloc: Global,
@@ -129,9 +129,10 @@ impl PeerSession {
             }
             Action::HandUp(place) => self.gather_line(alloc, terms, place, line),
             Action::Close => {
+                let fault = Fault::of(&line);
                 drop(line);
                 self.refuse(terms);
-                Ok(Heard::Close)
+                Ok(Heard::Close(fault))
             }
         }
     }
@@ -152,7 +153,7 @@ impl PeerSession {
     {
         let Some(line) = line else {
             self.refuse(terms);
-            return Ok(Heard::Close);
+            return Ok(Heard::Close(Fault::BadLine));
         };
         match self.gather.push(alloc, line) {
             Ok(None) => Ok(Heard::Nothing),
@@ -160,7 +161,7 @@ impl PeerSession {
             Err(LinkFault::NoMemory) => Err(NoMemory),
             Err(_) => {
                 self.refuse(terms);
-                Ok(Heard::Close)
+                Ok(Heard::Close(Fault::BadLine))
             }
         }
     }
