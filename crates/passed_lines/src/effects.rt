@@ -6,9 +6,9 @@ ghost use Rattle.passed_lines.specs.Passing.{IsPassedOn, IsPutBy, MayPass};
 use crate::passed::Passed;
 use chat_change::Change;
 use irc_caps::Recipients;
-use shared_lines::SharedLine;
 use std::marker::Model;
 use upstream_session::UpEffect;
+use worker_io::SharedLine;
 
 /// A change that a session with the server of that account's network puts: a message, which is told to the sessions that hear
 /// it as it comes, or a redaction.

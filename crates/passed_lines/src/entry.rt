@@ -3,9 +3,9 @@ ghost use Rattle.std.specs.Prelude.{◌≡◌, false, IfOk};
 ghost use Rattle.passed_lines.specs.Passing.{IsNickOf};
 
 use byte_text::{NoMemory, Text};
-use shared_lines::SharedLine;
 use std::alloc::Global;
 use upstream_session::Entry;
+use worker_io::SharedLine;
 
 /// How the session with the server of that account's network stands. Its nick is one that such a session has.
 #[derive(Drop)]

@@ -7,7 +7,7 @@
 //! such a session put, and a [`NetworkEntry`] how one stands.
 //!
 //! A [`SaidLine`], a [`LiveMessage`], a [`NetworkEntry`] and a [`PassedLine`] are these on their way to another worker. The crate
-//! stands on `upstream_session`, `client_session` and `shared_lines`. Read [`NetworkSession`] first.
+//! stands on `upstream_session`, `client_session` and `worker_io`. Read [`NetworkSession`] first.
 #![tactic(auto)]
 
 mod effects;

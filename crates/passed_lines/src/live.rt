@@ -4,7 +4,7 @@ ghost use Rattle.passed_lines.specs.Passing.{IsLive};
 
 use byte_text::NoMemory;
 use chat_change::Record;
-use shared_lines::SharedLine;
+use worker_io::SharedLine;
 
 /// A message that a session with the server of that account's network put, and whether it is from the present nick there.
 #[derive(Clone, Copy)]

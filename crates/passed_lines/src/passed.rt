@@ -4,7 +4,7 @@ ghost use Rattle.passed_lines.specs.Passing.{IsPassedOn};
 
 use byte_text::NoMemory;
 use irc_caps::Recipients;
-use shared_lines::SharedLine;
+use worker_io::SharedLine;
 
 /// A line that a session with the server of that account's network passes on, and to whom. It ends with CR LF.
 #[derive(Clone, Copy)]

@@ -15,11 +15,11 @@ use crate::live::Live;
 use crate::said::Said;
 use byte_text::{NoMemory, Text};
 use chat_change::{Change, Moment, Record};
-use shared_lines::SharedLine;
 use std::alloc::Global;
 use std::marker::Model;
 use thiserror::Error;
 use upstream_session::{Config, Entry, Upstream, is_from};
+use worker_io::SharedLine;
 
 /// Why a line isn't said to a server.
 #[derive(Clone, Copy, Debug, PartialEq, Eq, Error)]
