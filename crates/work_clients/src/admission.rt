@@ -1,55 +1,56 @@
 //! How clients come, register and go.
-use crate::client::Client;
+use crate::admitted::Admitted;
 use crate::clients::Clients;
-use crate::kind::ToClient;
 use crate::registrations::{Registration, Registrations};
 use attach::Attachment;
 use bnc_ports::{Carries, Connection, Event, Port, Reason};
+use client_connection::ToClient;
 use std::net::SocketAddr;
 use std::sync::Wait;
-use work_desk::{Desk, Fate, PATIENCE};
-use work_timers::Timer;
+use worker_io::{Closing, Context, PATIENCE, Timer};
 
-impl<X: Attachment, C: Connection> Client<X, C> {
+impl<X: Attachment, C: Connection> Admitted<X, C> {
     // Why a client is closed that had long enough to register, or to read what it was owed.
     fn reason_when_due(&self) -> Option<Reason> {
-        match self.fate {
-            Fate::Stays if self.network.is_some() => None,
-            Fate::Stays => Some(Reason::Unregistered),
-            Fate::Ends(reason) | Fate::Lost(reason) => Some(reason),
+        match self.closing {
+            Closing::Open if self.network.is_some() => None,
+            Closing::Open => Some(Reason::Unregistered),
+            Closing::AfterWrites(reason) | Closing::AtOnce(reason) => Some(reason),
         }
     }
 
     // Known from now on by its network, where its session has just registered.
     fn register<P: Carries<ToClient, Connection = C>>(
         &mut self,
-        desk: &mut Desk<P>,
+        context: &mut Context<P>,
         registrations: &mut Registrations,
     ) {
-        if self.know_nick(desk.site.alloc).is_err() {
-            self.fate = Fate::Lost(Reason::NoMemory);
+        if self.client.know_nick(context.view.alloc).is_err() {
+            self.closing = Closing::AtOnce(Reason::NoMemory);
         }
-        let Some(facts) = self.session.facts() else {
+        let Some(facts) = self.client.facts() else {
             return;
         };
         let account = facts.account.as_bytes();
         let network = facts.network.as_bytes();
-        let Some(place) = desk.site.network_of(account, network) else {
-            self.fate = Fate::Lost(Reason::NoEntry);
+        let Some(place) = context.view.network_of(account, network) else {
+            self.closing = Closing::AtOnce(Reason::NoEntry);
             return;
         };
         let registration = Registration {
             network: place,
-            line: self.guest.number(),
+            number: self.client.number(),
         };
         let Ok(()) = registrations.enter(registration) else {
-            self.fate = Fate::Lost(Reason::NoMemory);
+            self.closing = Closing::AtOnce(Reason::NoMemory);
             return;
         };
         self.network = Some(place);
-        desk.timers.clear(Timer::Unregistered(self.guest.number()));
-        let address = desk.port.address(self.guest.connection());
-        desk.port.report(&Event::ClientIn {
+        context
+            .timers
+            .clear(Timer::Unregistered(self.client.number()));
+        let address = context.port.address(self.client.connection());
+        context.port.report(&Event::ClientIn {
             account,
             network,
             address,
@@ -61,55 +62,55 @@ impl<X: Attachment, C: Connection> Clients<X, C> {
     // The operator is told of a client that is gone and had not registered, or that there was one more of many.
     fn tell_refused<P: Port>(
         &mut self,
-        desk: &mut Desk<P>,
+        context: &mut Context<P>,
         address: Option<SocketAddr>,
         reason: Reason,
     ) {
         if reason == Reason::NoMemory || self.refusals.add() {
-            desk.report(&Event::ClientRefused { address, reason });
+            context.report(&Event::ClientRefused { address, reason });
         }
     }
 
     /// The operator is told once a minute how many more clients were refused than were told one by one.
-    pub fn tell_refusals<P: Port>(&mut self, desk: &mut Desk<P>) {
-        if let Some(count) = self.refusals.take_untold(desk.site.now) {
-            desk.port.report(&Event::ClientsRefused { count });
+    pub fn tell_refusals<P: Port>(&mut self, context: &mut Context<P>) {
+        if let Some(count) = self.refusals.take_untold(context.view.now) {
+            context.port.report(&Event::ClientsRefused { count });
         }
     }
 
     // A connection over which no client can be served is closed. The operator is told.
     fn refuse<P: Carries<ToClient>>(
         &mut self,
-        desk: &mut Desk<P>,
+        context: &mut Context<P>,
         connection: P::Connection,
         reason: Reason,
     ) {
-        let address = desk.port.address(&connection);
-        desk.port.close(connection);
-        self.tell_refused(desk, address, reason);
+        let address = context.port.address(&connection);
+        context.port.close(connection);
+        self.tell_refused(context, address, reason);
     }
 
     /// A client came, whose attachment is under a ticket. Where it can't be taken in its connection is closed.
     pub fn admit<W: Wait, P: Carries<ToClient, Connection = C>>(
         &mut self,
         rt: &W,
-        desk: &mut Desk<P>,
-        line: usize,
+        context: &mut Context<P>,
+        number: usize,
         ticket: u64,
     ) {
         let attachment = self.lobby.admit(rt, ticket);
-        let Some(connection) = desk.port.open(line) else {
-            return self.tell_refused(desk, None, Reason::Closed);
+        let Some(connection) = context.port.open(number) else {
+            return self.tell_refused(context, None, Reason::Closed);
         };
         let Some(attachment) = attachment else {
-            return self.refuse(desk, connection, Reason::NoPlace);
+            return self.refuse(context, connection, Reason::NoPlace);
         };
-        if let Err(connection) = self.begin(&desk.site, connection, attachment, ticket) {
-            return self.refuse(desk, connection, Reason::NoMemory);
+        if let Err(connection) = self.begin(&context.view, connection, attachment, ticket) {
+            return self.refuse(context, connection, Reason::NoMemory);
         }
-        self.wake(line);
-        if desk.set_patience(line, PATIENCE).is_err() {
-            self.close(desk, line, Reason::NoMemory);
+        self.wake(number);
+        if context.set_patience(number, PATIENCE).is_err() {
+            self.close(context, number, Reason::NoMemory);
         }
     }
 
@@ -117,8 +118,8 @@ impl<X: Attachment, C: Connection> Clients<X, C> {
     /// changes.
     pub fn note_registration<P: Carries<ToClient, Connection = C>>(
         &mut self,
-        desk: &mut Desk<P>,
-        line: usize,
+        context: &mut Context<P>,
+        number: usize,
     ) {
         let Clients {
             all,
@@ -126,11 +127,11 @@ impl<X: Attachment, C: Connection> Clients<X, C> {
             lobby,
             ..
         } = self;
-        if let Some(client) = all.get_mut(&line) {
-            if client.network.is_none() {
-                client.register(desk, registrations);
-                if client.network.is_some() {
-                    lobby.note_registered(client.guest.place());
+        if let Some(admitted) = all.get_mut(&number) {
+            if admitted.network.is_none() {
+                admitted.register(context, registrations);
+                if admitted.network.is_some() {
+                    lobby.note_registered(admitted.client.place());
                 }
             }
         }
@@ -139,27 +140,27 @@ impl<X: Attachment, C: Connection> Clients<X, C> {
     /// A client that had long enough to register, or to read what it was owed, is closed. One that is turned away is told so.
     pub fn check_registered<P: Carries<ToClient, Connection = C>>(
         &mut self,
-        desk: &mut Desk<P>,
-        line: usize,
+        context: &mut Context<P>,
+        number: usize,
     ) {
-        if self.release(line) {
+        if self.release(number) {
             return;
         }
-        let Some(client) = self.all.get(&line) else {
+        let Some(admitted) = self.all.get(&number) else {
             return;
         };
-        if let Some(reason) = client.reason_when_due() {
-            self.close(desk, line, reason);
+        if let Some(reason) = admitted.reason_when_due() {
+            self.close(context, number, reason);
         }
     }
 
     /// The client is closed once it has read what it is owed, or had long enough to. Where there is no memory to wait for
     /// that, it is lost.
-    pub fn end<P: Port>(&mut self, desk: &mut Desk<P>, line: usize, reason: Reason) {
-        if let Some(client) = self.all.get_mut(&line) {
-            client.fate = match desk.set_patience(line, PATIENCE) {
-                Ok(()) => Fate::Ends(reason),
-                Err(_) => Fate::Lost(Reason::NoMemory),
+    pub fn end<P: Port>(&mut self, context: &mut Context<P>, number: usize, reason: Reason) {
+        if let Some(admitted) = self.all.get_mut(&number) {
+            admitted.closing = match context.set_patience(number, PATIENCE) {
+                Ok(()) => Closing::AfterWrites(reason),
+                Err(_) => Closing::AtOnce(Reason::NoMemory),
             };
         }
     }
@@ -167,27 +168,20 @@ impl<X: Attachment, C: Connection> Clients<X, C> {
     /// Closes a client's connection at once, and frees its place. The operator is told.
     pub fn close<P: Carries<ToClient, Connection = C>>(
         &mut self,
-        desk: &mut Desk<P>,
-        line: usize,
+        context: &mut Context<P>,
+        number: usize,
         reason: Reason,
     ) {
-        let Some(client) = self.remove(line) else {
+        let Some(admitted) = self.remove(number) else {
             return;
         };
-        let network = client.network;
-        let reason = client.reason_to_tell(reason);
-        let connection = client.into_connection();
-        let Desk {
-            site,
-            port,
-            timers,
-            shortage,
-            ..
-        } = desk;
-        timers.clear(Timer::Unregistered(line));
-        let address = port.address(&connection);
-        port.close(connection);
-        match site.network_at(network) {
+        let network = admitted.network;
+        let reason = admitted.reason_to_tell(reason);
+        let connection = admitted.client.into_connection();
+        context.timers.clear(Timer::Unregistered(number));
+        let address = context.port.address(&connection);
+        context.port.close(connection);
+        match context.view.network_at(network) {
             Some(config) => {
                 let event = Event::ClientOut {
                     account: config.account.as_bytes(),
@@ -195,9 +189,9 @@ impl<X: Attachment, C: Connection> Clients<X, C> {
                     address,
                     reason,
                 };
-                shortage.report(port, &event);
+                context.shortage.report(&mut context.port, &event);
             }
-            None => self.tell_refused(desk, address, reason),
+            None => self.tell_refused(context, address, reason),
         }
     }
 }

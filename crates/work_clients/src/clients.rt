@@ -1,27 +1,26 @@
 //! The table of a worker's clients, and the queue of those that have something to do.
 ghost use Rattle.std.specs.Prelude.{◌≡◌, []};
 
-use crate::client::Client;
-use crate::live_text::LiveText;
+use crate::admitted::Admitted;
 use crate::registrations::{Registration, Registrations};
 use attach::Attachment;
 use bnc_ports::{Connection, Lobby, Refusals};
+use client_connection::Client;
 use std::alloc::Global;
 use std::collections::{BTreeMap, VecDeque};
-use work_desk::Site;
+use worker_io::NodeView;
 
 /// A worker's clients, by the numbers of their connections. They come in by its lobby.
 #[derive(Drop)]
 pub struct Clients<X: Attachment, C: Connection> {
-    pub(crate) all: BTreeMap<usize, Client<X, C>>,
+    pub(crate) all: BTreeMap<usize, Admitted<X, C>>,
     // those among them that are registered
     pub(crate) registrations: Registrations,
     pub(crate) lobby: Lobby<X>,
     // those that have something to do
     pub(crate) busy: VecDeque<usize>,
     // a text for a client, as it is written
-    pub(crate) answer: Vec<u8>,
-    pub(crate) live: LiveText,
+    pub(crate) room: Vec<u8>,
     // those that were closed before they registered
     pub(crate) refusals: Refusals,
 }
@@ -34,8 +33,7 @@ impl<X: Attachment, C: Connection> Clients<X, C> {
             registrations: Registrations::new(alloc),
             lobby,
             busy: VecDeque::new(alloc),
-            answer: Vec::new(alloc),
-            live: LiveText::new(alloc),
+            room: Vec::new(alloc),
             refusals: Refusals::new(),
         }
     }
@@ -44,7 +42,7 @@ impl<X: Attachment, C: Connection> Clients<X, C> {
     /// with an attachment to which nothing is owed. For want of memory the connection comes back, and the attachment is let go.
     pub(crate) fn begin(
         &mut self,
-        site: &Site,
+        view: &NodeView,
         connection: C,
         attachment: X,
         ticket: u64,
@@ -57,47 +55,46 @@ impl<X: Attachment, C: Connection> Clients<X, C> {
         if self.busy.reserve(self.all.len().saturating_add(1)).is_err() {
             return Err(connection);
         }
-        let line = connection.number();
-        let mut client = Client::new(site, connection, attachment)?;
-        client.ticket = ticket;
-        match self.all.insert(line, client) {
+        let number = connection.number();
+        let client = Client::new(view, connection, attachment)?;
+        match self.all.insert(number, Admitted::new(client, ticket)) {
             Ok(before) => {
                 drop(before);
                 Ok(())
             }
-            Err(refused) => Err(refused.value.1.into_connection()),
+            Err(refused) => Err(refused.value.1.client.into_connection()),
         }
     }
 
     // The client isn't there any more.
-    pub(crate) fn remove(&mut self, line: usize) -> Option<Client<X, C>> {
-        let client = self.all.remove(&line)?;
-        if let Some(network) = client.network {
-            self.registrations.leave(Registration { network, line });
+    pub(crate) fn remove(&mut self, number: usize) -> Option<Admitted<X, C>> {
+        let admitted = self.all.remove(&number)?;
+        if let Some(network) = admitted.network {
+            self.registrations.leave(Registration { network, number });
         }
-        Some(client)
+        Some(admitted)
     }
 
     /// The place of the client's network among those of the node, once it is registered.
-    pub fn network(&self, line: usize) -> Option<usize> {
-        self.all.get(&line)?.network
+    pub fn network(&self, number: usize) -> Option<usize> {
+        self.all.get(&number)?.network
     }
 
     /// The client has something to do.
-    pub fn wake(&mut self, line: usize) {
+    pub fn wake(&mut self, number: usize) {
         let Clients { all, busy, .. } = self;
-        if let Some(client) = all.get_mut(&line) {
-            client.wake(busy, line);
+        if let Some(admitted) = all.get_mut(&number) {
+            admitted.wake(busy, number);
         }
     }
 
     /// What the port tells of a connection. False where it isn't a client's.
-    pub fn mark(&mut self, line: usize, readable: bool, writable: bool) -> bool {
+    pub fn mark(&mut self, number: usize, readable: bool, writable: bool) -> bool {
         let Clients { all, busy, .. } = self;
-        match all.get_mut(&line) {
-            Some(client) => {
-                client.mark(readable, writable);
-                client.wake(busy, line);
+        match all.get_mut(&number) {
+            Some(admitted) => {
+                admitted.client.mark(readable, writable);
+                admitted.wake(busy, number);
                 true
             }
             None => false,
@@ -116,11 +113,11 @@ impl<X: Attachment, C: Connection> Clients<X, C> {
 
     /// The next client that has something to do.
     pub fn next_busy(&mut self) -> Option<usize> {
-        let line = self.busy.pop_front()?;
-        if let Some(client) = self.all.get_mut(&line) {
-            client.is_queued = false;
+        let number = self.busy.pop_front()?;
+        if let Some(admitted) = self.all.get_mut(&number) {
+            admitted.is_queued = false;
         }
-        Some(line)
+        Some(number)
     }
 
     /// The first client, from that connection on and other than `except`, that is told of read markers of the network's
@@ -132,18 +129,18 @@ impl<X: Attachment, C: Connection> Clients<X, C> {
         except: Option<usize>,
     ) -> Option<usize> {
         for registration in self.registrations.of(network, from) {
-            let line = registration.line;
-            if except != Some(line) && self.follows_markers(network, line) {
-                return Some(line);
+            let number = registration.number;
+            if except != Some(number) && self.follows_markers(network, number) {
+                return Some(number);
             }
         }
         None
     }
 
     // Whether the client is told of read markers of the network's account.
-    fn follows_markers(&self, network: usize, line: usize) -> bool {
-        match self.all.get(&line) {
-            Some(client) => client.follows_markers(network),
+    fn follows_markers(&self, network: usize, number: usize) -> bool {
+        match self.all.get(&number) {
+            Some(admitted) => admitted.follows_markers(network),
             None => false,
         }
     }

@@ -8,7 +8,7 @@ use std::collections::btree_set::Range;
 #[derive(Clone, Copy, PartialEq, Eq, PartialOrd, Ord)]
 pub(crate) struct Registration {
     pub(crate) network: usize,
-    pub(crate) line: usize,
+    pub(crate) number: usize,
 }
 
 /// The registrations of a worker's clients: those of a network stand together, in the order of their connections. So what a
@@ -43,11 +43,11 @@ impl Registrations {
     pub(crate) fn of(&self, network: usize, from: usize) -> Range<'_, Registration> {
         let first = Registration {
             network,
-            line: from,
+            number: from,
         };
         let last = Registration {
             network,
-            line: usize::MAX,
+            number: usize::MAX,
         };
         self.all.range(first..=last)
     }

@@ -1,19 +1,18 @@
 //! Clients that are turned away. One that gave a wrong account, network or secret is told so a second later, and isn't read
 //! meanwhile: so each secret that somebody tries takes a connection, and a second of its place.
-use crate::client::Client;
+use crate::admitted::Admitted;
 use crate::clients::Clients;
-use crate::turns::ClientStep;
 use attach::Attachment;
 use bnc_ports::{Connection, Port, Reason};
 use byte_text::NoMemory;
-use client_session::Effect;
-use work_desk::Desk;
+use client_connection::ClientStep;
+use worker_io::Context;
 
 /// After so many milliseconds a client is told that it is turned away.
 const SECOND: u64 = 1000;
 
 /// How far a client is that is turned away.
-#[derive(Clone, Copy, Debug, PartialEq, Eq)]
+#[derive(Clone, Copy)]
 pub(crate) enum TurnedAway {
     /// It isn't turned away, as far as is known.
     No,
@@ -23,16 +22,10 @@ pub(crate) enum TurnedAway {
     IsTold,
 }
 
-// Whether a line came to this: the session is closed, and says why before its last line. After a QUIT it says its last line
-// alone.
-fn turns_away(effects: &[Effect]) -> bool {
-    matches!(effects, [Effect::Send(_), Effect::Send(_), Effect::Close])
-}
-
-impl<X: Attachment, C: Connection> Client<X, C> {
+impl<X: Attachment, C: Connection> Admitted<X, C> {
     /// Whether it is turned away, and isn't told yet.
     pub(crate) fn is_held(&self) -> bool {
-        self.turned_away == TurnedAway::Waits
+        matches!(self.turned_away, TurnedAway::Waits)
     }
 
     /// Why it is gone, as the operator is told. Of one that is turned away that is so however it goes, but for want of memory.
@@ -45,13 +38,17 @@ impl<X: Attachment, C: Connection> Client<X, C> {
     }
 
     /// What the client is to do next, where its line came to that. One that is turned away waits.
-    pub(crate) fn hold<P: Port>(&mut self, desk: &mut Desk<P>, step: ClientStep) -> ClientStep {
-        let is_new = self.turned_away == TurnedAway::No && self.network.is_none();
-        if step != ClientStep::Do || !is_new || !turns_away(self.effects.as_slice()) {
+    pub(crate) fn hold<P: Port>(
+        &mut self,
+        context: &mut Context<P>,
+        step: ClientStep,
+    ) -> ClientStep {
+        let is_new = matches!(self.turned_away, TurnedAway::No) && self.network.is_none();
+        if !is_new || !matches!(step, ClientStep::Do) || !self.client.is_turned_away() {
             return step;
         }
         self.turned_away = TurnedAway::Waits;
-        match desk.set_patience(self.guest.number(), SECOND) {
+        match context.set_patience(self.client.number(), SECOND) {
             Ok(()) => ClientStep::Rest,
             Err(NoMemory) => ClientStep::Over(Reason::NoMemory),
         }
@@ -60,11 +57,11 @@ impl<X: Attachment, C: Connection> Client<X, C> {
 
 impl<X: Attachment, C: Connection> Clients<X, C> {
     /// A client that waited until it may be told that it is turned away is told now. False where it doesn't wait for that.
-    pub(crate) fn release(&mut self, line: usize) -> bool {
-        match self.all.get_mut(&line) {
-            Some(client) if client.is_held() => {
-                client.turned_away = TurnedAway::IsTold;
-                client.wake(&mut self.busy, line);
+    pub(crate) fn release(&mut self, number: usize) -> bool {
+        match self.all.get_mut(&number) {
+            Some(admitted) if admitted.is_held() => {
+                admitted.turned_away = TurnedAway::IsTold;
+                admitted.wake(&mut self.busy, number);
                 true
             }
             _ => false,

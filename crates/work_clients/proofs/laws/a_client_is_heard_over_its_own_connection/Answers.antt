@@ -1,5 +1,0 @@
-use Rattle.work_clients.proofs.SaidLemmas.{hears_its_connection}
-use Rattle.work_clients.proofs.laws.a_client_is_heard_over_its_own_connection.Goals as goal
-
-pub returns : goal.returns
-returns c = hears_its_connection
