@@ -1,62 +1,61 @@
 //! How connections with peers begin and end.
 ghost use Rattle.std.specs.Prelude.{◌≡◌, []};
 
-use crate::kind::ToPeer;
 use crate::peer::Peer;
 use crate::peers::Peers;
 use bnc_ports::{Carries, Connection, Event, Port, Reason};
-use work_desk::{Desk, PATIENCE, Site};
-use work_timers::Timer;
+use peer_connection::ToPeer;
+use worker_io::{Context, NodeView, PATIENCE, Timer};
 
 impl<C: Connection> Peers<C> {
     /// A connection with a peer is there, by its number: with the one at that place, to which this node opened it, or one that
     /// the other node opened. Where the port doesn't hand it out, or there is no memory, the operator is told, and it is closed.
     pub fn begin<P: Carries<ToPeer, Connection = C>>(
         &mut self,
-        desk: &mut Desk<P>,
-        line: usize,
+        context: &mut Context<P>,
+        number: usize,
         dialed: Option<usize>,
     ) {
         // Where the port gives a number again, the connection that bore it before is closed.
-        self.close(desk, line, Reason::Replaced);
+        self.close(context, number, Reason::Replaced);
         if dialed.is_none() {
-            self.make_way(desk);
+            self.make_way(context);
         }
-        let Some(connection) = desk.port.open(line) else {
-            self.tell_unopened(desk, dialed);
+        let Some(connection) = context.port.open(number) else {
+            self.tell_unopened(context, dialed);
             return;
         };
-        match self.open(&desk.site, line, connection, dialed) {
+        match self.open(&context.view, number, connection, dialed) {
             Ok(()) => {
-                self.wake(line);
-                if desk.set_patience(line, PATIENCE).is_err() {
-                    self.close(desk, line, Reason::NoMemory);
+                self.wake(number);
+                if context.set_patience(number, PATIENCE).is_err() {
+                    self.close(context, number, Reason::NoMemory);
                 }
             }
-            Err(connection) => self.turn_away(desk, connection, dialed),
+            Err(connection) => self.turn_away(context, connection, dialed),
         }
     }
 
     // There is no memory for a connection: it is closed. A peer to which this node opened it is dialed later.
     fn turn_away<P: Carries<ToPeer, Connection = C>>(
         &mut self,
-        desk: &mut Desk<P>,
+        context: &mut Context<P>,
         connection: C,
         dialed: Option<usize>,
     ) {
-        let address = desk.port.address(&connection);
-        desk.port.close(connection);
-        self.tell_refused(desk, address, Reason::NoMemory, dialed);
+        let address = context.port.address(&connection);
+        context.port.close(connection);
+        self.tell_refused(context, address, Reason::NoMemory, dialed);
         if let Some(place) = dialed {
-            self.dial_later(desk, place);
+            self.dial_later(context, place);
         }
     }
 
     // The port doesn't hand out a connection, which was opened to the peer at that place or by another node.
-    fn tell_unopened<P: Port>(&mut self, desk: &mut Desk<P>, dialed: Option<usize>) {
+    fn tell_unopened<P: Port>(&mut self, context: &mut Context<P>, dialed: Option<usize>) {
         match dialed {
-            Some(place) => self.retry(desk, place),
-            None => self.tell_refused(desk, None, Reason::Unreachable, None),
+            Some(place) => self.retry(context, place),
+            None => self.tell_refused(context, None, Reason::Unreachable, None),
         }
     }
 
@@ -64,8 +63,8 @@ impl<C: Connection> Peers<C> {
     // it is handed back.
     fn open(
         &mut self,
-        site: &Site,
-        line: usize,
+        view: &NodeView,
+        number: usize,
         connection: C,
         dialed: Option<usize>,
     ) -> Result<(), C>
@@ -76,8 +75,8 @@ impl<C: Connection> Peers<C> {
         }
         let order = self.begun;
         self.begun = order.saturating_add(1);
-        let peer = Peer::new(site, connection, dialed, order, &mut self.out)?;
-        match self.add(line, peer) {
+        let peer = Peer::new(view, connection, dialed, order, &mut self.out)?;
+        match self.add(number, peer) {
             Ok(()) => Ok(()),
             Err(peer) => Err(peer.into_connection()),
         }
@@ -86,68 +85,72 @@ impl<C: Connection> Peers<C> {
     /// A connection over which no peer has said hello is closed.
     pub fn check_greeted<P: Carries<ToPeer, Connection = C>>(
         &mut self,
-        desk: &mut Desk<P>,
-        line: usize,
+        context: &mut Context<P>,
+        number: usize,
     ) {
-        let is_late = match self.all.get(&line) {
-            Some(peer) => peer.talk.noted.is_none(),
+        let is_late = match self.all.get(&number) {
+            Some(peer) => peer.talk.noted().is_none(),
             None => false,
         };
         if is_late {
-            self.close(desk, line, Reason::Unregistered);
+            self.close(context, number, Reason::Unregistered);
         }
     }
 
     /// A message of a peer came over that connection. Where it is the first one, the peer's older connection is closed. A
     /// connection that was opened to another peer is closed.
-    pub fn greet<P: Carries<ToPeer, Connection = C>>(&mut self, desk: &mut Desk<P>, line: usize) {
-        let Some(peer) = self.all.get(&line) else {
+    pub fn greet<P: Carries<ToPeer, Connection = C>>(
+        &mut self,
+        context: &mut Context<P>,
+        number: usize,
+    ) {
+        let Some(peer) = self.all.get(&number) else {
             return;
         };
         let Some(place) = peer.talk.newcomer() else {
             return;
         };
         if peer.dialed.is_some() && peer.dialed != Some(place) {
-            self.close(desk, line, Reason::UnknownNode);
+            self.close(context, number, Reason::UnknownNode);
             return;
         }
-        desk.timers.clear(Timer::Unregistered(line));
-        desk.timers.clear(Timer::RetryPeer(place));
-        desk.timers.clear(Timer::AbsentPeer(place));
-        if let Some(older) = self.settle(line, place, desk.site.now) {
-            self.close(desk, older, Reason::Replaced);
+        context.timers.clear(Timer::Unregistered(number));
+        context.timers.clear(Timer::RetryPeer(place));
+        context.timers.clear(Timer::AbsentPeer(place));
+        if let Some(older) = self.settle(number, place, context.view.now) {
+            self.close(context, older, Reason::Replaced);
         }
-        self.check_quiet(desk, line);
+        self.check_quiet(context, number);
     }
 
     /// Closes a connection, and tells the operator why. Where this node opens the connections with its peer, it dials
     /// the peer later. A connection that isn't there is passed over.
     pub fn close<P: Carries<ToPeer, Connection = C>>(
         &mut self,
-        desk: &mut Desk<P>,
-        line: usize,
+        context: &mut Context<P>,
+        number: usize,
         reason: Reason,
     ) {
-        let Some(peer) = self.remove(line) else {
+        let Some(peer) = self.remove(number) else {
             return;
         };
-        desk.timers.clear(Timer::Unregistered(line));
-        desk.timers.clear(Timer::UnansweredPacket(line));
-        desk.timers.clear(Timer::QuietPeer(line));
+        context.timers.clear(Timer::Unregistered(number));
+        context.timers.clear(Timer::UnansweredPacket(number));
+        context.timers.clear(Timer::QuietPeer(number));
         let dialed = peer.dialed;
-        let place = peer.talk.noted;
+        let place = peer.talk.noted();
         let connection = peer.into_connection();
-        let address = desk.port.address(&connection);
-        desk.port.close(connection);
+        let address = context.port.address(&connection);
+        context.port.close(connection);
         match self.name(place) {
-            Some(node) => desk.report(&Event::PeerDown { node, reason }),
-            None => self.tell_refused(desk, address, reason, dialed),
+            Some(node) => context.report(&Event::PeerDown { node, reason }),
+            None => self.tell_refused(context, address, reason, dialed),
         }
         if let Some(place) = place {
-            self.miss(desk, place);
+            self.miss(context, place);
         }
         if let Some(place) = place.or(dialed) {
-            self.dial_later(desk, place);
+            self.dial_later(context, place);
         }
     }
 }

@@ -1,13 +1,12 @@
 //! When this node and a peer are level: the peer has all that this node had, and this node has all that the peer had.
-use crate::neighbour::Neighbour;
 use crate::peer::Peer;
+use crate::peer_record::PeerRecord;
 use crate::peers::Peers;
 use bnc_ports::{Connection, Event, Port};
 use gossip_delta::DELTA_LIMIT;
 use gossip_link::{Arrived, Version};
 use peer_session::{Outcome, changes_of};
-use work_desk::{Desk, Site};
-use work_timers::Timer;
+use worker_io::{Context, NodeView, Timer};
 
 /// A peer that may have more, and sent no packet for so many milliseconds, has no more.
 const LAST: u64 = 10_000;
@@ -55,32 +54,32 @@ impl Supply {
 impl<C: Connection> Peer<C> {
     // Whether this node has all that the peer at that place had. A node whose later life the peer knows, or which says a lower
     // version to it, is sent nothing.
-    fn has_given_all(&self, site: &Site, place: usize) -> bool {
-        let is_lower = site.terms.version_for(place).is_lower_than(Version::OWN);
-        !is_lower && !self.is_behind && self.supply.is_taken(site.now)
+    fn has_given_all(&self, view: &NodeView, place: usize) -> bool {
+        let is_lower = view.terms.version_for(place).is_lower_than(Version::OWN);
+        !is_lower && !self.is_behind && self.supply.is_taken(view.now)
     }
 }
 
-impl Neighbour {
+impl PeerRecord {
     // Whether the peer, with which that is the connection, has all that this node had.
     fn has_all<C: Connection>(&self, peer: &Peer<C>) -> bool {
-        self.is_served() && peer.talk.session.is_caught_up()
+        self.is_served() && peer.talk.is_caught_up()
     }
 
     /// The operator is told where this node and the peer, which is the one at that place, are level for the first time.
     pub(crate) fn tell_level<P: Port, C: Connection>(
         &mut self,
-        desk: &mut Desk<P>,
+        context: &mut Context<P>,
         peer: &Peer<C>,
         place: usize,
     ) {
         if self.is_level {
             return;
         }
-        if self.has_all(peer) && peer.has_given_all(&desk.site, place) {
+        if self.has_all(peer) && peer.has_given_all(&context.view, place) {
             self.is_level = true;
             let node = self.name.as_bytes();
-            desk.port.report(&Event::PeerLevel { node });
+            context.port.report(&Event::PeerLevel { node });
         }
     }
 }
@@ -90,32 +89,32 @@ impl<C: Connection> Peers<C> {
     /// the two were level nothing is noted.
     pub(crate) fn note_supply<P: Port>(
         &mut self,
-        desk: &mut Desk<P>,
-        line: usize,
+        context: &mut Context<P>,
+        number: usize,
         place: usize,
         arrived: &Arrived,
         outcome: Outcome,
     ) {
-        let now = desk.site.now;
+        let now = context.view.now;
         let Some(supply) = Supply::after(outcome, changes_of(arrived).len(), now) else {
             return;
         };
         if self.is_level(place) {
             return;
         }
-        let Some(peer) = self.all.get_mut(&line) else {
+        let Some(peer) = self.all.get_mut(&number) else {
             return;
         };
         peer.supply = supply;
         if let Some(until) = supply.awaited_until() {
-            desk.timers.set(Timer::QuietPeer(line), until);
+            context.timers.set(Timer::QuietPeer(number), until);
         }
     }
 
     // Whether this node and the peer at that place were level.
     fn is_level(&self, place: usize) -> bool {
-        match self.neighbours.get(place) {
-            Some(neighbour) => neighbour.is_level,
+        match self.records.get(place) {
+            Some(record) => record.is_level,
             None => false,
         }
     }

@@ -1,18 +1,10 @@
 //! Lives that are behind: a peer that says hello as an earlier life than the one that is known of it, and this node, where a
 //! peer knows a later life of it. That is so where a clock was set back before a start.
-ghost use Rattle.std.specs.Prelude.{◌≡◌, ◌++◌, IfOk};
-ghost use Rattle.peer_lines.specs.Spelling.{written};
-ghost use Rattle.peer_lines.specs.declared.peer_line.PeerLine.TheVariants as line;
-ghost use Rattle.work_peers.specs.PeerCourse.{nothing_of};
-
 use crate::peers::Peers;
-use crate::talk::{Talk, owe};
-use bnc_ports::{Connection, Event, Port, Reason};
-use byte_text::NoMemory;
-use gossip_link::{Ack, Arrived, Life, NodeName, Terms, Version, write_ack};
+use bnc_ports::{Connection, Event, Port};
+use gossip_link::{Arrived, Life, Terms, Version};
 use peer_session::Outcome;
-use std::alloc::Global;
-use work_desk::{Desk, Site};
+use worker_io::Context;
 
 // Whether a life is one of this node that is later than its present one.
 fn is_later(terms: &Terms, life: &Life) -> bool {
@@ -20,49 +12,12 @@ fn is_later(terms: &Terms, life: &Life) -> bool {
     life.is_of(me.node()) && me.incarnation() < life.incarnation()
 }
 
-// Appends an acknowledgement of nothing to that life of the peer of that name.
-fn acknowledge_nothing(
-    alloc: Global,
-    terms: &Terms,
-    name: &NodeName,
-    incarnation: u64,
-    out: &mut Vec<u8>,
-) -> Result<(), NoMemory>
-    ensures { IfOk result (λ _. out.new.items ≡ out.old.items ++ written (line.Ack
-        (nothing_of terms.now.me (record { node = name.now; incarnation = incarnation })))) }
-{
-    let me = terms.me().try_clone(alloc)?;
-    let life = Life::new(name.try_clone(alloc)?, incarnation);
-    match write_ack(&Ack::new(me, life, 0), out) {
-        Ok(()) => Ok(()),
-        Err(_) => Err(NoMemory),
-    }
-}
-
-impl<C: Connection> Talk<C> {
-    // The peer is to see that it is behind its life of that incarnation: by an acknowledgement of nothing to that life.
-    fn remind(&mut self, site: &Site, name: &NodeName, incarnation: u64, out: &mut Vec<u8>) {
-        if self.lost.is_some() {
-            return;
-        }
-        let Some(_) = self.noted else {
-            return;
-        };
-        out.clear();
-        let Ok(()) = acknowledge_nothing(site.alloc, &self.terms, name, incarnation, out) else {
-            self.lost = Some(Reason::NoMemory);
-            return;
-        };
-        self.lost = owe(&mut self.pipe, &mut self.said_at, out.as_slice(), site.now);
-    }
-}
-
 impl<C: Connection> Peers<C> {
     /// Notes what a message says of lives, which came over that connection from the peer at that place and came to that.
     pub(crate) fn note_lives<P: Port>(
         &mut self,
-        desk: &mut Desk<P>,
-        line: usize,
+        context: &mut Context<P>,
+        number: usize,
         place: usize,
         arrived: &Arrived,
         outcome: Outcome,
@@ -73,45 +28,54 @@ impl<C: Connection> Peers<C> {
                 if outcome == Outcome::Known {
                     self.know(place, incarnation, *version);
                 }
-                self.judge(desk, line, place, incarnation);
+                self.judge(context, number, place, incarnation);
             }
-            Arrived::Packet(packet) => self.note_receiver(desk, line, place, packet.receiver()),
-            Arrived::Ack(ack) => self.note_receiver(desk, line, place, ack.receiver()),
+            Arrived::Packet(packet) => self.note_receiver(
+                context,
+                number,
+                place,
+                packet.receiver(),
+            ),
+            Arrived::Ack(ack) => self.note_receiver(context, number, place, ack.receiver()),
             Arrived::Word(_) => {}
         }
     }
 
     // The link knows that life of the peer at that place, since it said hello.
     fn know(&mut self, place: usize, incarnation: u64, version: Version) {
-        if let Some(neighbour) = self.neighbours.get_mut(place) {
-            neighbour.know(incarnation, version);
+        if let Some(record) = self.records.get_mut(place) {
+            record.know(incarnation, version);
         }
     }
 
     // The peer at that place said hello in that incarnation. The operator is told once a connection whether the link knows
     // that life, or knows a later one; then the peer is told so too.
-    fn judge<P: Port>(&mut self, desk: &mut Desk<P>, line: usize, place: usize, said: u64) {
+    fn judge<P: Port>(&mut self, context: &mut Context<P>, number: usize, place: usize, said: u64) {
         let Peers {
             all,
-            neighbours,
+            records,
             out,
             ..
         } = self;
-        let (Some(peer), Some(neighbour)) = (all.get_mut(&line), neighbours.get(place)) else {
+        let (Some(peer), Some(record)) = (all.get_mut(&number), records.get(place)) else {
             return;
         };
         if peer.is_judged {
             return;
         }
         peer.is_judged = true;
-        let node = neighbour.name.as_bytes();
-        let incarnation = neighbour.known.map_or(said, |known| known.incarnation);
+        let node = record.name.as_bytes();
+        let incarnation = record.known.map_or(said, |known| known.incarnation);
         if incarnation == said {
-            desk.port.report(&Event::PeerGreeted { node, incarnation });
+            context
+                .port
+                .report(&Event::PeerGreeted { node, incarnation });
         } else {
-            desk.port.report(&Event::PeerBehind { node, incarnation });
+            context
+                .port
+                .report(&Event::PeerBehind { node, incarnation });
             peer.talk
-                .remind(&desk.site, &neighbour.name, incarnation, out);
+                .remind(&context.view, &record.name, incarnation, out);
         }
     }
 
@@ -119,15 +83,15 @@ impl<C: Connection> Peers<C> {
     // this node.
     fn note_receiver<P: Port>(
         &mut self,
-        desk: &mut Desk<P>,
-        line: usize,
+        context: &mut Context<P>,
+        number: usize,
         place: usize,
         receiver: &Life,
     ) {
-        if !is_later(&desk.site.terms, receiver) {
+        if !is_later(&context.view.terms, receiver) {
             return;
         }
-        let Some(peer) = self.all.get_mut(&line) else {
+        let Some(peer) = self.all.get_mut(&number) else {
             return;
         };
         if peer.is_behind {
@@ -136,7 +100,9 @@ impl<C: Connection> Peers<C> {
         peer.is_behind = true;
         if let Some(node) = self.name(Some(place)) {
             let incarnation = receiver.incarnation();
-            desk.port.report(&Event::NodeBehind { node, incarnation });
+            context
+                .port
+                .report(&Event::NodeBehind { node, incarnation });
         }
     }
 }

@@ -2,11 +2,11 @@
 ghost use Rattle.std.specs.Prelude.{◌≡◌, []};
 
 use crate::level::Supply;
-use crate::talk::Talk;
 use bnc_ports::Connection;
+use peer_connection::Talk;
 use std::collections::VecDeque;
-use work_desk::Site;
 use work_lines::Input;
+use worker_io::NodeView;
 
 /// A connection with a peer.
 #[derive(Drop)]
@@ -33,7 +33,7 @@ impl<C: Connection> Peer<C> {
     /// A new connection, to the peer at that place where this node opened it, behind so many others. What is said first is
     /// written into the room, and waits for the peer. For want of memory the connection comes back.
     pub(crate) fn new(
-        site: &Site,
+        view: &NodeView,
         connection: C,
         dialed: Option<usize>,
         order: u64,
@@ -41,15 +41,15 @@ impl<C: Connection> Peer<C> {
     ) -> Result<Peer<C>, C>
         requires { C.sent connection ≡ [] }
     {
-        let talk = Talk::new(site, connection, dialed, room)?;
+        let talk = Talk::new(view, connection, dialed, room)?;
         Ok(Peer {
-            input: Input::new(site.alloc),
+            input: Input::new(view.alloc),
             talk,
             is_queued: false,
             dialed,
             order,
-            supply: Supply::Awaited { since: site.now },
-            heard_at: site.now,
+            supply: Supply::Awaited { since: view.now },
+            heard_at: view.now,
             is_judged: false,
             is_behind: false,
         })
@@ -62,7 +62,7 @@ impl<C: Connection> Peer<C> {
 
     /// Whether the other end opened it, and no peer has said hello over it.
     pub(crate) fn is_stranger(&self) -> bool {
-        self.dialed.is_none() && self.talk.noted.is_none()
+        self.dialed.is_none() && self.talk.noted().is_none()
     }
 
     /// The peer said hello, at that moment in milliseconds.
@@ -72,8 +72,8 @@ impl<C: Connection> Peer<C> {
     }
 
     /// Stands in the queue.
-    pub(crate) fn queue(&mut self, busy: &mut VecDeque<usize>, line: usize) {
-        if !self.is_queued && busy.push_back(line).is_ok() {
+    pub(crate) fn queue(&mut self, busy: &mut VecDeque<usize>, number: usize) {
+        if !self.is_queued && busy.push_back(number).is_ok() {
             self.is_queued = true;
         }
     }

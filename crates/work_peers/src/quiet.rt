@@ -1,10 +1,9 @@
 //! Connections over which nothing goes, and peers with which there is none.
-use crate::kind::ToPeer;
 use crate::peer::Peer;
 use crate::peers::Peers;
 use bnc_ports::{Carries, Connection, Event, Port, Reason};
-use work_desk::Desk;
-use work_timers::Timer;
+use peer_connection::ToPeer;
+use worker_io::{Context, Timer};
 
 /// A peer from which nothing came for so many milliseconds is taken for gone.
 const GONE: u64 = 300_000;
@@ -34,49 +33,50 @@ impl<C: Connection> Peers<C> {
     /// It is looked at again once one of these is due.
     pub fn check_quiet<P: Carries<ToPeer, Connection = C>>(
         &mut self,
-        desk: &mut Desk<P>,
-        line: usize,
+        context: &mut Context<P>,
+        number: usize,
     ) {
         let Peers {
             all,
-            neighbours,
+            records,
             out,
             ..
         } = self;
-        let Some(peer) = all.get_mut(&line) else {
+        let Some(peer) = all.get_mut(&number) else {
             return;
         };
-        let Some(place) = peer.talk.noted else {
+        let Some(place) = peer.talk.noted() else {
             return;
         };
-        if peer.gone_at() <= desk.site.now {
-            self.close(desk, line, Reason::Unheard);
+        if peer.gone_at() <= context.view.now {
+            self.close(context, number, Reason::Unheard);
             return;
         }
-        peer.talk.repeat_hello(desk.site.now, out);
-        desk.timers
-            .set(Timer::QuietPeer(line), peer.look_at(desk.site.now));
-        if let Some(neighbour) = neighbours.get_mut(place) {
-            neighbour.tell_level(desk, peer, place);
+        peer.talk.repeat_hello(context.view.now, out);
+        context
+            .timers
+            .set(Timer::QuietPeer(number), peer.look_at(context.view.now));
+        if let Some(record) = records.get_mut(place) {
+            record.tell_level(context, peer, place);
         }
-        self.wake(line);
+        self.wake(number);
     }
 
     /// There is no connection with the peer at that place from now on. Where this node is to open one, the operator is told if
     /// there is still none after two minutes.
-    pub(crate) fn miss<P: Port>(&self, desk: &mut Desk<P>, place: usize) {
+    pub(crate) fn miss<P: Port>(&self, context: &mut Context<P>, place: usize) {
         if self.is_wanted(place) {
-            desk.set_timer(Timer::AbsentPeer(place), ABSENT);
+            context.set_timer(Timer::AbsentPeer(place), ABSENT);
         }
     }
 
     /// Tells the operator of the peer at that place, where this node is to open a connection with it and there is none.
-    pub fn check_absent<P: Port>(&self, desk: &mut Desk<P>, place: usize) {
+    pub fn check_absent<P: Port>(&self, context: &mut Context<P>, place: usize) {
         if !self.is_wanted(place) {
             return;
         }
         if let Some(node) = self.name(Some(place)) {
-            desk.port.report(&Event::PeerAbsent { node });
+            context.port.report(&Event::PeerAbsent { node });
         }
     }
 }

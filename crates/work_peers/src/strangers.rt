@@ -1,25 +1,24 @@
 //! Strangers at the peers' door: those who connected and haven't said hello as a peer.
-use crate::kind::ToPeer;
 use crate::peers::Peers;
 use bnc_ports::{Carries, Connection, Event, Port, Reason};
+use peer_connection::ToPeer;
 use std::net::SocketAddr;
-use work_desk::Desk;
+use worker_io::Context;
 
 /// So many strangers there may be beside two for each peer.
 const SPARE: usize = 8;
 
 impl<C: Connection> Peers<C> {
     /// There is to be one more stranger. Where there are too many, the one that came first is closed.
-    pub(crate) fn make_way<P: Carries<ToPeer, Connection = C>>(&mut self, desk: &mut Desk<P>) {
-        let most = self
-            .neighbours
-            .len()
-            .saturating_mul(2)
-            .saturating_add(SPARE);
+    pub(crate) fn make_way<P: Carries<ToPeer, Connection = C>>(
+        &mut self,
+        context: &mut Context<P>,
+    ) {
+        let most = self.records.len().saturating_mul(2).saturating_add(SPARE);
         let (count, first) = self.strangers();
-        if let Some(line) = first {
+        if let Some(number) = first {
             if count >= most {
-                self.close(desk, line, Reason::GaveWay);
+                self.close(context, number, Reason::GaveWay);
             }
         }
     }
@@ -28,22 +27,22 @@ impl<C: Connection> Peers<C> {
     fn strangers(&self) -> (usize, Option<usize>) {
         let mut count: usize = 0;
         let mut first: Option<(u64, usize)> = None;
-        for (line, peer) in self.all.iter() {
+        for (number, peer) in self.all.iter() {
             if peer.is_stranger() {
                 count = count.saturating_add(1);
                 if first.is_none_or(|(order, _)| peer.order < order) {
-                    first = Some((peer.order, *line));
+                    first = Some((peer.order, *number));
                 }
             }
         }
-        (count, first.map(|(_, line)| line))
+        (count, first.map(|(_, number)| number))
     }
 
     /// The operator is told of a connection that ended before a peer said hello over it: with the name of the peer at that
     /// place where this node opened it to that one. Of those that others opened only the first ones of a minute are told.
     pub(crate) fn tell_refused<P: Port>(
         &mut self,
-        desk: &mut Desk<P>,
+        context: &mut Context<P>,
         address: Option<SocketAddr>,
         reason: Reason,
         dialed: Option<usize>,
@@ -51,7 +50,7 @@ impl<C: Connection> Peers<C> {
         let is_told = dialed.is_some() || reason == Reason::NoMemory || self.refusals.add();
         if is_told {
             let node = self.name(dialed);
-            desk.report(&Event::PeerRefused {
+            context.report(&Event::PeerRefused {
                 node,
                 address,
                 reason,
@@ -60,9 +59,9 @@ impl<C: Connection> Peers<C> {
     }
 
     /// The operator is told once a minute how many more strangers were refused than were told one by one.
-    pub fn tell_refusals<P: Port>(&mut self, desk: &mut Desk<P>) {
-        if let Some(count) = self.refusals.take_untold(desk.site.now) {
-            desk.port.report(&Event::PeersRefused { count });
+    pub fn tell_refusals<P: Port>(&mut self, context: &mut Context<P>) {
+        if let Some(count) = self.refusals.take_untold(context.view.now) {
+            context.port.report(&Event::PeersRefused { count });
         }
     }
 }

@@ -1,12 +1,11 @@
 //! The turns of peers: what comes over a connection, and what goes out.
-use crate::kind::ToPeer;
 use crate::peer::Peer;
 use crate::peers::Peers;
-use crate::talk::Talk;
 use bnc_ports::{Carries, Connection, Reason};
 use irc_line::Next;
-use work_desk::Desk;
+use peer_connection::ToPeer;
 use work_lines::{Filled, Pumped};
+use worker_io::Context;
 
 /// What a step of a peer comes to.
 #[derive(Clone, Copy, Debug, PartialEq, Eq)]
@@ -21,15 +20,6 @@ pub enum PeerStep {
     Over(Reason),
 }
 
-// Why a connection is closed that said this, before a peer said hello over it or afterwards.
-fn reason_of(noted: Option<usize>, bytes: &[u8]) -> Reason {
-    match (noted, bytes) {
-        (None, [b'W', b' ', ..]) => Reason::WrongWord,
-        (None, [b'H', b' ', ..]) => Reason::UnknownNode,
-        _ => Reason::BadLine,
-    }
-}
-
 fn step_of_fill(filled: Filled) -> PeerStep {
     match filled {
         Filled::More => PeerStep::Again,
@@ -39,57 +29,59 @@ fn step_of_fill(filled: Filled) -> PeerStep {
     }
 }
 
-impl<C: Connection> Talk<C> {
+impl<C: Connection> Peer<C> {
     // What is to be done before the next line is heard, where that is anything.
     fn next_step(&self) -> PeerStep {
-        match self.lost {
+        match self.talk.lost() {
             Some(reason) => PeerStep::Over(reason),
-            None if self.has_message() => PeerStep::Take,
+            None if self.talk.message().is_some() => PeerStep::Take,
             None => PeerStep::Again,
         }
     }
-}
 
-impl<C: Connection> Peer<C> {
-    // Hears the next line, or takes in more bytes for it. What is to be sent because of the line waits for the peer.
+    // One step, unless something is to be done before the next line is heard.
     fn step<P: Carries<ToPeer, Connection = C>>(
         &mut self,
-        desk: &mut Desk<P>,
+        context: &mut Context<P>,
         out: &mut Vec<u8>,
     ) -> PeerStep {
-        if let Some(reason) = self.talk.lost {
-            return PeerStep::Over(reason);
+        match self.next_step() {
+            PeerStep::Again => self.take_line(context, out),
+            step => step,
         }
-        if self.talk.has_message() {
-            return PeerStep::Take;
-        }
-        let Desk {
-            site,
+    }
+
+    // Hears the next line, or takes in more bytes for it. What is to be sent because of the line waits for the peer.
+    fn take_line<P: Carries<ToPeer, Connection = C>>(
+        &mut self,
+        context: &mut Context<P>,
+        out: &mut Vec<u8>,
+    ) -> PeerStep {
+        let line = match self.input.next_line() {
+            Next::Line(bytes) => Some(bytes),
+            Next::TooLong => None,
+            Next::More => return self.fill(context),
+        };
+        self.talk.hear(&context.view, line, out);
+        self.next_step()
+    }
+
+    // Takes in more bytes that come over the connection.
+    fn fill<P: Carries<ToPeer, Connection = C>>(&mut self, context: &mut Context<P>) -> PeerStep {
+        let Context {
+            view,
             port,
             chunk,
             feeders,
             ..
-        } = desk;
-        match self.input.next_line() {
-            Next::Line(bytes) => {
-                let reason = reason_of(self.talk.noted, bytes);
-                self.talk.hear(site, Some(bytes), reason, out);
-                self.talk.next_step()
-            }
-            Next::TooLong => {
-                self.talk.hear(site, None, Reason::BadLine, out);
-                self.talk.next_step()
-            }
-            Next::More => {
-                let filled = self
-                    .talk
-                    .fill(&mut self.input, port, chunk.as_mut_slice(), feeders);
-                if filled == Filled::More {
-                    self.heard_at = site.now;
-                }
-                step_of_fill(filled)
-            }
+        } = context;
+        let filled = self
+            .talk
+            .fill(&mut self.input, port, chunk.as_mut_slice(), feeders);
+        if filled == Filled::More {
+            self.heard_at = view.now;
         }
+        step_of_fill(filled)
     }
 }
 
@@ -98,28 +90,32 @@ impl<C: Connection> Peers<C> {
     /// for the peer. Nothing is heard before the message that came is carried out.
     pub fn step<P: Carries<ToPeer, Connection = C>>(
         &mut self,
-        desk: &mut Desk<P>,
-        line: usize,
+        context: &mut Context<P>,
+        number: usize,
     ) -> PeerStep {
         let Peers { all, out, .. } = self;
-        match all.get_mut(&line) {
-            Some(peer) => peer.step(desk, out),
+        match all.get_mut(&number) {
+            Some(peer) => peer.step(context, out),
             None => PeerStep::Rest,
         }
     }
 
     /// Sends what waits for the peer, by one write. The connection is closed where it can't be, and where it is lost.
-    pub fn finish<P: Carries<ToPeer, Connection = C>>(&mut self, desk: &mut Desk<P>, line: usize) {
-        let pumped = match self.all.get_mut(&line) {
-            Some(peer) => peer.talk.pump(&mut desk.port),
+    pub fn finish<P: Carries<ToPeer, Connection = C>>(
+        &mut self,
+        context: &mut Context<P>,
+        number: usize,
+    ) {
+        let pumped = match self.all.get_mut(&number) {
+            Some(peer) => peer.talk.pump(&mut context.port),
             None => return,
         };
         match pumped {
             Ok(Pumped::All | Pumped::Blocked) => {}
-            Ok(Pumped::Some) => self.wake(line),
-            Ok(Pumped::Closed | Pumped::Overrun) => self.close(desk, line, Reason::Closed),
-            Ok(Pumped::NoMemory) => self.close(desk, line, Reason::NoMemory),
-            Err(reason) => self.close(desk, line, reason),
+            Ok(Pumped::Some) => self.wake(number),
+            Ok(Pumped::Closed | Pumped::Overrun) => self.close(context, number, Reason::Closed),
+            Ok(Pumped::NoMemory) => self.close(context, number, Reason::NoMemory),
+            Err(reason) => self.close(context, number, reason),
         }
     }
 }

@@ -1,5 +1,5 @@
 use Rattle.std.proofs.Common.{refl}
-use Rattle.work_peers.specs.Taking.{NoMessage}
+use Rattle.peer_connection.specs.Taking.{NoMessage}
 use Rattle.work_peers.proofs.peers.Peers.arrive.Goals as goal
 
 pub returns-in_default-clause-taken : goal.returns-in_default-clause-taken

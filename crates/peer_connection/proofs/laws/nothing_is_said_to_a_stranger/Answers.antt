@@ -1,0 +1,13 @@
+use Rattle.std.proofs.Common.{inl, inr, ⊎_elim}
+use Rattle.peer_connection.proofs.StrangerLemmas.{nothing_before_the_hello, message_of_a_peer}
+use Rattle.peer_connection.proofs.laws.nothing_is_said_to_a_stranger.Goals as goal
+
+pub returns-clause-said : goal.returns-clause-said
+returns-clause-said c = λ terms session heard noted said course.
+    nothing_before_the_hello c.messages_come_from_peers.ensures.arrives
+    (λ t side before line. ⊎_elim (λ e. inl e) (λ g. inr g.2) (c.messages_come_from_peers.ensures.sent t side before line)) course
+
+pub returns-clause-message : goal.returns-clause-message
+returns-clause-message c = λ terms session place arrived noted said course.
+    message_of_a_peer c.messages_come_from_peers.ensures.arrives
+    (λ t side before line. ⊎_elim (λ e. inl e) (λ g. inr g.2) (c.messages_come_from_peers.ensures.sent t side before line)) course

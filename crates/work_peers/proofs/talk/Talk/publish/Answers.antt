@@ -1,6 +1,0 @@
-use Rattle.std.proofs.Math.Logic.{∥∥₁_map}
-use Rattle.work_peers.proofs.CourseLemmas.{goes_on, publishes}
-use Rattle.work_peers.proofs.talk.Talk.publish.Goals as goal
-
-pub invariant_of-self : goal.invariant_of-self
-invariant_of-self g c = record { by_right = ∥∥₁_map c.args.self.now.by_right (goes_on c.args.self.now.lost (publishes c.publish.ensures)) }
