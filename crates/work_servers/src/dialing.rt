@@ -10,27 +10,26 @@ use crate::standing::Standing;
 use bnc_ports::{Carries, Connection, Dial, Event, Port, Reason};
 use byte_text::{NoMemory, Text};
 use passed_lines::{NetworkEntry, NetworkSession, ServerEffects};
-use work_desk::{Desk, RETRY, Site};
-use work_timers::Timer;
+use worker_io::{Context, NodeView, RETRY, Timer};
 
 /// A server that sent nothing for so many milliseconds is given up.
 const QUIET: u64 = 300_000;
 
 // A new session with a network's server, from that serial number on, and what it begins with.
 fn new_session(
-    site: &Site,
+    view: &NodeView,
     network: usize,
     serial: u64,
 ) -> Result<(NetworkSession, ServerEffects), NoMemory>
     ensures { IfOk result (λ begun. Begins begun.0 begun.1) }
 {
-    let me = site.terms.me();
-    let node = Text::new(site.alloc, me.node().as_bytes())?;
-    let Some(config) = site.config(network) else {
+    let me = view.terms.me();
+    let node = Text::new(view.alloc, me.node().as_bytes())?;
+    let Some(config) = view.config(network) else {
         return Err(NoMemory);
     };
-    let session = NetworkSession::new(site.alloc, config, node, me.incarnation(), serial)?;
-    let opening = session.start(site.alloc)?;
+    let session = NetworkSession::new(view.alloc, config, node, me.incarnation(), serial)?;
+    let opening = session.start(view.alloc)?;
     Ok((session, opening))
 }
 
@@ -42,14 +41,19 @@ fn words_of(session: &NetworkSession) -> Option<&[u8]> {
 
 // The operator is told that the network is down, and by which words its server refused the session. A connection is tried again
 // later.
-fn put_off<P: Port>(desk: &mut Desk<P>, network: usize, reason: Reason, words: Option<&[u8]>) {
-    let Desk {
+fn put_off<P: Port>(
+    context: &mut Context<P>,
+    network: usize,
+    reason: Reason,
+    words: Option<&[u8]>,
+) {
+    let Context {
         port,
-        site,
+        view,
         shortage,
         ..
-    } = desk;
-    if let Some(config) = site.networks.get(network) {
+    } = context;
+    if let Some(config) = view.networks.get(network) {
         let event = Event::UpstreamDown {
             account: config.account.as_bytes(),
             network: config.network.as_bytes(),
@@ -58,63 +62,63 @@ fn put_off<P: Port>(desk: &mut Desk<P>, network: usize, reason: Reason, words: O
         };
         shortage.report(port, &event);
     }
-    desk.set_timer(Timer::RetryNetwork(network), RETRY);
+    context.set_timer(Timer::RetryNetwork(network), RETRY);
 }
 
 impl<C: Connection> Servers<C> {
     /// Begins the connections with the servers of those networks that this worker serves.
-    pub fn dial_all<P: Port>(&mut self, desk: &mut Desk<P>) {
-        for network in 0..desk.site.networks.len() {
-            if desk.site.server_of(network) == desk.site.worker {
-                self.dial(desk, network);
+    pub fn dial_all<P: Port>(&mut self, context: &mut Context<P>) {
+        for network in 0..context.view.networks.len() {
+            if context.view.server_of(network) == context.view.worker {
+                self.dial(context, network);
             }
         }
     }
 
     /// Begins a connection with a network's server.
-    pub fn dial<P: Port>(&mut self, desk: &mut Desk<P>, network: usize) {
-        match desk.port.dial(Dial::Network(network)) {
-            Ok(line) => self.set_line(network, Some(line)),
-            Err(_) => self.retry(desk, network),
+    pub fn dial<P: Port>(&mut self, context: &mut Context<P>, network: usize) {
+        match context.port.dial(Dial::Network(network)) {
+            Ok(number) => self.set_line(network, Some(number)),
+            Err(_) => self.retry(context, network),
         }
     }
 
     /// A connection with a network's server could not be made: the operator is told, and it is tried again later.
-    pub fn retry<P: Port>(&mut self, desk: &mut Desk<P>, network: usize) {
+    pub fn retry<P: Port>(&mut self, context: &mut Context<P>, network: usize) {
         self.set_line(network, None);
-        put_off(desk, network, Reason::Unreachable, None);
+        put_off(context, network, Reason::Unreachable, None);
     }
 
     // The network's next session, for which there is room in the queue, what it begins with, and how it stands.
     fn next_session(
         &mut self,
-        site: &Site,
+        view: &NodeView,
         network: usize,
     ) -> Result<(NetworkSession, ServerEffects, NetworkEntry), NoMemory>
         ensures { IfOk result (λ begun. Begins begun.0 begun.1) }
     {
         self.make_room()?;
-        let (session, opening) = new_session(site, network, self.serial_of(network))?;
-        let entry = session.entry_now(site.alloc)?;
+        let (session, opening) = new_session(view, network, self.serial_of(network))?;
+        let entry = session.entry_now(view.alloc)?;
         Ok((session, opening, entry))
     }
 
     // Takes up the network's session over a connection: what it begins with. For want of memory the connection comes back.
     fn take_up(
         &mut self,
-        site: &Site,
-        line: usize,
+        view: &NodeView,
+        number: usize,
         connection: C,
         network: usize,
     ) -> Result<ServerEffects, C>
         requires { C.sent connection ≡ [] }
     {
-        let Ok((session, opening, entry)) = self.next_session(site, network) else {
+        let Ok((session, opening, entry)) = self.next_session(view, network) else {
             return Err(connection);
         };
-        let dialogue = Dialogue::new(site.alloc, connection, session, &opening);
-        let server = Server::new(site.alloc, dialogue, network, entry, site.now);
-        self.insert(line, server)?;
+        let dialogue = Dialogue::new(view.alloc, connection, session, &opening);
+        let server = Server::new(view.alloc, dialogue, network, entry, view.now);
+        self.insert(number, server)?;
         Ok(opening)
     }
 
@@ -122,27 +126,27 @@ impl<C: Connection> Servers<C> {
     /// tried again later; where the port doesn't hand it out, it is tried again too. One that had its number is closed.
     pub fn begin<P: Port + Carries<ToServer, Connection = C>>(
         &mut self,
-        desk: &mut Desk<P>,
-        line: usize,
+        context: &mut Context<P>,
+        number: usize,
         network: usize,
     ) -> Option<ServerEffects> {
-        let _ = self.close(desk, line, Reason::Closed);
-        let Some(connection) = desk.port.open(line) else {
-            self.retry(desk, network);
+        let _ = self.close(context, number, Reason::Closed);
+        let Some(connection) = context.port.open(number) else {
+            self.retry(context, network);
             return None;
         };
-        match self.take_up(&desk.site, line, connection, network) {
+        match self.take_up(&context.view, number, connection, network) {
             Ok(effects) => {
-                self.set_line(network, Some(line));
-                self.wake(line);
-                desk.timers.clear(Timer::RetryNetwork(network));
-                desk.set_timer(Timer::QuietUpstream(line), QUIET);
+                self.set_line(network, Some(number));
+                self.wake(number);
+                context.timers.clear(Timer::RetryNetwork(network));
+                context.set_timer(Timer::QuietUpstream(number), QUIET);
                 Some(effects)
             }
             Err(connection) => {
-                desk.port.close(connection);
+                context.port.close(connection);
                 self.set_line(network, None);
-                put_off(desk, network, Reason::NoMemory, None);
+                put_off(context, network, Reason::NoMemory, None);
                 None
             }
         }
@@ -151,23 +155,23 @@ impl<C: Connection> Servers<C> {
     /// A server that was silent for long is given up.
     pub fn check_quiet<P: Port + Carries<ToServer, Connection = C>>(
         &mut self,
-        desk: &mut Desk<P>,
-        line: usize,
+        context: &mut Context<P>,
+        number: usize,
     ) -> Option<Standing> {
-        let until = self.all.get(&line)?.heard_at.saturating_add(QUIET);
-        if until <= desk.site.now {
-            return self.close(desk, line, Reason::Silent);
+        let until = self.all.get(&number)?.heard_at.saturating_add(QUIET);
+        if until <= context.view.now {
+            return self.close(context, number, Reason::Silent);
         }
-        let after = until.saturating_sub(desk.site.now);
-        desk.set_timer(Timer::QuietUpstream(line), after);
+        let after = until.saturating_sub(context.view.now);
+        context.set_timer(Timer::QuietUpstream(number), after);
         None
     }
 
     /// Closes the connection with a network's server, which is tried again later. None where there is no such connection.
     pub fn close<P: Port + Carries<ToServer, Connection = C>>(
         &mut self,
-        desk: &mut Desk<P>,
-        line: usize,
+        context: &mut Context<P>,
+        number: usize,
         reason: Reason,
     ) -> Option<Standing> {
         let Server {
@@ -175,12 +179,12 @@ impl<C: Connection> Servers<C> {
             network,
             entry,
             ..
-        } = self.remove(line)?;
+        } = self.remove(number)?;
         let (connection, session) = dialogue.into_parts();
-        desk.port.close(connection);
-        desk.timers.clear(Timer::QuietUpstream(line));
-        put_off(desk, network, reason, words_of(&session));
-        let entry = entry.into_down(desk.site.alloc);
+        context.port.close(connection);
+        context.timers.clear(Timer::QuietUpstream(number));
+        put_off(context, network, reason, words_of(&session));
+        let entry = entry.into_down(context.view.alloc);
         Some(Standing { network, entry })
     }
 }

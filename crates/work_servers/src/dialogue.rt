@@ -10,18 +10,18 @@ use byte_text::{NoMemory, Text};
 use chat_change::Moment;
 use passed_lines::{NetworkSession, Said, SayFault, ServerEffects};
 use std::alloc::Global;
-use work_desk::Desk;
-use work_lines::{Filled, Input, Pipe, Pumped};
+use work_lines::{Filled, Input, Pumped, SendQueue};
+use worker_io::Context;
 
 /// The session with a network's server, over its connection. All that is handed to the connection is what the session sends,
 /// in order, and each line once.
 #[derive(Drop)]
 pub(crate) struct Dialogue<C: Connection> {
     session: NetworkSession,
-    pipe: Pipe<C>,
+    queue: SendQueue<C>,
     // Why the connection is lost, once a line to the server could not be owed. Nothing goes out then.
     lost: Option<Reason>,
-    ghost by_right: { ∥ IsHeldTo lost session (handed pipe) ∥₁ },
+    ghost by_right: { ∥ IsHeldTo lost session (handed queue) ∥₁ },
 }
 
 impl<C: Connection> Dialogue<C> {
@@ -35,12 +35,12 @@ impl<C: Connection> Dialogue<C> {
         requires sent { C.sent connection ≡ [] }
         requires begins { Begins session opening.now }
     {
-        let mut pipe = Pipe::new(alloc, connection);
+        let mut queue = SendQueue::new(alloc, connection);
         let mut lost = None;
-        owe_sends(&mut pipe, &mut lost, opening);
+        owe_sends(&mut queue, &mut lost, opening);
         Dialogue {
             session,
-            pipe,
+            queue,
             lost,
         }
     }
@@ -68,33 +68,33 @@ impl<C: Connection> Dialogue<C> {
 
     /// The connection alone. What is owed is let go.
     pub(crate) fn into_connection(self) -> C {
-        self.pipe.into_connection()
+        self.queue.into_connection()
     }
 
     /// The connection, and the session that ends with it. What is owed is let go.
     pub(crate) fn into_parts(self) -> (C, NetworkSession) {
-        let Dialogue { session, pipe, .. } = self;
-        (pipe.into_connection(), session)
+        let Dialogue { session, queue, .. } = self;
+        (queue.into_connection(), session)
     }
 
     /// There may be room for bytes again.
     pub(crate) fn mark_writable(&mut self) {
-        self.pipe.mark_writable();
+        self.queue.mark_writable();
     }
 
     /// Takes in more bytes that come over the connection.
     pub(crate) fn fill<P: Carries<ToServer, Connection = C>>(
         &mut self,
         input: &mut Input,
-        desk: &mut Desk<P>,
+        context: &mut Context<P>,
     ) -> Filled {
-        let Desk {
+        let Context {
             port,
             chunk,
             feeders,
             ..
-        } = desk;
-        self.pipe.fill::<ToServer, P>(input, port, chunk, feeders)
+        } = context;
+        self.queue.fill::<ToServer, P>(input, port, chunk, feeders)
     }
 
     /// What a line of the server comes to. What the session sends waits for the server.
@@ -105,7 +105,7 @@ impl<C: Connection> Dialogue<C> {
         now: Moment,
     ) -> Result<ServerEffects, NoMemory> {
         let effects = self.session.step(alloc, bytes, now)?;
-        owe_sends(&mut self.pipe, &mut self.lost, &effects);
+        owe_sends(&mut self.queue, &mut self.lost, &effects);
         Ok(effects)
     }
 
@@ -117,7 +117,7 @@ impl<C: Connection> Dialogue<C> {
         now: Moment,
     ) -> Result<ServerEffects, SayFault> {
         let effects = self.session.say(alloc, said, now)?;
-        owe_sends(&mut self.pipe, &mut self.lost, &effects);
+        owe_sends(&mut self.queue, &mut self.lost, &effects);
         Ok(effects)
     }
 
@@ -128,7 +128,7 @@ impl<C: Connection> Dialogue<C> {
     ) -> Result<Pumped, Reason> {
         match self.lost {
             Some(reason) => Err(reason),
-            None => Ok(self.pipe.pump::<ToServer, P>(port)),
+            None => Ok(self.queue.pump::<ToServer, P>(port)),
         }
     }
 

@@ -8,31 +8,31 @@ use bnc_ports::{Connection, Reason};
 use byte_text::NoMemory;
 use passed_lines::ServerEffects;
 use upstream_session::UpEffect;
-use work_lines::Pipe;
+use work_lines::SendQueue;
 
 /// The most bytes that wait for a server.
 const MOST_OWED: usize = 65_536;
 
 // Bytes wait for the server. For too many there is no room.
-fn owe<C: Connection>(pipe: &mut Pipe<C>, bytes: &[u8]) -> Result<(), Reason>
-    ensures { IfOk result (λ _. handed pipe.new ≡ handed pipe.old ++ bytes.now) }
+fn owe<C: Connection>(queue: &mut SendQueue<C>, bytes: &[u8]) -> Result<(), Reason>
+    ensures { IfOk result (λ _. handed queue.new ≡ handed queue.old ++ bytes.now) }
 {
-    if pipe.owed().saturating_add(bytes.len()) > MOST_OWED {
+    if queue.owed().saturating_add(bytes.len()) > MOST_OWED {
         return Err(Reason::Overrun);
     }
-    match pipe.owe(bytes) {
+    match queue.owe(bytes) {
         Ok(()) => Ok(()),
         Err(NoMemory) => Err(Reason::NoMemory),
     }
 }
 
 // What is next waits for the server, where that is a line to it.
-fn owe_effect<C: Connection>(pipe: &mut Pipe<C>, effect: &UpEffect) -> Result<(), Reason>
+fn owe_effect<C: Connection>(queue: &mut SendQueue<C>, effect: &UpEffect) -> Result<(), Reason>
     ensures { IfOk result (λ _.
-        handed pipe.new ≡ handed pipe.old ++ sends_of (effect.now ∷ [])) }
+        handed queue.new ≡ handed queue.old ++ sends_of (effect.now ∷ [])) }
 {
     match effect {
-        UpEffect::Send(text) => owe(pipe, text.as_bytes()),
+        UpEffect::Send(text) => owe(queue, text.as_bytes()),
         UpEffect::Put(_) => Ok(()),
         UpEffect::Relay(_, _) => Ok(()),
         UpEffect::Close => Ok(()),
@@ -40,11 +40,11 @@ fn owe_effect<C: Connection>(pipe: &mut Pipe<C>, effect: &UpEffect) -> Result<()
 }
 
 // All lines to the server among these wait for it, in their order.
-fn owe_all<C: Connection>(pipe: &mut Pipe<C>, effects: &[UpEffect]) -> Result<(), Reason>
-    ensures { IfOk result (λ _. handed pipe.new ≡ handed pipe.old ++ sends_of effects.now) }
+fn owe_all<C: Connection>(queue: &mut SendQueue<C>, effects: &[UpEffect]) -> Result<(), Reason>
+    ensures { IfOk result (λ _. handed queue.new ≡ handed queue.old ++ sends_of effects.now) }
 {
     for effect in effects {
-        owe_effect(pipe, effect)?;
+        owe_effect(queue, effect)?;
     }
     Ok(())
 }
@@ -52,16 +52,16 @@ fn owe_all<C: Connection>(pipe: &mut Pipe<C>, effects: &[UpEffect]) -> Result<()
 /// All lines to the server among these wait for it, in their order. Where one can't, and once one could not, the connection is
 /// lost.
 pub(crate) fn owe_sends<C: Connection>(
-    pipe: &mut Pipe<C>,
+    queue: &mut SendQueue<C>,
     lost: &mut Option<Reason>,
     effects: &ServerEffects,
 )
-    ensures { IsOwed lost.old (handed pipe.old) effects.now lost.new (handed pipe.new) }
+    ensures { IsOwed lost.old (handed queue.old) effects.now lost.new (handed queue.new) }
 {
     if lost.is_some() {
         return;
     }
-    match owe_all(pipe, effects.as_slice()) {
+    match owe_all(queue, effects.as_slice()) {
         Ok(()) => {}
         Err(reason) => *lost = Some(reason),
     }

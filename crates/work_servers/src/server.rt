@@ -10,8 +10,8 @@ use passed_lines::{NetworkEntry, ServerEffects};
 use std::alloc::Global;
 use std::collections::VecDeque;
 use upstream_session::is_passed_on;
-use work_desk::{Desk, Site};
 use work_lines::{Filled, Input, Pumped};
+use worker_io::{Context, NodeView};
 
 /// A server that sends without pause is asked for room each time that bytes came so often.
 const UNPAUSED: u32 = 4;
@@ -75,8 +75,8 @@ impl<C: Connection> Server<C> {
     }
 
     /// Stands in the queue.
-    pub(crate) fn wake(&mut self, busy: &mut VecDeque<usize>, line: usize) {
-        if !self.is_queued && busy.push_back(line).is_ok() {
+    pub(crate) fn wake(&mut self, busy: &mut VecDeque<usize>, number: usize) {
+        if !self.is_queued && busy.push_back(number).is_ok() {
             self.is_queued = true;
         }
     }
@@ -113,12 +113,12 @@ impl<C: Connection> Server<C> {
     /// next line again.
     pub(crate) fn step<P: Port + Carries<ToServer, Connection = C>>(
         &mut self,
-        desk: &mut Desk<P>,
-        line: usize,
+        context: &mut Context<P>,
+        number: usize,
         kept: &mut KeptLine,
     ) -> ServerStep {
-        if kept.server() == Some(line) {
-            return self.hear_kept(&desk.site, kept);
+        if kept.server() == Some(number) {
+            return self.hear_kept(&context.view, kept);
         }
         let Server {
             input,
@@ -127,19 +127,19 @@ impl<C: Connection> Server<C> {
             ..
         } = self;
         match input.next_line() {
-            Next::Line(bytes) => match hear(dialogue, joined, &desk.site, bytes) {
+            Next::Line(bytes) => match hear(dialogue, joined, &context.view, bytes) {
                 Ok(effects) => ServerStep::Do(effects),
-                Err(NoMemory) => keep(kept, line, bytes),
+                Err(NoMemory) => keep(kept, number, bytes),
             },
             Next::TooLong => ServerStep::Again,
-            Next::More => self.fill(desk),
+            Next::More => self.fill(context),
         }
     }
 
     // What the line that was kept comes to. Once it was tried often, it is dropped where it would only be passed on, and for any
     // other the connection is closed.
-    fn hear_kept(&mut self, site: &Site, kept: &mut KeptLine) -> ServerStep {
-        if let Ok(effects) = hear(&mut self.dialogue, &mut self.joined, site, kept.as_bytes()) {
+    fn hear_kept(&mut self, view: &NodeView, kept: &mut KeptLine) -> ServerStep {
+        if let Ok(effects) = hear(&mut self.dialogue, &mut self.joined, view, kept.as_bytes()) {
             kept.let_go();
             return ServerStep::Do(effects);
         }
@@ -157,13 +157,13 @@ impl<C: Connection> Server<C> {
     // Takes in more bytes.
     fn fill<P: Port + Carries<ToServer, Connection = C>>(
         &mut self,
-        desk: &mut Desk<P>,
+        context: &mut Context<P>,
     ) -> ServerStep {
-        match self.dialogue.fill(&mut self.input, desk) {
+        match self.dialogue.fill(&mut self.input, context) {
             Filled::More => {
-                self.heard_at = desk.site.now;
+                self.heard_at = context.view.now;
                 self.fills = self.fills.wrapping_add(1);
-                if self.fills % UNPAUSED == 0 && !desk.has_room() {
+                if self.fills % UNPAUSED == 0 && !context.has_room() {
                     return ServerStep::Over(Reason::NoMemory);
                 }
                 ServerStep::Again
@@ -183,13 +183,13 @@ impl<C: Connection> Server<C> {
 fn hear<C: Connection>(
     dialogue: &mut Dialogue<C>,
     joined: &mut Option<Text>,
-    site: &Site,
+    view: &NodeView,
     bytes: &[u8],
 ) -> Result<ServerEffects, NoMemory> {
     let before = dialogue.count_channels();
-    let effects = dialogue.hear(site.alloc, bytes, site.moment)?;
+    let effects = dialogue.hear(view.alloc, bytes, view.moment)?;
     *joined = if dialogue.count_channels() > before {
-        dialogue.joined(site.alloc, bytes)
+        dialogue.joined(view.alloc, bytes)
     } else {
         None
     };
@@ -197,8 +197,8 @@ fn hear<C: Connection>(
 }
 
 // Keeps a line for which there was no memory.
-fn keep(kept: &mut KeptLine, line: usize, bytes: &[u8]) -> ServerStep {
-    match kept.keep(line, bytes) {
+fn keep(kept: &mut KeptLine, number: usize, bytes: &[u8]) -> ServerStep {
+    match kept.keep(number, bytes) {
         Ok(()) => ServerStep::Rest,
         Err(NoMemory) => ServerStep::Over(Reason::NoMemory),
     }

@@ -16,7 +16,7 @@ const FIRST_SERIAL: u64 = 1_000_000_000_000;
 #[derive(Clone, Copy)]
 struct NetworkLine {
     // the connection, or the one that is being made
-    line: Option<usize>,
+    number: Option<usize>,
     // the serial number of the next id that is made
     serial: u64,
 }
@@ -36,7 +36,7 @@ impl<C: Connection> Servers<C> {
     /// No servers yet, of so many networks.
     pub fn new(alloc: Global, networks: usize) -> Result<Servers<C>, NoMemory> {
         let network_line = NetworkLine {
-            line: None,
+            number: None,
             serial: FIRST_SERIAL,
         };
         let Ok(networks) = vec![in alloc; network_line; networks] else {
@@ -51,15 +51,15 @@ impl<C: Connection> Servers<C> {
     }
 
     /// The connection of a network is that, or there is none.
-    pub(crate) fn set_line(&mut self, network: usize, line: Option<usize>) {
+    pub(crate) fn set_line(&mut self, network: usize, number: Option<usize>) {
         if let Some(network_line) = self.networks.get_mut(network) {
-            network_line.line = line;
+            network_line.number = number;
         }
     }
 
     /// The connection with the network's server, or the one that is being made.
     pub(crate) fn line_of(&self, network: usize) -> Option<usize> {
-        self.networks.get(network)?.line
+        self.networks.get(network)?.number
     }
 
     /// The serial number from which the network's next session goes on.
@@ -80,8 +80,8 @@ impl<C: Connection> Servers<C> {
 
     /// A session with a network's server has begun over a connection, whose number no other has. There is
     /// [room](Servers::make_room) for it. For want of memory nothing changes, and the connection comes back.
-    pub(crate) fn insert(&mut self, line: usize, server: Server<C>) -> Result<(), C> {
-        match self.all.insert(line, server) {
+    pub(crate) fn insert(&mut self, number: usize, server: Server<C>) -> Result<(), C> {
+        match self.all.insert(number, server) {
             Ok(_) => Ok(()),
             Err(refused) => {
                 let (_, server) = refused.value;
@@ -91,57 +91,57 @@ impl<C: Connection> Servers<C> {
     }
 
     /// Takes a server out. Its network's next session goes on from its serial number.
-    pub(crate) fn remove(&mut self, line: usize) -> Option<Server<C>> {
-        let server = self.all.remove(&line)?;
-        if self.kept.server() == Some(line) {
+    pub(crate) fn remove(&mut self, number: usize) -> Option<Server<C>> {
+        let server = self.all.remove(&number)?;
+        if self.kept.server() == Some(number) {
             self.kept.let_go();
         }
         if let Some(network_line) = self.networks.get_mut(server.network) {
-            network_line.line = None;
+            network_line.number = None;
             network_line.serial = server.dialogue.session().serial();
         }
         Some(server)
     }
 
     /// The network of that connection, by its place among those of the node.
-    pub fn network(&self, line: usize) -> Option<usize> {
-        Some(self.all.get(&line)?.network)
+    pub fn network(&self, number: usize) -> Option<usize> {
+        Some(self.all.get(&number)?.network)
     }
 
     /// A message that the session over that connection put, as it is told. None where there is no such session, or where the
     /// change is no message, or one of another network.
-    pub fn live<'a>(&self, line: usize, put: &ServerPut<'a>) -> Option<Live<'a>> {
-        self.all.get(&line)?.dialogue.session().live(put)
+    pub fn live<'a>(&self, number: usize, put: &ServerPut<'a>) -> Option<Live<'a>> {
+        self.all.get(&number)?.dialogue.session().live(put)
     }
 
     /// The channel that the session over that connection itself joined by the last line that was taken, where it joined one.
     /// It is told once, and for want of memory not at all.
-    pub fn take_joined(&mut self, line: usize) -> Option<Text> {
-        self.all.get_mut(&line)?.joined.take()
+    pub fn take_joined(&mut self, number: usize) -> Option<Text> {
+        self.all.get_mut(&number)?.joined.take()
     }
 
     /// The server whose line waits for memory, as long as it takes lines.
     pub(crate) fn waiting(&self) -> Option<usize> {
-        let line = self.kept.server()?;
-        if self.all.get(&line)?.takes_lines() {
-            Some(line)
+        let number = self.kept.server()?;
+        if self.all.get(&number)?.takes_lines() {
+            Some(number)
         } else {
             None
         }
     }
 
     /// The server has something to do.
-    pub fn wake(&mut self, line: usize) {
+    pub fn wake(&mut self, number: usize) {
         let Servers { all, busy, .. } = self;
-        if let Some(server) = all.get_mut(&line) {
-            server.wake(busy, line);
+        if let Some(server) = all.get_mut(&number) {
+            server.wake(busy, number);
         }
     }
 
     /// What the port tells of a connection. False where it isn't a server's.
-    pub fn mark(&mut self, line: usize, readable: bool, writable: bool) -> bool {
+    pub fn mark(&mut self, number: usize, readable: bool, writable: bool) -> bool {
         let Servers { all, busy, .. } = self;
-        match all.get_mut(&line) {
+        match all.get_mut(&number) {
             Some(server) => {
                 if readable {
                     server.input.mark_readable();
@@ -149,7 +149,7 @@ impl<C: Connection> Servers<C> {
                 if writable {
                     server.dialogue.mark_writable();
                 }
-                server.wake(busy, line);
+                server.wake(busy, number);
                 true
             }
             None => false,
@@ -157,13 +157,13 @@ impl<C: Connection> Servers<C> {
     }
 
     /// The connection is closed once what is owed is written. No further line of the server is taken.
-    pub fn end(&mut self, line: usize, reason: Reason) {
+    pub fn end(&mut self, number: usize, reason: Reason) {
         let Servers { all, busy, .. } = self;
-        if let Some(server) = all.get_mut(&line) {
+        if let Some(server) = all.get_mut(&number) {
             if server.ends.is_none() {
                 server.ends = Some(reason);
             }
-            server.wake(busy, line);
+            server.wake(busy, number);
         }
     }
 
@@ -174,10 +174,10 @@ impl<C: Connection> Servers<C> {
 
     /// The next server that has something to do.
     pub fn next_busy(&mut self) -> Option<usize> {
-        let line = self.busy.pop_front()?;
-        if let Some(server) = self.all.get_mut(&line) {
+        let number = self.busy.pop_front()?;
+        if let Some(server) = self.all.get_mut(&number) {
             server.is_queued = false;
         }
-        Some(line)
+        Some(number)
     }
 }

@@ -7,8 +7,8 @@ use crate::standing::Standing;
 use bnc_ports::{Carries, Connection, Event, Port, Reason};
 use byte_text::NoMemory;
 use passed_lines::{Said, SayFault, ServerEffects};
-use work_desk::{Desk, Site};
 use work_lines::Pumped;
+use worker_io::{Context, NodeView};
 
 // So often a client's line is tried.
 const TRIES: usize = 10;
@@ -17,13 +17,13 @@ const TRIES: usize = 10;
 #[derive(Drop)]
 pub struct SaidStep {
     /// The connection with the server.
-    pub line: usize,
+    pub number: usize,
     pub effects: Result<ServerEffects, NoMemory>,
 }
 
 // The operator is told that the network is up.
-fn report_up<P: Port>(port: &mut P, site: &Site, network: usize, nick: &[u8]) {
-    if let Some(config) = site.networks.get(network) {
+fn report_up<P: Port>(port: &mut P, view: &NodeView, network: usize, nick: &[u8]) {
+    if let Some(config) = view.networks.get(network) {
         port.report(&Event::UpstreamUp {
             account: config.account.as_bytes(),
             network: config.network.as_bytes(),
@@ -35,11 +35,11 @@ fn report_up<P: Port>(port: &mut P, site: &Site, network: usize, nick: &[u8]) {
 // What a client's line comes to. For want of memory the session stays as it was, and the line is tried again.
 fn say_often<C: Connection>(
     dialogue: &mut Dialogue<C>,
-    site: &Site,
+    view: &NodeView,
     said: &Said<'_>,
 ) -> Result<ServerEffects, SayFault> {
     for _ in 0..TRIES {
-        match dialogue.say(site.alloc, said, site.moment) {
+        match dialogue.say(view.alloc, said, view.moment) {
             Err(SayFault::NoMemory) => {}
             outcome => return outcome,
         }
@@ -52,15 +52,15 @@ impl<C: Connection> Servers<C> {
     /// for which there is no memory is tried again at the server's later turns. While it waits, no other server has a next line.
     pub fn step<P: Port + Carries<ToServer, Connection = C>>(
         &mut self,
-        desk: &mut Desk<P>,
-        line: usize,
+        context: &mut Context<P>,
+        number: usize,
     ) -> ServerStep {
         let step = match self.waiting() {
-            Some(waiting) if waiting != line => ServerStep::Rest,
-            _ => self.step_server(desk, line),
+            Some(waiting) if waiting != number => ServerStep::Rest,
+            _ => self.step_server(context, number),
         };
         if self.waiting().is_some() {
-            self.wake(line);
+            self.wake(number);
         }
         step
     }
@@ -68,12 +68,12 @@ impl<C: Connection> Servers<C> {
     // The same while no other server's line waits.
     fn step_server<P: Port + Carries<ToServer, Connection = C>>(
         &mut self,
-        desk: &mut Desk<P>,
-        line: usize,
+        context: &mut Context<P>,
+        number: usize,
     ) -> ServerStep {
         let Servers { all, kept, .. } = self;
-        match all.get_mut(&line) {
-            Some(server) if server.takes_lines() => server.step(desk, line, kept),
+        match all.get_mut(&number) {
+            Some(server) if server.takes_lines() => server.step(context, number, kept),
             _ => ServerStep::Rest,
         }
     }
@@ -81,19 +81,19 @@ impl<C: Connection> Servers<C> {
     /// Writes what waits for the server, by one write, and closes the connection where that is due.
     pub fn finish<P: Port + Carries<ToServer, Connection = C>>(
         &mut self,
-        desk: &mut Desk<P>,
-        line: usize,
+        context: &mut Context<P>,
+        number: usize,
     ) -> Option<Standing> {
-        let server = self.all.get_mut(&line)?;
-        let pumped = match server.dialogue.pump(&mut desk.port) {
+        let server = self.all.get_mut(&number)?;
+        let pumped = match server.dialogue.pump(&mut context.port) {
             Ok(pumped) => pumped,
-            Err(reason) => return self.close(desk, line, reason),
+            Err(reason) => return self.close(context, number, reason),
         };
         if let Some(reason) = server.end_after(pumped) {
-            return self.close(desk, line, reason);
+            return self.close(context, number, reason);
         }
         if pumped == Pumped::Some {
-            self.wake(line);
+            self.wake(number);
         }
         None
     }
@@ -102,43 +102,52 @@ impl<C: Connection> Servers<C> {
     /// no connection with that server, where it is lost, or where the line is for the server of another account's network.
     pub fn say<P: Port>(
         &mut self,
-        desk: &mut Desk<P>,
+        context: &mut Context<P>,
         network: usize,
         said: &Said<'_>,
     ) -> Option<SaidStep> {
-        let line = self.line_of(network)?;
-        let server = self.all.get_mut(&line)?;
+        let number = self.line_of(network)?;
+        let server = self.all.get_mut(&number)?;
         if server.dialogue.lost().is_some() {
             return None;
         }
-        let effects = match say_often(&mut server.dialogue, &desk.site, said) {
+        let effects = match say_often(&mut server.dialogue, &context.view, said) {
             Ok(effects) => Ok(effects),
             Err(SayFault::NoMemory) => Err(NoMemory),
             Err(SayFault::OtherServer) => return None,
         };
-        self.wake(line);
-        Some(SaidStep { line, effects })
+        self.wake(number);
+        Some(SaidStep { number, effects })
     }
 
     /// Takes back a list of effects, once they are done, so that the server's next line can be answered in its room.
-    pub fn recycle(&mut self, line: usize, effects: ServerEffects) {
-        if let Some(server) = self.all.get_mut(&line) {
+    pub fn recycle(&mut self, number: usize, effects: ServerEffects) {
+        if let Some(server) = self.all.get_mut(&number) {
             server.dialogue.recycle(effects);
         }
     }
 
     /// How the session over that connection stands now, where all workers know it otherwise; the caller has them learn it.
     /// The operator is told of a network that is up. Where there is no memory the next call tells it.
-    pub fn note_entry<P: Port>(&mut self, desk: &mut Desk<P>, line: usize) -> Option<Standing> {
-        let server = self.all.get_mut(&line)?;
+    pub fn note_entry<P: Port>(
+        &mut self,
+        context: &mut Context<P>,
+        number: usize,
+    ) -> Option<Standing> {
+        let server = self.all.get_mut(&number)?;
         if !server.has_changed() {
             return None;
         }
         let network = server.network;
         let was_up = server.entry.entry.is_up();
-        let entry = server.note_entry(desk.site.alloc)?;
+        let entry = server.note_entry(context.view.alloc)?;
         if entry.entry.is_up() && !was_up {
-            report_up(&mut desk.port, &desk.site, network, entry.entry.nick());
+            report_up(
+                &mut context.port,
+                &context.view,
+                network,
+                entry.entry.nick(),
+            );
         }
         Some(Standing { network, entry })
     }

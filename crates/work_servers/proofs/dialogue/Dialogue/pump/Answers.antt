@@ -6,4 +6,4 @@ use Rattle.work_servers.proofs.dialogue.Dialogue.pump.Goals as goal
 pub pump-requires : goal.pump-requires
 pump-requires g c =
     let self = c.args.self.now in
-    ∥∥₁_map self.by_right (may_go self.lost self.session (handed self.pipe) c.in-None.is)
+    ∥∥₁_map self.by_right (may_go self.lost self.session (handed self.queue) c.in-None.is)
