@@ -7,8 +7,7 @@ use attach::Attachment;
 use bnc_ports::Event;
 use chat_change::Change;
 use shared_node::PutFault;
-use work_desk::BETWEEN_LOOKS;
-use work_timers::Timer;
+use worker_io::{BETWEEN_LOOKS, Timer};
 
 // How many of the floors the node has now, also where they only wait to be published.
 fn count_put(done: Result<(), PutFault>, all: usize) -> usize {
@@ -23,18 +22,18 @@ impl<N: Node, X: Attachment, P: WorkPort> Worker<N, X, P> {
     /// Puts the floors that are due, and looks again in an hour. A floor can't be taken back: where the clock leapt since the
     /// last look, none is put this time, and the operator is told.
     pub(crate) fn look_after_floors(&mut self) {
-        let Worker { desk, watch, .. } = self;
-        desk.set_timer(Timer::Floors, BETWEEN_LOOKS);
-        match watch.look(desk.site.clocks()) {
-            Some(leap) => desk.port.report(&Event::ClockLeapt(leap)),
+        let Worker { context, watch, .. } = self;
+        context.set_timer(Timer::Floors, BETWEEN_LOOKS);
+        match watch.look(context.view.clocks()) {
+            Some(leap) => context.port.report(&Event::ClockLeapt(leap)),
             None => self.put_floors(),
         }
     }
 
     // Puts the floors that are due, and tells the operator. They are all at one moment.
     fn put_floors(&mut self) {
-        let Worker { node, desk, .. } = self;
-        let Ok(floors) = due_floors(node, &desk.site) else {
+        let Worker { node, context, .. } = self;
+        let Ok(floors) = due_floors(node, &context.view) else {
             return;
         };
         let Some(Change::Floor { at, .. }) = floors.first() else {
@@ -43,7 +42,7 @@ impl<N: Node, X: Attachment, P: WorkPort> Worker<N, X, P> {
         let count = count_put(self.put(floors.as_slice()), floors.len());
         if count > 0 {
             let event = Event::FloorsPut { count, at: *at };
-            self.desk.port.report(&event);
+            self.context.port.report(&event);
         }
         self.publish();
     }

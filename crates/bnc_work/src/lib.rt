@@ -18,13 +18,13 @@ mod peer_turns;
 mod putting;
 mod server_turns;
 mod starting;
-mod station;
 mod work_port;
 mod worker;
+mod worker_config;
 
 pub use bnc_ports::{Gate, Lobby, Port};
 pub use mail::Mail;
 pub use starting::{StartFault, work_all};
-pub use station::{Station, WorkEnd};
 pub use work_port::WorkPort;
 pub use worker::work;
+pub use worker_config::{WorkEnd, WorkerConfig};

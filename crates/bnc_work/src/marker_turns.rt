@@ -1,9 +1,9 @@
 //! Sessions are told of read markers (IRCv3 draft/read-marker).
 use crate::mail::Mail;
 use crate::node::Node;
-use crate::station::WorkEnd;
 use crate::work_port::WorkPort;
 use crate::worker::Worker;
+use crate::worker_config::WorkEnd;
 use attach::Attachment;
 use byte_text::Text;
 use chat_change::{Buffer, Change};
@@ -74,14 +74,14 @@ pub(crate) fn marks_ahead<N: Node>(
 impl<N: Node, X: Attachment, P: WorkPort> Worker<N, X, P> {
     /// All workers' sessions of a network are told the read marker of the channel that was joined by the last line of its server,
     /// where it joined one.
-    pub(crate) fn tell_mark_of_joined(&mut self, line: usize) -> Result<(), WorkEnd> {
-        let Some(network) = self.servers.network(line) else {
+    pub(crate) fn tell_mark_of_joined(&mut self, number: usize) -> Result<(), WorkEnd> {
+        let Some(network) = self.servers.network(number) else {
             return Ok(());
         };
-        let Some(channel) = self.servers.take_joined(line) else {
+        let Some(channel) = self.servers.take_joined(number) else {
             return Ok(());
         };
-        self.post_mark(network, channel.as_bytes());
+        self.mail_mark(network, channel.as_bytes());
         self.tell_mark(network, channel.as_bytes(), None)
     }
 
@@ -100,12 +100,12 @@ impl<N: Node, X: Attachment, P: WorkPort> Worker<N, X, P> {
     // All workers' sessions are told of a buffer's marker, but for one client.
     fn tell_mark_of(&mut self, buffer: &Buffer, except: Option<usize>) -> Result<(), WorkEnd> {
         let network = self
-            .desk
-            .site
+            .context
+            .view
             .network_of(buffer.account(), buffer.network());
         match network {
             Some(network) => {
-                self.post_mark(network, buffer.target());
+                self.mail_mark(network, buffer.target());
                 self.tell_mark(network, buffer.target(), except)
             }
             None => Ok(()),
@@ -124,14 +124,14 @@ impl<N: Node, X: Attachment, P: WorkPort> Worker<N, X, P> {
     }
 
     // The other workers learn that a marker was put.
-    fn post_mark(&mut self, network: usize, target: &[u8]) {
-        for worker in 0..self.desk.site.workers {
-            if worker != self.desk.site.worker {
-                if let Ok(target) = Text::new(self.desk.site.alloc, target) {
+    fn mail_mark(&mut self, network: usize, target: &[u8]) {
+        for worker in 0..self.context.view.workers {
+            if worker != self.context.view.worker {
+                if let Ok(target) = Text::new(self.context.view.alloc, target) {
                     let _ = self
-                        .desk
+                        .context
                         .port
-                        .post(worker, Mail::Marked { network, target });
+                        .send_mail(worker, Mail::Marked { network, target });
                 }
             }
         }
@@ -146,18 +146,18 @@ impl<N: Node, X: Attachment, P: WorkPort> Worker<N, X, P> {
     ) -> Result<(), WorkEnd> {
         let mut from = 0;
         for _ in 0..usize::MAX {
-            let Some(line) = self.clients.next_follower(from, network, except) else {
+            let Some(number) = self.clients.next_follower(from, network, except) else {
                 return Ok(());
             };
             self.ask_gate()?;
             let Worker {
                 node,
-                desk,
+                context,
                 clients,
                 ..
             } = self;
-            clients.tell_marker(desk, node.pass(), line, target);
-            let Some(next) = line.checked_add(1) else {
+            clients.tell_marker(context, node.pass(), number, target);
+            let Some(next) = number.checked_add(1) else {
                 return Ok(());
             };
             from = next;

@@ -2,7 +2,7 @@
 ghost use Rattle.std.specs.Prelude.{◌≡◌, ◌⊎◌, List, ℕ, IfOk, OnErr};
 ghost use Rattle.chat_change.specs.declared.change.Change.{Change as Piece};
 ghost use Rattle.shared_node.specs.Lists.{changes_in};
-ghost use Rattle.work_peers.specs.Taking.{IsTakenFromPeer};
+ghost use Rattle.peer_connection.specs.Taking.{IsTakenFromPeer};
 ghost use Rattle.bnc_work.specs.Putting.{MayBePut};
 
 use bnc_ports::{Connection, Gate, Port};
@@ -11,8 +11,8 @@ use chat_change::Change;
 use peer_session::Outcome;
 use shared_node::{Naming, NodeTaker, Pass, PutFault};
 use std::sync::Wait;
-use work_desk::{Desk, Site};
 use work_peers::Peers;
+use worker_io::{Context, NodeView};
 
 /// A worker's way into its node. It may wait. What comes into the node by it is put by right, or was sent by a peer that had
 /// greeted: there is no other call that brings changes.
@@ -29,16 +29,16 @@ pub(crate) trait Node: Wait + Drop {
     /// What the worker reads by.
     fn pass(&mut self) -> &mut Pass<Self::Name>;
 
-    /// Puts changes that may be put at the moment of the site ([`NodeTaker::put`]).
-    fn put(&mut self, site: &Site, changes: &[Change]) -> Result<(), PutFault>
-        requires { ∥ MayBePut site.now.moment site.now.retain_days changes.now ∥₁ };
+    /// Puts changes that may be put at the view's moment ([`NodeTaker::put`]).
+    fn put(&mut self, view: &NodeView, changes: &[Change]) -> Result<(), PutFault>
+        requires { ∥ MayBePut view.now.moment view.now.retain_days changes.now ∥₁ };
 
     /// Takes what a peer sent over that connection, once the two have greeted each other ([`Peers::arrive`]).
     fn take<C: Connection, P: Port>(
         &mut self,
         peers: &mut Peers<C>,
-        desk: &mut Desk<P>,
-        line: usize,
+        context: &mut Context<P>,
+        number: usize,
     ) -> Result<Outcome, NoMemory>
         ensures taken { IfOk result (IsTakenFromPeer holds may_add self.old self.new) }
         ensures err { OnErr result (IsTakenFromPeer holds may_add self.old self.new Outcome.Ignored
@@ -68,7 +68,7 @@ impl<'a, J: Naming, R: Wait + Drop, W: Wait, G: Gate> Node for GatedNode<'a, J, 
         &mut self.taker.pass
     }
 
-    fn put(&mut self, _site: &Site, changes: &[Change]) -> Result<(), PutFault> {
+    fn put(&mut self, _view: &NodeView, changes: &[Change]) -> Result<(), PutFault> {
         match self.taker.put(changes) {
             Ok(_receipt) => Ok(()),
             Err(fault) => Err(fault),
@@ -78,10 +78,10 @@ impl<'a, J: Naming, R: Wait + Drop, W: Wait, G: Gate> Node for GatedNode<'a, J, 
     fn take<C: Connection, P: Port>(
         &mut self,
         peers: &mut Peers<C>,
-        desk: &mut Desk<P>,
-        line: usize,
+        context: &mut Context<P>,
+        number: usize,
     ) -> Result<Outcome, NoMemory> {
-        peers.arrive(desk, line, &mut self.taker)
+        peers.arrive(context, number, &mut self.taker)
     }
 
     fn may_answer(&self, worker: usize) -> bool {

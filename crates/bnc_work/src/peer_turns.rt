@@ -2,9 +2,9 @@
 use crate::mail::Mail;
 use crate::marker_turns::{MarkAhead, marks_ahead};
 use crate::node::Node;
-use crate::station::WorkEnd;
 use crate::work_port::WorkPort;
 use crate::worker::Worker;
+use crate::worker_config::WorkEnd;
 use attach::Attachment;
 use bnc_ports::Reason;
 use byte_text::NoMemory;
@@ -16,61 +16,70 @@ const STEPS: usize = 64;
 
 impl<N: Node, X: Attachment, P: WorkPort> Worker<N, X, P> {
     /// The turn of one peer.
-    pub(crate) fn serve_peer(&mut self, line: usize) -> Result<(), WorkEnd> {
+    pub(crate) fn serve_peer(&mut self, number: usize) -> Result<(), WorkEnd> {
         for _ in 0..STEPS {
-            if !self.step_peer(line)? {
+            if !self.step_peer(number)? {
                 return Ok(());
             }
         }
-        self.peers.wake(line);
-        self.peers.finish(&mut self.desk, line);
+        self.peers.wake(number);
+        self.peers.finish(&mut self.context, number);
         Ok(())
     }
 
     // One step of a peer's turn. False where the turn ends with it.
-    fn step_peer(&mut self, line: usize) -> Result<bool, WorkEnd> {
-        match self.peers.step(&mut self.desk, line) {
+    fn step_peer(&mut self, number: usize) -> Result<bool, WorkEnd> {
+        match self.peers.step(&mut self.context, number) {
             PeerStep::Take => {
-                self.take_message(line)?;
+                self.take_message(number)?;
                 Ok(true)
             }
             PeerStep::Again => Ok(true),
             PeerStep::Rest => {
-                self.peers.finish(&mut self.desk, line);
+                self.peers.finish(&mut self.context, number);
                 Ok(false)
             }
             PeerStep::Over(reason) => {
-                self.peers.close(&mut self.desk, line, reason);
+                self.peers.close(&mut self.context, number, reason);
                 Ok(false)
             }
         }
     }
 
     // Carries out the message that came over a connection with a peer. Sessions are told of the markers that came with it.
-    fn take_message(&mut self, line: usize) -> Result<(), WorkEnd> {
+    fn take_message(&mut self, number: usize) -> Result<(), WorkEnd> {
+        self.peers.greet(&mut self.context, number);
+        let marks = self.marks_of_message(number);
+        self.take_with(number, &marks)
+    }
+
+    // The buffers whose markers are further in the message than in the node.
+    fn marks_of_message(&mut self, number: usize) -> Vec<MarkAhead> {
+        let alloc = self.context.view.alloc;
+        match self.peers.message(number) {
+            Some(arrived) => marks_ahead(&mut self.node, alloc, changes_of(arrived)),
+            None => Vec::new(alloc),
+        }
+    }
+
+    // Takes the message, with which these markers came.
+    fn take_with(&mut self, number: usize, marks: &[MarkAhead]) -> Result<(), WorkEnd> {
         let Worker {
             node,
-            desk,
+            context,
             peers,
             ..
         } = self;
-        peers.greet(desk, line);
-        let marks = match peers.message(line) {
-            Some(arrived) => marks_ahead(node, desk.site.alloc, changes_of(arrived)),
-            None => Vec::new(desk.site.alloc),
-        };
-        match node.take(peers, desk, line) {
-            Ok(Outcome::Taken) => self.tell_taken(&marks)?,
+        match node.take(peers, context, number) {
+            Ok(Outcome::Taken) => return self.tell_taken(marks),
             // What waits of it is published a second later, as of any put. A marker that waits isn't told: it can't be read
             // before.
             Ok(Outcome::TakenInPart) => {
                 self.publish_later();
-                self.tell_taken(&marks)?;
+                return self.tell_taken(marks);
             }
-            Ok(Outcome::Known | Outcome::Ignored) => {
-                self.peers.advance(&mut self.desk, line, self.node.pass());
-            }
-            Err(NoMemory) => self.peers.close(&mut self.desk, line, Reason::NoMemory),
+            Ok(Outcome::Known | Outcome::Ignored) => peers.advance(context, number, node.pass()),
+            Err(NoMemory) => peers.close(context, number, Reason::NoMemory),
         }
         Ok(())
     }
@@ -92,10 +101,10 @@ impl<N: Node, X: Attachment, P: WorkPort> Worker<N, X, P> {
             return;
         }
         self.has_published = false;
-        if self.desk.site.worker == 0 {
-            self.peers.publish(&mut self.desk, self.node.pass());
+        if self.context.view.worker == 0 {
+            self.peers.publish(&mut self.context, self.node.pass());
         } else {
-            let _ = self.desk.port.post(0, Mail::Published);
+            let _ = self.context.port.send_mail(0, Mail::Published);
         }
     }
 }

@@ -12,19 +12,18 @@ use passed_lines::ServerPut;
 use shared_node::PutFault;
 use std::slice;
 use work_clients::ClientPut;
-use work_desk::Site;
-use work_timers::Timer;
+use worker_io::{NodeView, Timer};
 
 /// What waits to be published is tried again after so many milliseconds.
 const SECOND: u64 = 1000;
 
 /// The floors that are due now.
-pub(crate) fn due_floors<N: Node>(node: &mut N, site: &Site) -> Result<Vec<Change>, DeltaFault>
+pub(crate) fn due_floors<N: Node>(node: &mut N, view: &NodeView) -> Result<Vec<Change>, DeltaFault>
     ensures { IfOk result
-        (λ floors. ∥ MayBePut site.entry.now.moment site.entry.now.retain_days floors.items ∥₁) }
+        (λ floors. ∥ MayBePut view.entry.now.moment view.entry.now.retain_days floors.items ∥₁) }
 {
     node.pass()
-        .due_floors(site.alloc, site.moment, site.retain_days)
+        .due_floors(view.alloc, view.moment, view.retain_days)
 }
 
 impl<N: Node, X: Attachment, P: WorkPort> Worker<N, X, P> {
@@ -41,11 +40,11 @@ impl<N: Node, X: Attachment, P: WorkPort> Worker<N, X, P> {
 
     /// Puts changes that may be put now. Where they only wait to be published, that is tried again a second later.
     pub(crate) fn put(&mut self, changes: &[Change]) -> Result<(), PutFault>
-        requires { ∥ MayBePut self.old.desk.site.moment self.old.desk.site.retain_days
+        requires { ∥ MayBePut self.old.context.view.moment self.old.context.view.retain_days
             changes.now ∥₁ }
     {
-        let Worker { node, desk, .. } = self;
-        let done = node.put(&desk.site, changes);
+        let Worker { node, context, .. } = self;
+        let done = node.put(&context.view, changes);
         if done == Err(PutFault::Waiting) {
             self.publish_later();
         }
@@ -54,7 +53,7 @@ impl<N: Node, X: Attachment, P: WorkPort> Worker<N, X, P> {
 
     /// Tries a second later to publish what waits.
     pub(crate) fn publish_later(&mut self) {
-        self.desk.set_timer(Timer::Publish, SECOND);
+        self.context.set_timer(Timer::Publish, SECOND);
     }
 
     /// Publishes what waits, or tries that again a second later.

@@ -1,7 +1,7 @@
 //! All workers of a node, each on a thread of its own.
-use crate::station::{Station, WorkEnd};
 use crate::work_port::WorkPort;
 use crate::worker::try_work;
+use crate::worker_config::{WorkEnd, WorkerConfig};
 use attach::Attachment;
 use bnc_ports::{Carries, Gate};
 use byte_text::NoMemory;
@@ -9,7 +9,7 @@ use shared_node::{Naming, Pass, SharedNode};
 use std::alloc::AllocError;
 use std::sync::Wait;
 use std::thread;
-use std::thread::Threads;
+use std::thread::{JoinHandle, Threads};
 use thiserror::Error;
 use work_clients::ToClient;
 use work_peers::ToPeer;
@@ -37,7 +37,7 @@ impl From<AllocError> for StartFault {
 pub fn work_all<J, R, W, X, P, G>(
     rt: &W,
     node: &SharedNode<J, R>,
-    all: Vec<(Pass<J>, Station<X>, P)>,
+    all: Vec<(Pass<J>, WorkerConfig<X>, P)>,
     gate: &G,
 ) -> Result<Vec<WorkEnd>, StartFault>
 where
@@ -54,8 +54,8 @@ where
     each_numbered(
         rt,
         all,
-        &|worker: usize, pass: Pass<J>, station: Station<X>, port: P| {
-            try_work(rt, worker, node, pass, station, port, gate)
+        &|worker: usize, pass: Pass<J>, config: WorkerConfig<X>, port: P| {
+            try_work(rt, worker, node, pass, config, port, gate)
         },
     )
 }
@@ -97,7 +97,7 @@ where
 {
     let alloc = rt.alloc();
     let mut handles = Vec::with_capacity(alloc, jobs.len())?;
-    let mut ends = Vec::with_capacity(alloc, jobs.len())?;
+    let ends = Vec::with_capacity(alloc, jobs.len())?;
     thread::scope(
         thread::scope_env(),
         rt,
@@ -122,17 +122,31 @@ where
                     }
                 }
             }
-            for handle in handles {
-                if keep_end(&mut ends, handle.join(rt)).is_err() {
-                    fault = Some(StartFault::NoMemory);
-                }
-            }
+            let ends = join_all(rt, handles, ends)?;
             match fault {
                 Some(fault) => Err(fault),
                 None => Ok(ends),
             }
         },
     )
+}
+
+// Joins the threads, and puts their ends behind those in the list.
+fn join_all<R: Threads, X: Drop>(
+    rt: &R,
+    handles: Vec<JoinHandle<Result<X, NoMemory>>>,
+    mut ends: Vec<X>,
+) -> Result<Vec<X>, StartFault> {
+    let mut fault = None;
+    for handle in handles {
+        if keep_end(&mut ends, handle.join(rt)).is_err() {
+            fault = Some(StartFault::NoMemory);
+        }
+    }
+    match fault {
+        Some(fault) => Err(fault),
+        None => Ok(ends),
+    }
 }
 
 // Puts the end of a worker that had the memory to begin into the list.

@@ -1,21 +1,20 @@
 //! One worker: what comes, and who has something to do.
 use crate::mail::Mail;
 use crate::node::{GatedNode, Node};
-use crate::station::{Station, WorkEnd};
 use crate::work_port::WorkPort;
+use crate::worker_config::{WorkEnd, WorkerConfig};
 use attach::Attachment;
-use bnc_ports::{Carries, Connection, Dial, Gate, Happening};
+use bnc_ports::{Carries, Connection, Dial, Gate, Happening, Lobby};
 use byte_text::NoMemory;
 use chat_change::Moment;
-use gossip_link::{NodeName, Terms};
+use gossip_link::NodeName;
 use shared_node::{Naming, NodeTaker, Pass, SharedNode};
 use std::alloc::Global;
 use std::sync::{Arc, Wait};
 use work_clients::{Clients, ToClient};
-use work_desk::{ClockWatch, Desk, Site, clock};
 use work_peers::{Peers, ToPeer};
 use work_servers::{Servers, ToServer};
-use work_timers::Timer;
+use worker_io::{ClockWatch, Context, NodeView, Timer, clock};
 
 /// A worker looks after its timers at least so often, in milliseconds.
 const LONGEST: u64 = 60_000;
@@ -36,7 +35,7 @@ const PAUSE: u64 = 1;
 #[derive(Drop)]
 pub(crate) struct Worker<N: Node, X: Attachment, P: WorkPort> {
     pub(crate) node: N,
-    pub(crate) desk: Desk<P>,
+    pub(crate) context: Context<P>,
     // looks at the clocks before floors are put
     pub(crate) watch: ClockWatch,
     pub(crate) clients: Clients<X, <P as Carries<ToClient>>::Connection>,
@@ -57,11 +56,11 @@ pub fn work<J: Naming, R: Wait + Drop, W: Wait + AllocGlobal, X: Attachment, P: 
     worker: usize,
     node: &SharedNode<J, R>,
     pass: Pass<J>,
-    station: Station<X>,
+    config: WorkerConfig<X>,
     port: P,
     gate: &G,
 ) -> WorkEnd {
-    match try_work(rt, worker, node, pass, station, port, gate) {
+    match try_work(rt, worker, node, pass, config, port, gate) {
         Ok(end) => end,
         Err(NoMemory) => WorkEnd::Failed,
     }
@@ -80,7 +79,7 @@ pub(crate) fn try_work<
     worker: usize,
     node: &SharedNode<J, R>,
     pass: Pass<J>,
-    station: Station<X>,
+    config: WorkerConfig<X>,
     port: P,
     gate: &G,
 ) -> Result<WorkEnd, NoMemory> {
@@ -88,7 +87,7 @@ pub(crate) fn try_work<
     let node = GatedNode { taker, gate };
     let mut port = port;
     match clock(&mut port) {
-        Some(time) => serve(rt, worker, node, time, station, port),
+        Some(time) => serve(rt, worker, node, time, config, port),
         None => Ok(WorkEnd::Failed),
     }
 }
@@ -99,69 +98,80 @@ fn serve<W: Wait + AllocGlobal, N: Node, X: Attachment, P: WorkPort>(
     number: usize,
     node: N,
     time: (u64, Moment),
-    station: Station<X>,
+    config: WorkerConfig<X>,
     port: P,
 ) -> Result<WorkEnd, NoMemory> {
-    let mut worker = Worker::new(rt.alloc(), number, node, time, station, port)?;
+    let (view, lobby, peers) = view_of(rt.alloc(), number, port.workers(), time, config)?;
+    let mut worker = Worker::new(node, view, lobby, peers, port)?;
     Ok(worker.run(rt))
 }
 
-// A worker's servers, of so many networks, and its peers, of these names.
-fn tables_of<S: Connection, E: Connection>(
+// What the worker of that number of so many knows of its node and of the time, its lobby, and the names of its peers.
+fn view_of<X: Attachment>(
     alloc: Global,
-    networks: usize,
-    terms: &Terms,
+    worker: usize,
+    workers: usize,
+    (now, moment): (u64, Moment),
+    config: WorkerConfig<X>,
+) -> Result<(NodeView, Lobby<X>, Vec<NodeName>), NoMemory> {
+    let WorkerConfig {
+        lobby,
+        cluster,
+        maximum,
+        directory,
+        networks,
+        terms,
+        peers,
+        retain_days,
+    } = config;
+    let Ok(terms) = Arc::new(alloc, terms) else {
+        return Err(NoMemory);
+    };
+    let view = NodeView {
+        alloc,
+        worker,
+        workers,
+        now,
+        moment,
+        cluster,
+        maximum,
+        directory,
+        networks,
+        terms,
+        retain_days,
+    };
+    Ok((view, lobby, peers))
+}
+
+// A worker's servers and its peers, of these names, without a connection.
+fn tables_of<S: Connection, E: Connection>(
+    view: &NodeView,
     names: Vec<NodeName>,
 ) -> Result<(Servers<S>, Peers<E>), NoMemory> {
-    let peers = Peers::new(alloc, terms, names)?;
-    let servers = Servers::new(alloc, networks)?;
+    let peers = Peers::new(view.alloc, &view.terms, names)?;
+    let servers = Servers::new(view.alloc, view.networks.len())?;
     Ok((servers, peers))
 }
 
 impl<N: Node, X: Attachment, P: WorkPort> Worker<N, X, P> {
-    // The worker of that number, without a connection.
+    // A worker with that view of its node, without a connection. Its peers have these names.
     fn new(
-        alloc: Global,
-        number: usize,
         node: N,
-        (now, moment): (u64, Moment),
-        station: Station<X>,
+        view: NodeView,
+        lobby: Lobby<X>,
+        names: Vec<NodeName>,
         port: P,
     ) -> Result<Worker<N, X, P>, NoMemory> {
-        let Station {
-            lobby,
-            cluster,
-            maximum,
-            directory,
-            networks,
-            terms,
-            peers,
-            retain_days,
-        } = station;
-        let count = peers.len();
-        let (servers, peers) = tables_of(alloc, networks.len(), &terms, peers)?;
-        let Ok(terms) = Arc::new(alloc, terms) else {
-            return Err(NoMemory);
-        };
-        let site = Site {
-            alloc,
-            worker: number,
-            workers: port.workers(),
-            now,
-            moment,
-            cluster,
-            maximum,
-            directory,
-            networks,
-            terms,
-            retain_days,
-        };
-        let watch = ClockWatch::new(site.clocks());
+        let count = names.len();
+        let context = Context::new(view, port, count)?;
+        let (servers, peers) = tables_of(&context.view, names)?;
+        let watch = ClockWatch::new(context.view.clocks());
+        let clients = Clients::new(context.view.alloc, lobby);
         Ok(Worker {
             node,
-            desk: Desk::new(site, port, count)?,
+            context,
             watch,
-            clients: Clients::new(alloc, lobby),
+            clients,
             servers,
             peers,
             has_published: false,
@@ -182,21 +192,21 @@ impl<N: Node, X: Attachment, P: WorkPort> Worker<N, X, P> {
     // Connects to the servers of this worker's networks. The first worker connects to peers too, and has the floors put.
     fn open(&mut self) {
         let Worker {
-            desk,
+            context,
             servers,
             peers,
             ..
         } = self;
-        servers.dial_all(desk);
-        if desk.site.worker == 0 {
-            desk.set_timer(Timer::Floors, 0);
-            peers.dial_all(desk);
+        servers.dial_all(context);
+        if context.view.worker == 0 {
+            context.set_timer(Timer::Floors, 0);
+            peers.dial_all(context);
         }
     }
 
     /// Asks the gate whether an answer may go out.
     pub(crate) fn ask_gate(&self) -> Result<(), WorkEnd> {
-        if self.node.may_answer(self.desk.site.worker) {
+        if self.node.may_answer(self.context.view.worker) {
             Ok(())
         } else {
             Err(WorkEnd::GateShut)
@@ -206,9 +216,9 @@ impl<N: Node, X: Attachment, P: WorkPort> Worker<N, X, P> {
     /// Whether another worker is behind with its mail. That grows by what servers say, so their lines wait then: nothing of it
     /// is dropped, and each worker goes on reading its own.
     pub(crate) fn is_another_behind(&self) -> bool {
-        let site = &self.desk.site;
-        for worker in 0..site.workers {
-            if worker != site.worker && self.desk.port.backlog(worker) > MOST_MAIL {
+        let view = &self.context.view;
+        for worker in 0..view.workers {
+            if worker != view.worker && self.context.port.backlog(worker) > MOST_MAIL {
                 return true;
             }
         }
@@ -223,18 +233,18 @@ impl<N: Node, X: Attachment, P: WorkPort> Worker<N, X, P> {
         if self.servers.is_busy() {
             return if self.is_another_behind() { PAUSE } else { 0 };
         }
-        match self.desk.timers.next() {
-            Some(at) => at.saturating_sub(self.desk.site.now).min(LONGEST),
+        match self.context.timers.next() {
+            Some(at) => at.saturating_sub(self.context.view.now).min(LONGEST),
             None => LONGEST,
         }
     }
 
     // What happens next, for which the port may wait so long. The clocks are read then.
     fn next(&mut self, patience: u64) -> Result<Happening<Mail>, WorkEnd> {
-        let Ok(happening) = self.desk.port.next(patience) else {
+        let Ok(happening) = self.context.port.next(patience) else {
             return Err(WorkEnd::Failed);
         };
-        if self.desk.read_clock() {
+        if self.context.read_clock() {
             Ok(happening)
         } else {
             Err(WorkEnd::Failed)
@@ -246,11 +256,11 @@ impl<N: Node, X: Attachment, P: WorkPort> Worker<N, X, P> {
     fn turn(&mut self) -> Result<(), WorkEnd> {
         self.take_happenings()?;
         self.look_after_timers()?;
-        self.clients.tell_refusals(&mut self.desk);
-        self.peers.tell_refusals(&mut self.desk);
-        self.desk.begin_turn();
-        if let Some(line) = self.servers.next_busy() {
-            self.serve_server(line)?;
+        self.clients.tell_refusals(&mut self.context);
+        self.peers.tell_refusals(&mut self.context);
+        self.context.begin_turn();
+        if let Some(number) = self.servers.next_busy() {
+            self.serve_server(number)?;
         }
         self.serve_clients()?;
         self.tell_published();
@@ -260,8 +270,8 @@ impl<N: Node, X: Attachment, P: WorkPort> Worker<N, X, P> {
     // Those clients that have something to do by now have a turn each.
     fn serve_clients(&mut self) -> Result<(), WorkEnd> {
         for _ in 0..self.clients.busy_count() {
-            if let Some(line) = self.clients.next_busy() {
-                self.serve_client(line)?;
+            if let Some(number) = self.clients.next_busy() {
+                self.serve_client(number)?;
             }
         }
         Ok(())
@@ -270,8 +280,8 @@ impl<N: Node, X: Attachment, P: WorkPort> Worker<N, X, P> {
     // Those peers that have something to do by now have a turn each.
     fn serve_peers(&mut self) -> Result<(), WorkEnd> {
         for _ in 0..self.peers.busy_count() {
-            if let Some(line) = self.peers.next_busy() {
-                self.serve_peer(line)?;
+            if let Some(number) = self.peers.next_busy() {
+                self.serve_peer(number)?;
             }
         }
         Ok(())
@@ -290,21 +300,31 @@ impl<N: Node, X: Attachment, P: WorkPort> Worker<N, X, P> {
         Ok(())
     }
 
-    // False where nothing happened.
+    // Does what comes of it, and keeps what mail brings. False where nothing happened.
     fn take(&mut self, happening: Happening<Mail>) -> Result<bool, WorkEnd> {
+        let done = self.act_on(&happening);
+        if let Happening::Mail(mail) = happening {
+            self.keep_entry(mail);
+        }
+        done
+    }
+
+    // Does what comes of it. False where nothing happened.
+    fn act_on(&mut self, happening: &Happening<Mail>) -> Result<bool, WorkEnd> {
         match happening {
-            Happening::Client { line, ticket } => {
-                self.clients.admit(&self.node, &mut self.desk, line, ticket);
+            Happening::Client { number, ticket } => {
+                self.clients
+                    .admit(&self.node, &mut self.context, *number, *ticket);
             }
-            Happening::Leave { ticket } => self.clients.give_way(&mut self.desk, ticket),
-            Happening::Peer { line } => self.peers.begin(&mut self.desk, line, None),
-            Happening::Opened { line, what } => self.opened(line, what)?,
-            Happening::Refused { line, what } => self.refused(line, what),
+            Happening::Leave { ticket } => self.clients.give_way(&mut self.context, *ticket),
+            Happening::Peer { number } => self.peers.begin(&mut self.context, *number, None),
+            Happening::Opened { number, what } => self.opened(*number, *what)?,
+            Happening::Refused { number, what } => self.refused(*number, *what),
             Happening::Ready {
-                line,
+                number,
                 readable,
                 writable,
-            } => self.mark(line, readable, writable),
+            } => self.mark(*number, *readable, *writable),
             Happening::Mail(mail) => self.read_mail(mail)?,
             Happening::Nothing => return Ok(false),
             Happening::Ended => return Err(WorkEnd::Ended),
@@ -312,43 +332,43 @@ impl<N: Node, X: Attachment, P: WorkPort> Worker<N, X, P> {
         Ok(true)
     }
 
-    fn mark(&mut self, line: usize, readable: bool, writable: bool) {
-        let is_marked = self.clients.mark(line, readable, writable)
-            || self.servers.mark(line, readable, writable);
+    fn mark(&mut self, number: usize, readable: bool, writable: bool) {
+        let is_marked = self.clients.mark(number, readable, writable)
+            || self.servers.mark(number, readable, writable);
         if !is_marked {
-            let _ = self.peers.mark(line, readable, writable);
+            let _ = self.peers.mark(number, readable, writable);
         }
     }
 
     // A connection that was dialed is there.
-    fn opened(&mut self, line: usize, what: Dial) -> Result<(), WorkEnd> {
+    fn opened(&mut self, number: usize, what: Dial) -> Result<(), WorkEnd> {
         match what {
             Dial::Network(network) => {
-                match self.servers.begin(&mut self.desk, line, network) {
-                    Some(effects) => self.do_server(line, effects),
+                match self.servers.begin(&mut self.context, number, network) {
+                    Some(effects) => self.do_server(number, effects),
                     None => Ok(()),
                 }
             }
             Dial::Peer(place) => {
-                self.peers.begin(&mut self.desk, line, Some(place));
+                self.peers.begin(&mut self.context, number, Some(place));
                 Ok(())
             }
         }
     }
 
     // A connection that was dialed could not be made.
-    fn refused(&mut self, line: usize, what: Dial) {
-        self.desk.port.give_up(line);
+    fn refused(&mut self, number: usize, what: Dial) {
+        self.context.port.give_up(number);
         match what {
-            Dial::Network(network) => self.servers.retry(&mut self.desk, network),
-            Dial::Peer(place) => self.peers.retry(&mut self.desk, place),
+            Dial::Network(network) => self.servers.retry(&mut self.context, network),
+            Dial::Peer(place) => self.peers.retry(&mut self.context, place),
         }
     }
 
     // What is due now.
     fn look_after_timers(&mut self) -> Result<(), WorkEnd> {
         for _ in 0..TIMERS {
-            let Some(timer) = self.desk.timers.take_due(self.desk.site.now) else {
+            let Some(timer) = self.context.timers.take_due(self.context.view.now) else {
                 return Ok(());
             };
             self.look_after(timer);
@@ -359,23 +379,23 @@ impl<N: Node, X: Attachment, P: WorkPort> Worker<N, X, P> {
     fn look_after(&mut self, timer: Timer) {
         let Worker {
             node,
-            desk,
+            context,
             clients,
             servers,
             peers,
             ..
         } = self;
         match timer {
-            Timer::RetryNetwork(network) => servers.dial(desk, network),
-            Timer::QuietUpstream(line) => self.check_quiet(line),
-            Timer::Unregistered(line) => {
-                clients.check_registered(desk, line);
-                peers.check_greeted(desk, line);
+            Timer::RetryNetwork(network) => servers.dial(context, network),
+            Timer::QuietUpstream(number) => self.check_quiet(number),
+            Timer::Unregistered(number) => {
+                clients.check_registered(context, number);
+                peers.check_greeted(context, number);
             }
-            Timer::RetryPeer(place) => peers.dial(desk, place),
-            Timer::UnansweredPacket(line) => peers.check_answered(desk, line, node.pass()),
-            Timer::QuietPeer(line) => peers.check_quiet(desk, line),
-            Timer::AbsentPeer(place) => peers.check_absent(desk, place),
+            Timer::RetryPeer(place) => peers.dial(context, place),
+            Timer::UnansweredPacket(number) => peers.check_answered(context, number, node.pass()),
+            Timer::QuietPeer(number) => peers.check_quiet(context, number),
+            Timer::AbsentPeer(place) => peers.check_absent(context, place),
             Timer::Floors => self.look_after_floors(),
             Timer::Publish => self.publish_waiting(),
         }

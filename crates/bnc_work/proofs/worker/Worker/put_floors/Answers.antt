@@ -5,5 +5,5 @@ use Rattle.bnc_work.proofs.worker.Worker.put_floors.Goals as goal
 
 pub put-requires : goal.put-requires
 put-requires g c =
-    let site = c.args.self.now.desk.site in
-    subst (λ (t : List Change). ∥ MayBePut site.moment site.retain_days t ∥₁) (sym c.as_slice.ensures.value) c.in-Ok.ensures
+    let view = c.args.self.now.context.view in
+    subst (λ (t : List Change). ∥ MayBePut view.moment view.retain_days t ∥₁) (sym c.as_slice.ensures.value) c.in-Ok.ensures

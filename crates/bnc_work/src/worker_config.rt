@@ -19,7 +19,7 @@ pub enum WorkEnd {
 
 /// What a worker begins with. All workers of a node have the same, but for the lobby.
 #[derive(Drop)]
-pub struct Station<X = Boxed> {
+pub struct WorkerConfig<X = Boxed> {
     /// Where the worker's clients come in.
     pub lobby: Lobby<X>,
     /// The name of the cluster: 1 to 63 bytes of letters, digits, `.` and `-`.
