@@ -10,14 +10,14 @@ use std::sync::{Arc, Wait};
 
 /// What reaches a worker from another one. Workers tell each other an `M`.
 #[derive(Drop)]
-pub enum Parcel<M> {
+pub enum Delivery<M> {
     /// What another worker tells.
     Mail(M),
     /// The worker is to end.
     Stop,
 }
 
-/// Who comes in at a worker's door, or is to leave.
+/// Who comes in at a worker's intake, or is to leave.
 #[derive(Drop)]
 pub enum Newcomer {
     /// A client, whose attachment was sent to the lobby under the ticket before.
@@ -45,37 +45,37 @@ fn sent<T: Drop>(taken: Result<(), SendError<T>>) -> Result<(), PortFault> {
     }
 }
 
-/// Where parcels for one worker are handed in.
+/// Where deliveries for one worker are handed in.
 #[derive(Drop)]
 pub struct Mailbox<M> {
-    parcels: Sender<Parcel<M>>,
+    deliveries: Sender<Delivery<M>>,
     waker: Arc<Waker>,
 }
 
 impl<M: Drop> Mailbox<M> {
     /// A mailbox at that channel, to whose other end the waker wakes.
-    pub fn new(parcels: Sender<Parcel<M>>, waker: Arc<Waker>) -> Mailbox<M> {
-        Mailbox { parcels, waker }
+    pub fn new(deliveries: Sender<Delivery<M>>, waker: Arc<Waker>) -> Mailbox<M> {
+        Mailbox { deliveries, waker }
     }
 
     /// Another owner of the same mailbox.
     pub fn try_clone(&self) -> Result<Mailbox<M>, AllocError> {
         Ok(Mailbox {
-            parcels: self.parcels.clone()?,
+            deliveries: self.deliveries.clone()?,
             waker: self.waker.clone()?,
         })
     }
 
-    /// Hands a parcel in, and wakes the worker.
-    pub fn hand<R: Wait>(&self, rt: &R, parcel: Parcel<M>) -> Result<(), PortFault> {
-        sent(self.parcels.send(rt, parcel))?;
+    /// Hands a delivery in, and wakes the worker.
+    pub fn hand<R: Wait>(&self, rt: &R, delivery: Delivery<M>) -> Result<(), PortFault> {
+        sent(self.deliveries.send(rt, delivery))?;
         self.wake();
         Ok(())
     }
 
-    /// How many parcels wait for the worker just now.
+    /// How many deliveries wait for the worker just now.
     pub fn waiting(&self) -> usize {
-        self.parcels.len()
+        self.deliveries.len()
     }
 
     // Wakes the worker, so that it finds what was handed in before. A wake that the system refuses costs time alone: a worker
@@ -87,22 +87,22 @@ impl<M: Drop> Mailbox<M> {
 
 /// Where those who connect are handed in to one worker.
 #[derive(Drop)]
-pub struct Door<M, X = Boxed> {
+pub struct WorkerIntake<M, X = Boxed> {
     mailbox: Mailbox<M>,
     newcomers: Sender<Newcomer>,
     arrivals: Sender<Arrival<X>>,
     ticket: u64,
 }
 
-impl<M: Drop, X: Attachment> Door<M, X> {
-    /// A door to the worker of that mailbox, whose port is at the other end of the one channel, and its lobby at that of the
+impl<M: Drop, X: Attachment> WorkerIntake<M, X> {
+    /// An intake of the worker of that mailbox, whose port is at the other end of the one channel, and its lobby at that of the
     /// other.
     pub fn new(
         mailbox: Mailbox<M>,
         newcomers: Sender<Newcomer>,
         arrivals: Sender<Arrival<X>>,
-    ) -> Door<M, X> {
-        Door {
+    ) -> WorkerIntake<M, X> {
+        WorkerIntake {
             mailbox,
             newcomers,
             arrivals,
@@ -156,6 +156,6 @@ impl<M: Drop, X: Attachment> Door<M, X> {
 
     /// Tells the worker to end.
     pub fn stop<R: Wait>(&self, rt: &R) {
-        let _ = self.mailbox.hand(rt, Parcel::Stop);
+        let _ = self.mailbox.hand(rt, Delivery::Stop);
     }
 }

@@ -3,8 +3,8 @@ ghost use Rattle.std.specs.Prelude.{◌≡◌, ◌≤◌, ◌++◌, [], length, 
 ghost use Rattle.bnc_ports.specs.Outgoing.{BeginsOf};
 
 use crate::connection::SocketConnection;
-use crate::handing::{Mailbox, Newcomer, Parcel};
-use crate::line::{Line, Outcome, Stage};
+use crate::handing::{Delivery, Mailbox, Newcomer};
+use crate::socket::{Outcome, Socket, Stage};
 use bnc_ports::{Carries, Clocks, Connection, Dial, Event, Halt, Happening, Kind, Port, PortFault};
 use bstr::BStr;
 use crossbeam_channel::Receiver;
@@ -20,7 +20,7 @@ use std::sync::{Arc, Wait};
 use std::time::{Clock, Duration};
 use std::{fmt, io};
 
-// The token of the waker. Those of lines are their numbers.
+// The token of the waker. Those of sockets are their numbers.
 const WAKER: Token = Token(usize::MAX);
 
 // How many events the system tells at once.
@@ -71,12 +71,12 @@ pub struct SocketPort<R: Wait + Drop, M: Drop> {
     has_looked: bool,
     // Whether an event comes next, before what was handed in.
     is_turn_of_events: bool,
-    // Whether a parcel comes next of what was handed in, before a newcomer.
+    // Whether a delivery comes next of what was handed in, before a newcomer.
     is_turn_of_parcels: bool,
-    parcels: Receiver<Parcel<M>>,
+    deliveries: Receiver<Delivery<M>>,
     newcomers: Receiver<Newcomer>,
     mailboxes: Vec<Mailbox<M>>,
-    lines: Slab<Line>,
+    sockets: Slab<Socket>,
     addresses: Addresses,
 }
 
@@ -92,10 +92,10 @@ impl<R: Wait + Drop, M: Drop> Drop for SocketPort<R, M> {
             has_looked: _,
             is_turn_of_events: _,
             is_turn_of_parcels: _,
-            parcels: _,
+            deliveries: _,
             newcomers: _,
             mailboxes: _,
-            lines: _,
+            sockets: _,
             addresses: _,
         } = self;
     }
@@ -105,24 +105,24 @@ impl<R: Wait + Drop, M: Drop> SocketPort<R, M> {
     // Tells all workers to end.
     fn stop_all(&self) {
         for mailbox in self.mailboxes.iter() {
-            let _ = mailbox.hand(&self.rt, Parcel::Stop);
+            let _ = mailbox.hand(&self.rt, Delivery::Stop);
         }
     }
 }
 
 impl<R: Net + Wait + Clock + Eprint + AllocGlobal + Drop, M: Drop> SocketPort<R, M> {
-    /// The port of the worker whose parcels and newcomers come over those channels, and whose poll has the waker of
+    /// The port of the worker whose deliveries and newcomers come over those channels, and whose poll has the waker of
     /// [`waker_of`]. `mailboxes` are those of all workers, in their order.
     pub fn new(
         rt: R,
         poll: Poll,
-        parcels: Receiver<Parcel<M>>,
+        deliveries: Receiver<Delivery<M>>,
         newcomers: Receiver<Newcomer>,
         mailboxes: Vec<Mailbox<M>>,
         addresses: Addresses,
     ) -> Result<SocketPort<R, M>, AllocError> {
         let events = Events::with_capacity(rt.alloc(), EVENTS)?;
-        let lines = Slab::new(rt.alloc());
+        let sockets = Slab::new(rt.alloc());
         Ok(SocketPort {
             rt,
             poll,
@@ -132,10 +132,10 @@ impl<R: Net + Wait + Clock + Eprint + AllocGlobal + Drop, M: Drop> SocketPort<R,
             has_looked: false,
             is_turn_of_events: true,
             is_turn_of_parcels: true,
-            parcels,
+            deliveries,
             newcomers,
             mailboxes,
-            lines,
+            sockets,
             addresses,
         })
     }
@@ -144,7 +144,7 @@ impl<R: Net + Wait + Clock + Eprint + AllocGlobal + Drop, M: Drop> SocketPort<R,
     fn add(&mut self, stream: TcpStream, address: SocketAddr, stage: Stage) -> Option<usize> {
         // Without it small lines wait for one another.
         let _ = stream.set_nodelay(true);
-        let Ok(number) = self.lines.insert(Line {
+        let Ok(number) = self.sockets.insert(Socket {
             stream,
             address,
             stage,
@@ -155,31 +155,31 @@ impl<R: Net + Wait + Clock + Eprint + AllocGlobal + Drop, M: Drop> SocketPort<R,
         if self.register(number) {
             return Some(number);
         }
-        self.close_line(number);
+        self.close_socket(number);
         None
     }
 
     fn register(&mut self, number: usize) -> bool {
-        let Some(line) = self.lines.get_mut(number) else {
+        let Some(socket) = self.sockets.get_mut(number) else {
             return false;
         };
         let interests = Interest::READABLE | Interest::WRITABLE;
         let registry = self.poll.registry();
         registry
-            .register(&mut line.stream, Token(number), interests)
+            .register(&mut socket.stream, Token(number), interests)
             .is_ok()
     }
 
     // A stream that is dropped is closed, and leaves the poll.
-    fn close_line(&mut self, number: usize) {
-        drop(self.lines.try_remove(number));
+    fn close_socket(&mut self, number: usize) {
+        drop(self.sockets.try_remove(number));
     }
 
     // What another worker handed in next.
     fn next_parcel(&self) -> Option<Happening<M>> {
-        match self.parcels.try_recv(&self.rt) {
-            Ok(Parcel::Mail(mail)) => Some(Happening::Mail(mail)),
-            Ok(Parcel::Stop) => Some(Happening::Ended),
+        match self.deliveries.try_recv(&self.rt) {
+            Ok(Delivery::Mail(mail)) => Some(Happening::Mail(mail)),
+            Ok(Delivery::Stop) => Some(Happening::Ended),
             Err(_) => None,
         }
     }
@@ -205,18 +205,18 @@ impl<R: Net + Wait + Clock + Eprint + AllocGlobal + Drop, M: Drop> SocketPort<R,
                 address,
                 ticket,
             } => {
-                let line = self.add(stream, address, Stage::Connected)?;
-                Some(Happening::Client { line, ticket })
+                let number = self.add(stream, address, Stage::Connected)?;
+                Some(Happening::Client { number, ticket })
             }
             Newcomer::Peer { stream, address } => {
-                let line = self.add(stream, address, Stage::Connected)?;
-                Some(Happening::Peer { line })
+                let number = self.add(stream, address, Stage::Connected)?;
+                Some(Happening::Peer { number })
             }
             Newcomer::Leave { ticket } => Some(Happening::Leave { ticket }),
         }
     }
 
-    // What was handed in next: parcels and newcomers by turns, as long as both are there.
+    // What was handed in next: deliveries and newcomers by turns, as long as both are there.
     fn next_handed(&mut self) -> Option<Happening<M>> {
         let is_turn_of_parcels = self.is_turn_of_parcels;
         self.is_turn_of_parcels = !is_turn_of_parcels;
@@ -264,34 +264,34 @@ impl<R: Net + Wait + Clock + Eprint + AllocGlobal + Drop, M: Drop> SocketPort<R,
         }
     }
 
-    // An event may be an old one, of a line that is gone or whose number another one has now. None where it says nothing.
+    // An event may be an old one, of a socket that is gone or whose number another one has now. None where it says nothing.
     fn read_event(&mut self, event: &Readiness) -> Option<Happening<M>> {
         if event.token() == WAKER {
             return None;
         }
-        let line = event.token().0;
-        let kept = self.lines.get_mut(line)?;
+        let number = event.token().0;
+        let kept = self.sockets.get_mut(number)?;
         if let Stage::Connecting(what) = kept.stage {
-            return self.read_outcome(line, what);
+            return self.read_outcome(number, what);
         }
         Some(Happening::Ready {
-            line,
+            number,
             readable: event.is_readable() || event.is_read_closed() || event.is_error(),
             writable: event.is_writable() || event.is_write_closed(),
         })
     }
 
-    fn read_outcome(&mut self, line: usize, what: Dial) -> Option<Happening<M>> {
-        let kept = self.lines.get_mut(line)?;
+    fn read_outcome(&mut self, number: usize, what: Dial) -> Option<Happening<M>> {
+        let kept = self.sockets.get_mut(number)?;
         match kept.outcome() {
             Outcome::Pending => None,
             Outcome::Connected => {
                 kept.stage = Stage::Connected;
-                Some(Happening::Opened { line, what })
+                Some(Happening::Opened { number, what })
             }
             Outcome::Failed => {
-                self.close_line(line);
-                Some(Happening::Refused { line, what })
+                self.close_socket(number);
+                Some(Happening::Refused { number, what })
             }
         }
     }
@@ -333,9 +333,9 @@ impl<R: Net + Wait + Clock + Eprint + AllocGlobal + Drop, M: Drop> Port for Sock
     }
 
     // What a worker opened is closed by its own value alone.
-    fn give_up(&mut self, line: usize) {
-        match self.lines.get(line) {
-            Some(kept) if kept.stage != Stage::Open => self.close_line(line),
+    fn give_up(&mut self, number: usize) {
+        match self.sockets.get(number) {
+            Some(kept) if kept.stage != Stage::Open => self.close_socket(number),
             _ => {}
         }
     }
@@ -348,7 +348,7 @@ impl<R: Net + Wait + Clock + Eprint + AllocGlobal + Drop, M: Drop> Port for Sock
             return Err(PortFault);
         };
         match self.add(stream, address, Stage::Connecting(what)) {
-            Some(line) => Ok(line),
+            Some(socket) => Ok(socket),
             None => Err(PortFault),
         }
     }
@@ -357,12 +357,12 @@ impl<R: Net + Wait + Clock + Eprint + AllocGlobal + Drop, M: Drop> Port for Sock
         self.addresses.of(what)
     }
 
-    fn post(&mut self, worker: usize, mail: M) -> Result<(), PortFault> {
+    fn send_mail(&mut self, worker: usize, mail: M) -> Result<(), PortFault> {
         let Some(mailbox) = self.mailboxes.get(worker) else {
             drop(mail);
             return Err(PortFault);
         };
-        mailbox.hand(&self.rt, Parcel::Mail(mail))
+        mailbox.hand(&self.rt, Delivery::Mail(mail))
     }
 
     fn workers(&self) -> usize {
@@ -392,10 +392,10 @@ impl<K: Kind, R: Net + Wait + Clock + Eprint + AllocGlobal + Drop, M: Drop> Carr
     for SocketPort<R, M> {
     type Connection = SocketConnection;
 
-    fn open(&mut self, line: usize) -> Option<SocketConnection> {
-        let kept = self.lines.get_mut(line)?;
+    fn open(&mut self, number: usize) -> Option<SocketConnection> {
+        let kept = self.sockets.get_mut(number)?;
         if kept.open() {
-            Some(SocketConnection::new(line))
+            Some(SocketConnection::new(number))
         } else {
             None
         }
@@ -406,30 +406,30 @@ impl<K: Kind, R: Net + Wait + Clock + Eprint + AllocGlobal + Drop, M: Drop> Carr
         connection: &mut SocketConnection,
         buffer: &mut [u8],
     ) -> Result<usize, Halt> {
-        let Some(line) = self.lines.get_mut(connection.number()) else {
+        let Some(number) = self.sockets.get_mut(connection.number()) else {
             return Err(Halt::Closed);
         };
-        let count = line.receive(buffer)?;
+        let count = number.receive(buffer)?;
         connection.note_received(&buffer[..count]);
         Ok(count)
     }
 
     fn send(&mut self, connection: &mut SocketConnection, bytes: &[u8]) -> Result<usize, Halt> {
-        let Some(line) = self.lines.get_mut(connection.number()) else {
+        let Some(number) = self.sockets.get_mut(connection.number()) else {
             return Err(Halt::Closed);
         };
-        let count = line.send(bytes)?;
+        let count = number.send(bytes)?;
         connection.note_sent(&bytes[..count]);
         Ok(count)
     }
 
     fn close(&mut self, connection: SocketConnection) {
-        self.close_line(connection.number());
+        self.close_socket(connection.number());
     }
 
     fn address(&self, connection: &SocketConnection) -> Option<SocketAddr> {
-        match self.lines.get(connection.number()) {
-            Some(line) => Some(line.address),
+        match self.sockets.get(connection.number()) {
+            Some(number) => Some(number.address),
             None => None,
         }
     }

@@ -22,7 +22,7 @@ pub(crate) enum Stage {
 
 // A connection, and who is at its other end.
 #[derive(Drop)]
-pub(crate) struct Line {
+pub(crate) struct Socket {
     pub(crate) stream: TcpStream,
     pub(crate) address: SocketAddr,
     pub(crate) stage: Stage,
@@ -36,7 +36,7 @@ pub(crate) enum Outcome {
     Pending,
 }
 
-impl Line {
+impl Socket {
     // Whether it is there to be opened. It is opened once.
     pub(crate) fn open(&mut self) -> bool {
         let is_connected = self.stage == Stage::Connected;
@@ -46,7 +46,7 @@ impl Line {
         is_connected
     }
 
-    // An event may be an old one, of a line that had the same number: then nothing is known yet.
+    // An event may be an old one, of a socket that had the same number: then nothing is known yet.
     pub(crate) fn outcome(&self) -> Outcome {
         match self.stream.take_error() {
             Ok(None) => {}
