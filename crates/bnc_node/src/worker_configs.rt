@@ -1,0 +1,136 @@
+//! What each worker begins with.
+ghost use Rattle.std.specs.Prelude.{◌≡◌, IfOk, map};
+ghost use Rattle.bnc_node.specs.WorkerConfigs as spec;
+ghost use Rattle.node_config.specs.Beginnings.{directory_of, names_of};
+
+use attach::Attachment;
+use bnc_ports::Lobby;
+use bnc_work::WorkerConfig;
+use byte_text::{NoMemory, Text};
+use gossip_link::{PeerTerms, Terms};
+use node_config::{Config, Network, Peer};
+use peer_lines::{Life, LinkFault, SharedWord};
+use std::alloc::Global;
+use upstream_session as upstream;
+use upstream_session::Channels;
+
+fn copies_of(alloc: Global, texts: &[Text]) -> Result<Vec<Text>, NoMemory>
+    ensures { IfOk result (λ copies. copies.items ≡ texts.now) }
+{
+    let mut copies = Vec::new(alloc);
+    for text in texts {
+        let copy = text.try_clone(alloc)?;
+        if copies.push(copy).is_err() {
+            return Err(NoMemory);
+        }
+    }
+    Ok(copies)
+}
+
+fn session_of(alloc: Global, network: &Network) -> Result<upstream::Config, NoMemory>
+    ensures { IfOk result (λ session. session ≡ spec.session_of network.now) }
+{
+    let account = network.account.try_clone(alloc)?;
+    let name = network.name.try_clone(alloc)?;
+    let nick = network.nick.try_clone(alloc)?;
+    let user = network.user.try_clone(alloc)?;
+    let channels = Channels::of(copies_of(alloc, &network.channels)?);
+    Ok(upstream::Config {
+        account,
+        network: name,
+        nick,
+        user,
+        channels,
+    })
+}
+
+fn sessions_of(alloc: Global, networks: &[Network]) -> Result<Vec<upstream::Config>, NoMemory>
+    ensures { IfOk result (λ sessions. sessions.items ≡ spec.sessions_of networks.now) }
+{
+    let mut sessions = Vec::new(alloc);
+    for network in networks {
+        let session = session_of(alloc, network)?;
+        if sessions.push(session).is_err() {
+            return Err(NoMemory);
+        }
+    }
+    Ok(sessions)
+}
+
+fn word_of(alloc: Global, word: &SharedWord) -> Result<SharedWord, NoMemory>
+    ensures { IfOk result (λ copy. copy ≡ word.now) }
+{
+    match SharedWord::new(alloc, word.as_bytes()) {
+        Ok(word) => Ok(word),
+        Err(_) => Err(NoMemory),
+    }
+}
+
+fn peer_terms_of(alloc: Global, peer: &Peer) -> Result<PeerTerms, NoMemory>
+    ensures { IfOk result (λ terms. terms ≡ spec.peer_terms_of peer.now) }
+{
+    let name = peer.name.try_clone(alloc)?;
+    Ok(PeerTerms {
+        name,
+        version: peer.version,
+    })
+}
+
+fn all_peer_terms_of(alloc: Global, peers: &[Peer]) -> Result<Vec<PeerTerms>, NoMemory>
+    ensures { IfOk result (λ all. all.items ≡ map spec.peer_terms_of peers.now) }
+{
+    let mut all = Vec::new(alloc);
+    for peer in peers {
+        let terms = peer_terms_of(alloc, peer)?;
+        if all.push(terms).is_err() {
+            return Err(NoMemory);
+        }
+    }
+    Ok(all)
+}
+
+fn terms_of(alloc: Global, config: &Config, incarnation: u64) -> Result<Terms, NoMemory>
+    ensures { IfOk result (λ terms. terms ≡ spec.terms_of config.now incarnation) }
+{
+    let word = word_of(alloc, &config.peer_word)?;
+    let me = Life::new(config.node.try_clone(alloc)?, incarnation);
+    let peers = all_peer_terms_of(alloc, &config.peers)?;
+    Ok(Terms::new(word, me, peers))
+}
+
+// What a worker begins with whose clients come in at that lobby: all else is what the configuration says.
+pub(crate) fn worker_config_of<X: Attachment>(
+    alloc: Global,
+    config: &Config,
+    incarnation: u64,
+    lobby: Lobby<X>,
+) -> Result<WorkerConfig<X>, NoMemory>
+    ensures lobby { IfOk result (λ made. made.lobby ≡ lobby) }
+    ensures cluster { IfOk result (λ made. made.cluster ≡ config.now.name) }
+    ensures maximum { IfOk result (λ made. made.maximum ≡ config.now.maximum) }
+    ensures directory { IfOk result (λ made. made.directory
+        ≡ directory_of config.now.accounts.items config.now.networks.items) }
+    ensures networks { IfOk result (λ made. made.networks.items
+        ≡ spec.sessions_of config.now.networks.items) }
+    ensures terms { IfOk result (λ made. made.terms ≡ spec.terms_of config.now incarnation) }
+    ensures peers { IfOk result (λ made. made.peers.items
+        ≡ names_of config.now.peers.items) }
+    ensures retain_days { IfOk result (λ made. made.retain_days
+        ≡ config.now.limits.retain_days) }
+{
+    let cluster = config.name.try_clone(alloc)?;
+    let directory = config.directory(alloc)?;
+    let networks = sessions_of(alloc, &config.networks)?;
+    let terms = terms_of(alloc, config, incarnation)?;
+    let peers = config.peer_names(alloc)?;
+    Ok(WorkerConfig {
+        lobby,
+        cluster,
+        maximum: config.maximum,
+        directory,
+        networks,
+        terms,
+        peers,
+        retain_days: config.limits.retain_days,
+    })
+}

@@ -1,6 +1,0 @@
-use Rattle.std.proofs.Common.{◌≡◌, map, take}
-use Rattle.bnc_serve.specs.Stations.{peer_terms_of}
-use Rattle.bnc_serve.proofs.stations.all_peer_terms_of.Given as goal
-
-abbrev pub invariant-loop-peer : goal.invariant-loop-peer
-invariant-loop-peer l = l.all.items ≡ map peer_terms_of (take l.peer-index l.peers)

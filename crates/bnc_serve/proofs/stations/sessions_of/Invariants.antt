@@ -1,6 +1,0 @@
-use Rattle.std.proofs.Common.{◌≡◌, take}
-use Rattle.bnc_serve.specs.Stations.{sessions_of}
-use Rattle.bnc_serve.proofs.stations.sessions_of.Given as goal
-
-abbrev pub invariant-loop-network : goal.invariant-loop-network
-invariant-loop-network l = l.sessions.items ≡ sessions_of (take l.network-index l.networks)
