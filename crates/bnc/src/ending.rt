@@ -2,7 +2,7 @@
 ghost use Rattle.std.specs.Prelude.{◌≡◌};
 ghost use Rattle.bnc.specs.Status.{status_of, end_of_file, end_of_words};
 
-use bnc_serve::ServeFault;
+use bnc_node::ServeFault;
 use bnc_server::ReplayFault;
 use chat_change::ChangeFault;
 use node_config::ConfigFault;
@@ -12,7 +12,7 @@ use std::io::ErrorKind;
 const USAGE: &str = "usage: bnc replay <account> <network> <nick> | bnc serve <config>";
 
 /// Why the program ends before its work is done.
-#[derive(Clone, Copy, Debug, PartialEq, Eq)]
+#[derive(Clone, Copy)]
 pub(crate) enum End<'a> {
     /// The words are no command, or a name is refused.
     Usage,

@@ -1,7 +1,7 @@
 //! The bouncer. `bnc replay <account> <network> <nick>` answers the script on standard input; `bnc serve <config>` runs a
 //! node.
 //!
-//! The program reads its words, hands the devices to `bnc_server` or `bnc_serve`, and says by its status how it ended: 0
+//! The program reads its words, hands the devices to `bnc_server` or `bnc_node`, and says by its status how it ended: 0
 //! once all is done, 2 for its words, 3 for want of memory, 4 for a device or a file, 5 for the configuration. The whole of
 //! a refusal stands on standard error. Read `end_of_program` first, which does all of it; `exit` says which status each end
 //! has.
@@ -18,7 +18,7 @@ ghost use Rattle.bnc.specs.Serving.{ServesPath};
 ghost use Rattle.bnc.specs.Replaying.{Replays};
 
 use attach::{Boxed, RingClient};
-use bnc_serve::{Prepared, ServeFault, WorkEnd, prepare, run_prepared};
+use bnc_node::{Prepared, ServeFault, WorkEnd, prepare, run_prepared};
 use ending::End;
 use node_config::Config;
 use replaying::replay_script;
@@ -116,10 +116,10 @@ fn main(rt: HostRuntime) -> ExitCode {
     let serve = move |config: &Config| -> Result<Vec<WorkEnd>, ServeFault> {
         let Prepared {
             intake,
-            posts,
+            beginnings,
             floors,
         } = prepare(handle, config)?;
-        run_prepared(handle, intake, posts, floors, boxed)
+        run_prepared(handle, intake, beginnings, floors, boxed)
     };
     let done = end_of_program(alloc, &words, &mut rt.stdin(), &mut output, read, serve);
     exit(&rt, done)

@@ -5,7 +5,7 @@ ghost use Rattle.std.specs.List.{All};
 ghost use Rattle.bnc.specs.Serving.{IsConfigOf, IsEndOfRun, Serves};
 
 use crate::ending::End;
-use bnc_serve::{ServeFault, WorkEnd};
+use bnc_node::{ServeFault, WorkEnd};
 use node_config::{Config, read_config};
 use std::alloc::Global;
 use std::io;
