@@ -1,6 +1,6 @@
 //! The gate of a case.
 use bnc_ports::Gate;
-use std::sync::atomic::{AtomicU64, Ordering};
+use std::sync::atomic::{AtomicBool, Ordering};
 use std::thread;
 use std::time::{Clock, Duration};
 
@@ -10,19 +10,36 @@ const TURNS: u64 = 10_000;
 /// Lets every answer through, or none; or holds each until the other of two workers has come to the gate too.
 #[derive(Drop)]
 pub struct Latch<R> {
-    pub rt: R,
-    pub is_open: bool,
-    pub holds: bool,
-    pub come: [AtomicU64; 2],
+    rt: R,
+    is_open: bool,
+    holds: bool,
+    // whether the first worker has come, and whether the other one has
+    first: AtomicBool,
+    other: AtomicBool,
 }
 
 impl<R: Clock> Latch<R> {
+    /// A gate to which nobody has come.
+    pub fn new(rt: R, is_open: bool, holds: bool) -> Latch<R> {
+        Latch {
+            rt,
+            is_open,
+            holds,
+            first: AtomicBool::new(false),
+            other: AtomicBool::new(false),
+        }
+    }
+
     // Whether the other worker comes to the gate before long.
     fn both_come(&self, worker: usize) -> bool {
-        let mine = worker % 2;
-        self.come[mine].store(1, Ordering::SeqCst);
+        let (mine, theirs) = if worker == 0 {
+            (&self.first, &self.other)
+        } else {
+            (&self.other, &self.first)
+        };
+        mine.store(true, Ordering::SeqCst);
         for _ in 0..TURNS {
-            if self.come[1 - mine].load(Ordering::SeqCst) == 1 {
+            if theirs.load(Ordering::SeqCst) {
                 return true;
             }
             thread::sleep(&self.rt, Duration::from_millis(1));

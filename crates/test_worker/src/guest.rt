@@ -6,7 +6,7 @@ ghost use Rattle.client_session.specs.declared.effect.Effect.{Effect as Done};
 ghost use Rattle.client_session.specs.declared.effect.Effect.TheVariants as effect;
 ghost use Rattle.test_worker.specs.Guest.{HasCome, AreNames};
 
-use crate::station::{directory_of, names_at};
+use crate::worker_config::{directory_of, names_at};
 use byte_text::Text;
 use chat_state::State;
 use client_directory::{Directory, Entry};
@@ -55,6 +55,26 @@ impl Guest {
         }
     }
 
+    // The session goes on by a line of the client.
+    fn go_on(&mut self, alloc: Global, directory: &Directory, line: &[u8]) -> Option<()> {
+        self.hear(alloc, directory, line)?;
+        Some(())
+    }
+
+    // The client registers with a network of an account.
+    fn register(
+        &mut self,
+        alloc: Global,
+        directory: &Directory,
+        account: &str,
+        network: &str,
+    ) -> Option<()> {
+        self.go_on(alloc, directory, b"PASS s3cret")?;
+        self.go_on(alloc, directory, b"NICK al")?;
+        let user = format!(in alloc; "USER {account}/{network} 0 * :Al").ok()?;
+        self.go_on(alloc, directory, user.as_bytes())
+    }
+
     // The names of the account and of the network with which the session is registered.
     fn names(&self, alloc: Global) -> Option<(Text, Text)>
         ensures { IfSome result (λ names. AreNames self.now.session names.0 names.1) }
@@ -91,10 +111,7 @@ fn directory_with(alloc: Global, account: &str, network: &str) -> Option<Directo
 pub fn said_to(alloc: Global, network: usize, line: &str) -> Option<SaidLine> {
     let (account, name) = names_at(network);
     let directory = directory_with(alloc, account, name)?;
-    let user = format!(in alloc; "USER {account}/{name} 0 * :Al").ok()?;
     let mut guest = Guest::new(alloc)?;
-    guest.hear(alloc, &directory, b"PASS s3cret")?;
-    guest.hear(alloc, &directory, b"NICK al")?;
-    guest.hear(alloc, &directory, user.as_bytes())?;
+    guest.register(alloc, &directory, account, name)?;
     guest.say(alloc, &directory, line.as_bytes())
 }

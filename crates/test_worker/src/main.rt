@@ -52,15 +52,20 @@
 
 mod act;
 mod connection;
+mod entrance;
 mod gate;
 mod guest;
 mod line;
+mod lines;
 mod mail;
 mod play;
 mod port;
+mod script;
 mod server;
 mod setting;
-mod station;
+mod times;
+mod turn;
+mod worker_config;
 
 use play::played;
 use setting::{Setting, USUAL, setting_in};

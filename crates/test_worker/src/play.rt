@@ -4,36 +4,43 @@ ghost use Rattle.shared_node.specs.Names.{IsNamed};
 use crate::gate::Latch;
 use crate::port::MemoryPort;
 use crate::setting::Setting;
-use crate::station::{posts, station_of};
+use crate::worker_config::{posts, worker_config_of};
 use attach::RingClient;
-use bnc_work::{Mail, Station, WorkEnd, work, work_all};
+use bnc_work::{Mail, WorkEnd, WorkerConfig, work, work_all};
 use shared_node::{Naming, Pass, SharedNode, Unnamed};
 use std::alloc::{AllocError, Global};
 use std::marker::Brand;
 use std::sync::Wait;
-use std::sync::atomic::AtomicU64;
 use std::thread::Threads;
 use std::time::Clock;
 
 /// A worker that is to begin: its pass, what it begins with, and its port.
-type Job<'a, J, R> = (Pass<J>, Station<RingClient>, &'a mut MemoryPort<R>);
+type Job<'a, J, R> = (Pass<J>, WorkerConfig<RingClient>, &'a mut MemoryPort<R>);
 
-// A worker for each port. The first one's pass puts the posts.
-fn jobs<'a, J: Naming, R: Wait + Drop + Copy>(
+// Puts so many posts.
+fn put_posts<J: Naming, R: Wait + Drop>(
     rt: &R,
     alloc: Global,
     node: &SharedNode<J, &R>,
+    pass: &mut Pass<J>,
+    count: u64,
+) -> Option<()> {
+    let changes = posts(alloc, count)?;
+    node.put(rt, pass, changes.as_slice()).ok()?;
+    Some(())
+}
+
+// A worker for each port.
+fn jobs<'a, J: Naming, R: Wait + Drop>(
+    alloc: Global,
     passes: Vec<Pass<J>>,
     setting: Setting<'_>,
     ports: &'a mut [MemoryPort<R>],
 ) -> Option<Vec<Job<'a, J, R>>> {
-    let mut passes = passes;
-    let changes = posts(alloc, setting.posts)?;
-    node.put(rt, passes.first_mut()?, changes.as_slice()).ok()?;
     let mut all = Vec::new(alloc);
     for (pass, port) in passes.into_iter().zip(ports.iter_mut()) {
-        let station = station_of(alloc, setting, &mut port.lobby)?;
-        all.push((pass, station, port)).ok()?;
+        let worker_config = worker_config_of(alloc, setting, &mut port.entrance.lobby)?;
+        all.push((pass, worker_config, port)).ok()?;
     }
     Some(all)
 }
@@ -50,23 +57,34 @@ where
     R: Threads + Wait + Clock + AllocGlobal + Copy + Send + Sync + Drop,
     requires { IsNamed J.book J.name J.parts name }
 {
-    // (the borrow checker knows no type that stands in a port's `Mail` alone)
-    let _: Option<&Mail> = None;
     let alloc = rt.alloc();
-    let gate = Latch {
-        rt: *rt,
-        is_open: setting.is_open,
-        holds: ports.len() == 2,
-        come: [AtomicU64::new(0), AtomicU64::new(0)],
-    };
-    let (node, passes) = SharedNode::<J, &R>::new(alloc, rt, name).ok()?;
-    let mut all = jobs(rt, alloc, &node, passes, setting, ports)?;
+    let gate = Latch::new(*rt, setting.is_open, ports.len() == 2);
+    let (node, mut passes) = SharedNode::<J, &R>::new(alloc, rt, name).ok()?;
+    // the first one's pass puts them
+    put_posts(rt, alloc, &node, passes.first_mut()?, setting.posts)?;
+    let all = jobs(alloc, passes, setting, ports)?;
     if all.len() == 1 {
-        let (pass, station, port) = all.pop()?;
-        let end = work(rt, setting.worker, &node, pass, station, port, &gate);
-        return vec![in alloc; end].ok();
+        return run_one(rt, setting.worker, &node, all, &gate);
     }
     run_all(rt, &node, all, &gate)
+}
+
+// Runs the first of these workers, as the one of that number.
+fn run_one<J: Naming, R>(
+    rt: &R,
+    worker: usize,
+    node: &SharedNode<J, &R>,
+    all: Vec<Job<'_, J, R>>,
+    gate: &Latch<R>,
+) -> Option<Vec<WorkEnd>>
+where
+    R: Wait + Clock + AllocGlobal + Copy + Sync + Drop,
+{
+    // (the borrow checker knows no type that stands in a port's `Mail` alone)
+    let _: Option<&Mail> = None;
+    let (pass, worker_config, port) = all.into_iter().next()?;
+    let end = work(rt, worker, node, pass, worker_config, port, gate);
+    vec![in rt.alloc(); end].ok()
 }
 
 // Runs workers, each in a thread of its own.
@@ -93,10 +111,15 @@ fn name_of(end: WorkEnd) -> &'static str {
     }
 }
 
-// Tells what came of the last act, and how the work ended.
-fn tell_end<R: Wait + Drop>(port: &mut MemoryPort<R>, end: WorkEnd) -> Result<(), AllocError> {
+// Tells what came of the last act and how the work ended, and appends all that the port told.
+fn tell_end<R: Wait + Drop>(
+    port: &mut MemoryPort<R>,
+    end: WorkEnd,
+    told: &mut Vec<u8>,
+) -> Result<(), AllocError> {
     port.tell_lines()?;
-    port.tell(name_of(end))
+    port.tell(name_of(end))?;
+    told.extend_from_slice(port.told())
 }
 
 // What a script came to: with a line `--` between, where there are two workers.
@@ -110,8 +133,7 @@ fn told_by<R: Wait + Drop>(
         if !told.is_empty() {
             told.extend_from_slice(b"--\n")?;
         }
-        tell_end(port, *end)?;
-        told.extend_from_slice(port.told())?;
+        tell_end(port, *end, &mut told)?;
     }
     Ok(told)
 }

@@ -2,31 +2,20 @@
 ghost use Rattle.std.specs.Prelude.{◌≡◌, ◌≤◌, ◌++◌, [], length, take, IfOk, IfSome, OnErr};
 ghost use Rattle.bnc_ports.specs.Outgoing.{BeginsOf};
 
-use crate::act::{Act, Turn, act_in, range_in};
+use crate::act::{Act, act_in, range_in};
 use crate::connection::MemoryConnection;
-use crate::line::Line;
+use crate::entrance::Entrance;
+use crate::lines::Lines;
 use crate::mail::{mail_in, tell_mail};
+use crate::script::Script;
 use crate::setting::Setting;
-use attach::{Clerk, Places, RingClient};
-use bnc_ports::{
-    Arrival, Carries, Clocks, Connection, Dial, Event, Halt, Happening, Kind, Lobby, Port,
-    PortFault, Waiting,
-};
+use crate::times::Times;
+use crate::turn::{Sign, Turn, play_turn};
+use bnc_ports::{Carries, Clocks, Connection, Dial, Event, Halt, Happening, Kind, Port, PortFault};
 use bnc_work::Mail;
-use crossbeam_channel::Sender;
 use std::alloc::{AllocError, Global};
-use std::collections::VecDeque;
 use std::net::SocketAddr;
 use std::sync::Wait;
-
-/// The first connection that is begun has this number, and the next one the next.
-const DIALED: usize = 10;
-
-/// So many connections a port has at most.
-const LINES: usize = 128;
-
-/// What the monotonic clock reads at first, in milliseconds.
-const UPTIME: u64 = 500_000;
 
 /// A worker that asks more often than this what comes next does so for ever.
 const TURNS: u64 = 1_000_000;
@@ -34,69 +23,19 @@ const TURNS: u64 = 1_000_000;
 /// A port of memory. It plays an act where its worker has nothing to do and each other end took what it takes.
 #[derive(Drop)]
 pub struct MemoryPort<R: Wait + Drop> {
-    rt: R,
     alloc: Global,
-    acts: VecDeque<String>,
-    // the rest of an act that happens to several connections
-    parts: VecDeque<String>,
+    script: Script,
+    times: Times,
+    lines: Lines,
+    /// Where its clients come in.
+    pub entrance: Entrance<R>,
+    // so often the worker asked what comes next
     turns: u64,
-    clocks: Clocks,
-    // so many milliseconds of an act are still to pass
-    to_pass: u64,
-    // so many of the next acts happen at once
-    together: usize,
+    workers: usize,
     // so much mail waits for the other worker
     backlog: usize,
-    is_stopped: bool,
-    lines: Vec<Line>,
-    // None where no connection can be begun
-    dialed: Option<usize>,
-    workers: usize,
-    clerk: Clerk,
-    arrivals: Sender<Arrival<RingClient>>,
-    /// Where its clients come in, until its worker begins.
-    pub lobby: Option<Lobby<RingClient>>,
-    ticket: u64,
+    // each act as it stands, and behind it what came of it, with four spaces before it
     told: Vec<u8>,
-}
-
-fn lines_of(alloc: Global) -> Result<Vec<Line>, AllocError> {
-    let mut lines = Vec::new(alloc);
-    for _ in 0..LINES {
-        lines.push(Line::new(alloc, None))?;
-    }
-    Ok(lines)
-}
-
-// The lines of a case that begin with no space.
-fn acts_of(alloc: Global, script: &str) -> Result<VecDeque<String>, AllocError> {
-    let mut acts = VecDeque::new(alloc);
-    for line in script.lines() {
-        if !line.starts_with(" ") {
-            acts.push_back(String::from_str(alloc, line)?)?;
-        }
-    }
-    Ok(acts)
-}
-
-// The bytes that a text spells.
-fn bytes_of(alloc: Global, text: &str) -> Result<Vec<u8>, AllocError> {
-    let with_nul = text.replace(alloc, "␀", "\0")?;
-    let with_cr = with_nul.replace(alloc, "␍", "\r")?;
-    Vec::from_slice(alloc, with_cr.as_bytes())
-}
-
-fn line_of(alloc: Global, text: &str) -> Option<Vec<u8>> {
-    let mut bytes = bytes_of(alloc, text).ok()?;
-    bytes.extend_from_slice(b"\r\n").ok()?;
-    Some(bytes)
-}
-
-// A line of so many bytes, without its ending.
-fn long_line(alloc: Global, count: usize) -> Option<Vec<u8>> {
-    let mut bytes = vec![in alloc; b'x'; count].ok()?;
-    bytes.extend_from_slice(b"\r\n").ok()?;
-    Some(bytes)
 }
 
 fn tell_line(told: &mut Vec<u8>, margin: &str, text: &str) -> Result<(), AllocError> {
@@ -105,41 +44,79 @@ fn tell_line(told: &mut Vec<u8>, margin: &str, text: &str) -> Result<(), AllocEr
     told.extend_from_slice(b"\n")
 }
 
-fn ready(line: usize, readable: bool, writable: bool) -> Happening<Mail> {
-    Happening::Ready {
-        line,
-        readable,
-        writable,
+// Tells which place a client got that came by a connection.
+fn tell_place(
+    alloc: Global,
+    told: &mut Vec<u8>,
+    number: usize,
+    place: usize,
+) -> Result<(), AllocError> {
+    let text = format!(in alloc; "{number} place {place}")?;
+    tell_line(told, "    ", text.as_str())
+}
+
+// Tells that a connection was begun.
+fn tell_dial(
+    alloc: Global,
+    told: &mut Vec<u8>,
+    number: usize,
+    what: Dial,
+) -> Result<(), AllocError> {
+    let (kind, place) = match what {
+        Dial::Network(network) => ("network", network),
+        Dial::Peer(peer) => ("peer", peer),
+    };
+    let text = format!(in alloc; "{number} dials {kind} {place}")?;
+    tell_line(told, "    ", text.as_str())
+}
+
+// Tells what was told to another worker.
+fn tell_post(
+    alloc: Global,
+    told: &mut Vec<u8>,
+    worker: usize,
+    mail: &Mail,
+) -> Result<(), AllocError> {
+    let text = format!(in alloc; "    to worker {worker}: ")?;
+    told.extend_from_slice(text.as_bytes())?;
+    tell_mail(alloc, told, mail)?;
+    told.extend_from_slice(b"\n")
+}
+
+// Tells what the operator was told.
+fn tell_event(alloc: Global, told: &mut Vec<u8>, event: &Event<'_>) -> Result<(), AllocError> {
+    let text = format!(in alloc; "told {event}")?;
+    tell_line(told, "    ", text.as_str())
+}
+
+// What comes next by a sign of a connection.
+fn happening(number: usize, sign: Sign) -> Happening<Mail> {
+    match sign {
+        Sign::Nothing => Happening::Nothing,
+        Sign::Ready { readable, writable } => Happening::Ready {
+            number,
+            readable,
+            writable,
+        },
+        Sign::Opened(what) => Happening::Opened { number, what },
+        Sign::Refused(what) => Happening::Refused { number, what },
     }
 }
 
 impl<R: Wait + Drop> MemoryPort<R> {
     /// A port on which a script is played. None is want of memory.
     pub fn new(rt: R, alloc: Global, setting: Setting<'_>, script: &str) -> Option<MemoryPort<R>> {
-        let acts = acts_of(alloc, script).ok()?;
-        let lines = lines_of(alloc).ok()?;
-        let (arrivals, coming) = crossbeam_channel::unbounded(alloc).ok()?;
+        let script = Script::new(alloc, script).ok()?;
+        let lines = Lines::new(alloc, setting.can_dial).ok()?;
         Some(MemoryPort {
-            rt,
             alloc,
-            acts,
-            parts: VecDeque::new(alloc),
-            turns: 0,
-            clocks: Clocks {
-                wall: setting.clock,
-                monotonic: UPTIME,
-            },
-            to_pass: 0,
-            together: 0,
-            backlog: 0,
-            is_stopped: false,
+            script,
+            times: Times::new(setting.clock),
             lines,
-            dialed: if setting.can_dial { Some(DIALED) } else { None },
+            entrance: Entrance::new(rt, alloc, setting.places)?,
+            turns: 0,
             workers: setting.workers,
-            clerk: Places::new(alloc, setting.places).ok()?,
-            arrivals,
-            lobby: Some(Lobby::new(coming, Waiting::new(alloc, setting.places).ok()?)),
-            ticket: 0,
+            backlog: 0,
             told: Vec::new(alloc),
         })
     }
@@ -157,25 +134,7 @@ impl<R: Wait + Drop> MemoryPort<R> {
 
     /// Tells what was sent, and which connections were closed, since the last telling.
     pub fn tell_lines(&mut self) -> Result<(), AllocError> {
-        let MemoryPort {
-            alloc,
-            lines,
-            told,
-            ..
-        } = self;
-        for (number, line) in lines.iter_mut().enumerate() {
-            line.tell(*alloc, number, told)?;
-        }
-        Ok(())
-    }
-
-    fn line(&mut self, number: usize) -> Option<&mut Line> {
-        self.lines.get_mut(number)
-    }
-
-    // The first connection whose other end took what it takes at once, and takes more now.
-    fn refilled(&mut self) -> Option<usize> {
-        self.lines.iter_mut().position(|line| line.refill())
+        self.lines.tell(&mut self.told)
     }
 
     // What comes next. None is a port that fails.
@@ -184,206 +143,103 @@ impl<R: Wait + Drop> MemoryPort<R> {
         if self.turns > TURNS {
             return None;
         }
-        if self.together != 0 {
-            self.together = self.together.saturating_sub(1);
+        if self.script.is_together() {
             return self.next_act();
         }
         if patience == 0 {
             return Some(Happening::Nothing);
         }
-        if let Some(line) = self.refilled() {
-            return Some(ready(line, false, true));
+        if let Some(line) = self.lines.refilled() {
+            return Some(happening(line, Sign::WRITABLE));
         }
-        if self.to_pass != 0 {
-            let time = self.to_pass.min(patience);
-            self.to_pass = self.to_pass.saturating_sub(time);
-            self.pass(time);
+        if self.times.pass(patience) {
             return Some(Happening::Nothing);
         }
-        if let Some(part) = self.parts.pop_front() {
-            return self.play_text(part.as_str());
+        self.next_part()
+    }
+
+    // The next part of an act that happens to several connections, or the next act.
+    fn next_part(&mut self) -> Option<Happening<Mail>> {
+        if let Some(part) = self.script.next_part() {
+            return self.play(part.as_str());
         }
         self.tell_lines().ok()?;
         self.next_act()
     }
 
-    // So many milliseconds pass, by both clocks.
-    fn pass(&mut self, time: u64) {
-        let Clocks { wall, monotonic } = self.clocks;
-        self.clocks = Clocks {
-            wall: wall.saturating_add(time),
-            monotonic: monotonic.saturating_add(time),
-        };
+    // The next act.
+    fn next_act(&mut self) -> Option<Happening<Mail>> {
+        match self.script.next_act() {
+            Some(text) => self.play_act(text.as_str()),
+            None => Some(Happening::Ended),
+        }
     }
 
-    // The next act, which is told.
-    fn next_act(&mut self) -> Option<Happening<Mail>> {
-        let Some(text) = self.acts.pop_front() else {
-            return Some(Happening::Ended);
+    // Plays an act, which is told.
+    fn play_act(&mut self, text: &str) -> Option<Happening<Mail>> {
+        tell_line(&mut self.told, "", text).ok()?;
+        let Some((first, last, turn)) = range_in(text) else {
+            return self.play(text);
         };
-        tell_line(&mut self.told, "", text.as_str()).ok()?;
-        let Some((first, last, turn)) = range_in(text.as_str()) else {
-            return self.play_text(text.as_str());
-        };
-        for line in first..=last {
-            let part = format!(in self.alloc; "{line} {turn}").ok()?;
-            self.parts.push_back(part).ok()?;
-        }
+        self.script.spread(first, last, turn).ok()?;
         Some(Happening::Nothing)
     }
 
-    fn play_text(&mut self, text: &str) -> Option<Happening<Mail>> {
+    // Plays what happens once.
+    fn play(&mut self, text: &str) -> Option<Happening<Mail>> {
         match act_in(text)? {
-            Act::Wait(time) => self.to_pass = time,
-            Act::Ahead(time) => self.clocks.wall = self.clocks.wall.saturating_add(time),
-            Act::Back(time) => self.clocks.wall = self.clocks.wall.saturating_sub(time),
-            Act::Mail(text) => return Some(Happening::Mail(mail_in(self.alloc, text)?)),
+            Act::Wait(time) => self.times.wait(time),
+            Act::Ahead(time) => self.times.set_ahead(time),
+            Act::Back(time) => self.times.set_back(time),
+            Act::Stop => self.times.stop(),
             Act::Behind(count) => self.backlog = count,
-            Act::Together(count) => self.together = count,
+            Act::Together(count) => self.script.set_together(count),
+            Act::Mail(text) => return Some(Happening::Mail(mail_in(self.alloc, text)?)),
             Act::Leave(ticket) => return Some(Happening::Leave { ticket }),
-            Act::Fail => return None,
-            Act::Stop => self.is_stopped = true,
+            Act::Client(line, bound) => return self.bring_client(line, bound),
+            Act::Stray(line) => return self.bring_stray(line),
+            Act::Peer(line) => return self.bring_peer(line),
             Act::To(line, turn) => return self.play_turn(line, turn),
+            Act::Fail => return None,
         }
         Some(Happening::Nothing)
     }
 
     // What happens to a connection.
-    fn play_turn(&mut self, line: usize, turn: Turn<'_>) -> Option<Happening<Mail>> {
-        match turn {
-            Turn::Client(bound) => self.bring_client(line, bound),
-            Turn::Stray => self.bring_stray(line),
-            Turn::Peer => self.bring_peer(line),
-            Turn::Opens => self.end_dial(line, true),
-            Turn::Refused => self.end_dial(line, false),
-            Turn::Line(text) => self.bring(line, line_of(self.alloc, text)?, true),
-            Turn::Part(text) => self.bring(line, bytes_of(self.alloc, text).ok()?, true),
-            Turn::Long(count) => self.bring(line, long_line(self.alloc, count)?, true),
-            Turn::Early(text) => self.bring(line, line_of(self.alloc, text)?, false),
-            Turn::Many(count, text) => self.bring_many(line, count, text),
-            Turn::Ends => self.end(line),
-            Turn::Gone => self.go(line),
-            Turn::Takes(at_once, most) => self.set_pace(line, at_once, most),
-            Turn::TakesAWrite(count) => self.set_mouthful(line, count),
-        }
+    fn play_turn(&mut self, number: usize, turn: Turn<'_>) -> Option<Happening<Mail>> {
+        let sign = play_turn(self.alloc, self.lines.at(number)?, turn)?;
+        Some(happening(number, sign))
     }
 
-    // Bytes come, of which the worker is told now, or with whatever comes next.
-    fn bring(&mut self, line: usize, bytes: Vec<u8>, is_told: bool) -> Option<Happening<Mail>> {
-        self.line(line)?.come(bytes.as_slice()).ok()?;
-        Some(if is_told {
-            ready(line, true, false)
-        } else {
-            Happening::Nothing
-        })
-    }
-
-    // A line comes so many times, with whatever comes next.
-    fn bring_many(&mut self, line: usize, count: usize, text: &str) -> Option<Happening<Mail>> {
-        let bytes = line_of(self.alloc, text)?;
-        for _ in 0..count {
-            self.line(line)?.come(bytes.as_slice()).ok()?;
-        }
-        Some(Happening::Nothing)
-    }
-
-    // The other end sends nothing more.
-    fn end(&mut self, line: usize) -> Option<Happening<Mail>> {
-        self.line(line)?.end();
-        Some(ready(line, true, false))
-    }
-
-    // The other end is gone.
-    fn go(&mut self, line: usize) -> Option<Happening<Mail>> {
-        self.line(line)?.go();
-        Some(ready(line, true, true))
-    }
-
-    fn set_pace(&mut self, line: usize, at_once: usize, most: usize) -> Option<Happening<Mail>> {
-        self.line(line)?.set_pace(at_once, most);
-        Some(Happening::Nothing)
-    }
-
-    fn set_mouthful(&mut self, line: usize, count: usize) -> Option<Happening<Mail>> {
-        self.line(line)?.set_mouthful(count);
-        Some(Happening::Nothing)
-    }
-
-    // A new connection in the place of that number.
-    fn connect(&mut self, number: usize, dialed: Option<Dial>) -> Option<()> {
-        let alloc = self.alloc;
-        *self.line(number)? = Line::new(alloc, dialed);
-        Some(())
-    }
-
-    fn bring_peer(&mut self, line: usize) -> Option<Happening<Mail>> {
-        self.connect(line, None)?;
-        Some(Happening::Peer { line })
+    fn bring_peer(&mut self, number: usize) -> Option<Happening<Mail>> {
+        self.lines.connect(number, None)?;
+        Some(Happening::Peer { number })
     }
 
     // A client comes whose attachment isn't in the lobby.
-    fn bring_stray(&mut self, line: usize) -> Option<Happening<Mail>> {
-        self.connect(line, None)?;
-        self.ticket = self.ticket.saturating_add(1);
-        Some(Happening::Client {
-            line,
-            ticket: self.ticket,
-        })
+    fn bring_stray(&mut self, number: usize) -> Option<Happening<Mail>> {
+        self.lines.connect(number, None)?;
+        let ticket = self.entrance.take_ticket();
+        Some(Happening::Client { number, ticket })
     }
 
     // A client comes, if there is a place.
-    fn bring_client(&mut self, line: usize, bound: usize) -> Option<Happening<Mail>> {
-        let Ok(stand) = self.clerk.claim() else {
+    fn bring_client(&mut self, number: usize, bound: usize) -> Option<Happening<Mail>> {
+        let Some(stand) = self.entrance.claim() else {
             self.tell("no place").ok()?;
             return Some(Happening::Nothing);
         };
         let place = stand.place();
-        let attachment = RingClient::new(self.alloc, stand, bound).ok()?;
-        let arrival = Arrival {
-            ticket: self.ticket.saturating_add(1),
-            attachment,
-        };
-        self.arrivals.send(&self.rt, arrival).ok()?;
-        let text = format!(in self.alloc; "{line} place {place}").ok()?;
-        self.tell(text.as_str()).ok()?;
-        self.bring_stray(line)
-    }
-
-    // A connection that was begun is there, or can't be made.
-    fn end_dial(&mut self, line: usize, is_there: bool) -> Option<Happening<Mail>> {
-        let what = self.line(line)?.dialed()?;
-        Some(if is_there {
-            Happening::Opened { line, what }
-        } else {
-            Happening::Refused { line, what }
-        })
+        self.entrance.let_in(self.alloc, stand, bound)?;
+        tell_place(self.alloc, &mut self.told, number, place).ok()?;
+        self.bring_stray(number)
     }
 
     // Begins a connection.
     fn begin(&mut self, what: Dial) -> Option<usize> {
-        let number = self.dialed?;
-        self.connect(number, Some(what))?;
-        self.dialed = number.checked_add(1);
-        let (kind, place) = match what {
-            Dial::Network(network) => ("network", network),
-            Dial::Peer(peer) => ("peer", peer),
-        };
-        let text = format!(in self.alloc; "{number} dials {kind} {place}").ok()?;
-        self.tell(text.as_str()).ok()?;
+        let number = self.lines.begin(what)?;
+        tell_dial(self.alloc, &mut self.told, number, what).ok()?;
         Some(number)
-    }
-
-    fn tell_post(&mut self, worker: usize, mail: &Mail) -> Result<(), AllocError> {
-        let text = format!(in self.alloc; "    to worker {worker}: ")?;
-        self.told.extend_from_slice(text.as_bytes())?;
-        tell_mail(self.alloc, &mut self.told, mail)?;
-        self.told.push(b'\n')?;
-        Ok(())
-    }
-
-    fn tell_event(&mut self, event: &Event<'_>) -> Result<(), AllocError> {
-        let text = format!(in self.alloc; "told {event}")?;
-        self.tell(text.as_str())
     }
 }
 
@@ -394,9 +250,9 @@ impl<R: Wait + Drop> Port for &mut MemoryPort<R> {
         (**self).step(patience).ok_or(PortFault)
     }
 
-    fn give_up(&mut self, line: usize) {
-        if let Some(line) = self.lines.get_mut(line) {
-            line.give_up();
+    fn give_up(&mut self, number: usize) {
+        if let Some(number) = self.lines.at(number) {
+            number.give_up();
         }
     }
 
@@ -412,8 +268,8 @@ impl<R: Wait + Drop> Port for &mut MemoryPort<R> {
         address.parse::<SocketAddr>().ok()
     }
 
-    fn post(&mut self, worker: usize, mail: Mail) -> Result<(), PortFault> {
-        match (**self).tell_post(worker, &mail) {
+    fn send_mail(&mut self, worker: usize, mail: Mail) -> Result<(), PortFault> {
+        match tell_post(self.alloc, &mut self.told, worker, &mail) {
             Ok(()) => Ok(()),
             Err(_) => Err(PortFault),
         }
@@ -428,25 +284,21 @@ impl<R: Wait + Drop> Port for &mut MemoryPort<R> {
     }
 
     fn clocks(&mut self) -> Result<Clocks, PortFault> {
-        if self.is_stopped {
-            Err(PortFault)
-        } else {
-            Ok(self.clocks)
-        }
+        self.times.read()
     }
 
     fn report(&mut self, event: &Event<'_>) {
-        let _ = (**self).tell_event(event);
+        let _ = tell_event(self.alloc, &mut self.told, event);
     }
 }
 
 impl<K: Kind, R: Wait + Drop> Carries<K> for &mut MemoryPort<R> {
     type Connection = MemoryConnection;
 
-    fn open(&mut self, line: usize) -> Option<MemoryConnection> {
-        let kept = self.lines.get_mut(line)?;
+    fn open(&mut self, number: usize) -> Option<MemoryConnection> {
+        let kept = self.lines.at(number)?;
         if kept.open() {
-            Some(MemoryConnection::new(line))
+            Some(MemoryConnection::new(number))
         } else {
             None
         }
@@ -457,26 +309,26 @@ impl<K: Kind, R: Wait + Drop> Carries<K> for &mut MemoryPort<R> {
         connection: &mut MemoryConnection,
         buffer: &mut [u8],
     ) -> Result<usize, Halt> {
-        let Some(line) = self.lines.get_mut(connection.number()) else {
+        let Some(number) = self.lines.at(connection.number()) else {
             return Err(Halt::Closed);
         };
-        let count = line.take(buffer)?;
+        let count = number.take(buffer)?;
         connection.note_received(&buffer[..count]);
         Ok(count)
     }
 
     fn send(&mut self, connection: &mut MemoryConnection, bytes: &[u8]) -> Result<usize, Halt> {
-        let Some(line) = self.lines.get_mut(connection.number()) else {
+        let Some(number) = self.lines.at(connection.number()) else {
             return Err(Halt::Closed);
         };
-        let count = line.put(bytes)?;
+        let count = number.put(bytes)?;
         connection.note_sent(&bytes[..count]);
         Ok(count)
     }
 
     fn close(&mut self, connection: MemoryConnection) {
-        if let Some(line) = self.lines.get_mut(connection.number()) {
-            line.close();
+        if let Some(number) = self.lines.at(connection.number()) {
+            number.close();
         }
     }
 

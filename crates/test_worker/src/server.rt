@@ -1,10 +1,10 @@
 //! What sessions with networks' servers come to, as another worker tells it.
-use crate::station::config_at;
+use crate::worker_config::config_at;
 use byte_text::Text;
 use chat_change::Moment;
 use passed_lines::{Deed, LiveMessage, NetworkEntry, NetworkSession, PassedLine, ServerEffects};
-use shared_lines::SharedLine;
 use std::alloc::Global;
+use worker_io::SharedLine;
 
 /// A server that offers redactions.
 const REDACTIONS: [&[u8]; 2] = [
@@ -20,43 +20,55 @@ fn hear(alloc: Global, session: &mut NetworkSession, line: &[u8]) -> Option<Serv
     session.step(alloc, line, Moment::from_ms(AT)?).ok()
 }
 
+// The session goes on by a line of the server.
+fn go_on(alloc: Global, session: &mut NetworkSession, line: &[u8]) -> Option<()> {
+    hear(alloc, session, line)?;
+    Some(())
+}
+
 // A session with the server of that network, which isn't up yet.
-fn new_session(
-    alloc: Global,
-    network: usize,
-    nick: &str,
-    takes_redact: bool,
-) -> Option<NetworkSession> {
-    let mut config = config_at(alloc, network)?;
-    config.nick = Text::new(alloc, nick.as_bytes()).ok()?;
+fn new_session(alloc: Global, network: usize, nick: &str) -> Option<NetworkSession> {
     let node = Text::new(alloc, b"n1").ok()?;
-    let mut session = NetworkSession::new(alloc, config, node, 7, 1).ok()?;
-    if takes_redact {
-        for line in REDACTIONS.iter() {
-            hear(alloc, &mut session, line)?;
-        }
+    let config = config_at(alloc, network, nick)?;
+    NetworkSession::new(alloc, config, node, 7, 1).ok()
+}
+
+// The server offers redactions.
+fn offer_redactions(alloc: Global, session: &mut NetworkSession) -> Option<()> {
+    for line in REDACTIONS.iter() {
+        go_on(alloc, session, line)?;
     }
-    Some(session)
+    Some(())
 }
 
-// A session with the server of that network, which is up.
-fn session_of(
+// The server welcomes the session, which is up from then on.
+fn welcome(alloc: Global, session: &mut NetworkSession, nick: &str) -> Option<()> {
+    let line = format!(in alloc; ":s 001 {nick} :Welcome").ok()?;
+    go_on(alloc, session, line.as_bytes())
+}
+
+// The session is in that channel.
+fn join(alloc: Global, session: &mut NetworkSession, nick: &str, channel: &str) -> Option<()> {
+    let line = format!(in alloc; ":{nick}!a@h JOIN {channel}").ok()?;
+    go_on(alloc, session, line.as_bytes())
+}
+
+// The session comes to stand so.
+fn stand(
     alloc: Global,
-    network: usize,
+    session: &mut NetworkSession,
+    standing: &str,
     nick: &str,
-    takes_redact: bool,
-) -> Option<NetworkSession> {
-    let mut session = new_session(alloc, network, nick, takes_redact)?;
-    let welcome = format!(in alloc; ":s 001 {nick} :Welcome").ok()?;
-    hear(alloc, &mut session, welcome.as_bytes())?;
-    Some(session)
-}
-
-// The session is in these channels.
-fn join(alloc: Global, session: &mut NetworkSession, nick: &str, channels: &str) -> Option<()> {
+    channels: &str,
+) -> Option<()> {
+    if standing == "redact" {
+        offer_redactions(alloc, session)?;
+    }
+    if standing != "down" {
+        welcome(alloc, session, nick)?;
+    }
     for channel in channels.split_whitespace() {
-        let line = format!(in alloc; ":{nick}!a@h JOIN {channel}").ok()?;
-        hear(alloc, session, line.as_bytes())?;
+        join(alloc, session, nick, channel)?;
     }
     Some(())
 }
@@ -70,13 +82,17 @@ pub fn entry_of(
     nick: &str,
     channels: &str,
 ) -> Option<NetworkEntry> {
-    let mut session = match standing {
-        "down" => new_session(alloc, network, nick, false)?,
-        "redact" => session_of(alloc, network, nick, true)?,
-        _ => session_of(alloc, network, nick, false)?,
-    };
-    join(alloc, &mut session, nick, channels)?;
+    let mut session = new_session(alloc, network, nick)?;
+    stand(alloc, &mut session, standing, nick, channels)?;
     session.entry_now(alloc).ok()
+}
+
+// A session of the nick `al` with the server of that network, which takes redactions, and what a line of the server comes to.
+fn heard(alloc: Global, network: usize, line: &str) -> Option<(NetworkSession, ServerEffects)> {
+    let mut session = new_session(alloc, network, "al")?;
+    stand(alloc, &mut session, "redact", "al", "")?;
+    let effects = hear(alloc, &mut session, line.as_bytes())?;
+    Some((session, effects))
 }
 
 // The first message among these.
@@ -91,8 +107,7 @@ fn first_live(session: &NetworkSession, effects: &ServerEffects) -> Option<LiveM
 
 /// The message that a line of the server of that network comes to, for a session of the nick `al`. None where it is none.
 pub fn put_as_live(alloc: Global, network: usize, line: &str) -> Option<LiveMessage> {
-    let mut session = session_of(alloc, network, "al", true)?;
-    let effects = hear(alloc, &mut session, line.as_bytes())?;
+    let (session, effects) = heard(alloc, network, line)?;
     first_live(&session, &effects)
 }
 
@@ -109,7 +124,6 @@ fn first_passed(alloc: Global, effects: &ServerEffects) -> Option<PassedLine> {
 
 /// A line of the server of that network, as the session with it passes it on. None where it doesn't.
 pub fn passed_on(alloc: Global, network: usize, line: &str) -> Option<PassedLine> {
-    let mut session = session_of(alloc, network, "al", true)?;
-    let effects = hear(alloc, &mut session, line.as_bytes())?;
+    let (_, effects) = heard(alloc, network, line)?;
     first_passed(alloc, &effects)
 }

@@ -38,43 +38,22 @@ pub const USUAL: Setting<'static> = Setting {
 };
 
 impl<'a> Setting<'a> {
-    fn with(self, part: &'a str) -> Setting<'a> {
+    // A part of the line says something else.
+    fn set(&mut self, part: &'a str) {
         let (word, rest) = cut(part);
         let number = number_in(rest).unwrap_or(0);
         match word {
-            "posts" => Setting {
-                posts: number as u64,
-                ..self
-            },
-            "clock" => Setting {
-                clock: number as u64,
-                ..self
-            },
-            "networks" => Setting {
-                networks: number,
-                ..self
-            },
-            "places" => Setting {
-                places: number,
-                ..self
-            },
-            "peers" => Setting {
-                peers: rest,
-                ..self
-            },
-            "worker" => Setting {
-                worker: number,
-                workers: 2,
-                ..self
-            },
-            "shut" => Setting {
-                is_open: false,
-                ..self
-            },
-            _ => Setting {
-                can_dial: false,
-                ..self
-            },
+            "posts" => self.posts = number as u64,
+            "clock" => self.clock = number as u64,
+            "networks" => self.networks = number,
+            "places" => self.places = number,
+            "peers" => self.peers = rest,
+            "worker" => {
+                self.worker = number;
+                self.workers = 2;
+            }
+            "shut" => self.is_open = false,
+            _ => self.can_dial = false,
         }
     }
 }
@@ -83,7 +62,7 @@ impl<'a> Setting<'a> {
 pub fn setting_in(text: &str) -> Setting<'_> {
     let mut setting = USUAL;
     for part in text.split(", ") {
-        setting = setting.with(part);
+        setting.set(part);
     }
     setting
 }

@@ -2,7 +2,7 @@
 use crate::setting::Setting;
 use attach::RingClient;
 use bnc_ports::Lobby;
-use bnc_work::Station;
+use bnc_work::WorkerConfig;
 use byte_text::Text;
 use chat_change::{Buffer, Change, Kind, Message, Moment, MsgId, Record};
 use client_directory::{Account, Directory, Entry, Network};
@@ -17,39 +17,50 @@ fn text(alloc: Global, text: &str) -> Option<Text> {
 }
 
 fn network_of(alloc: Global, name: &str) -> Option<Network> {
-    let name = text(alloc, name)?;
     let entry = Entry::new(false, text(alloc, "al")?, Vec::new(alloc), false);
-    Some(Network::new(name, entry))
+    Some(Network::new(text(alloc, name)?, entry))
 }
 
-fn account_of(alloc: Global, name: &str, networks: &[&str]) -> Option<Account> {
-    let secret = text(alloc, "s3cret")?;
-    let mut account = Account::new(alloc, text(alloc, name)?, secret);
+fn account_of(alloc: Global, name: &str) -> Option<Account> {
+    let name = text(alloc, name)?;
+    Some(Account::new(alloc, name, text(alloc, "s3cret")?))
+}
+
+// Adds an account with these networks.
+fn add_account(
+    alloc: Global,
+    directory: &mut Directory,
+    name: &str,
+    networks: &[&str],
+) -> Option<()> {
+    let mut account = account_of(alloc, name)?;
     for network in networks {
         account.add(network_of(alloc, network)?).ok()?;
     }
-    Some(account)
+    directory.add(account).ok()
 }
 
 /// The account `demo` with the networks `net` and `two`, and `eve` with `net`.
 pub fn directory_of(alloc: Global) -> Option<Directory> {
     let mut directory = Directory::new(alloc);
-    directory
-        .add(account_of(alloc, "demo", &["net", "two"])?)
-        .ok()?;
-    directory.add(account_of(alloc, "eve", &["net"])?).ok()?;
+    add_account(alloc, &mut directory, "demo", &["net", "two"])?;
+    add_account(alloc, &mut directory, "eve", &["net"])?;
     Some(directory)
 }
 
-fn config_of(alloc: Global, account: &str, network: &str) -> Option<Config> {
-    let account = text(alloc, account)?;
-    let network = text(alloc, network)?;
-    let nick = text(alloc, "al")?;
+// The nick and the user of a session.
+fn user_of(alloc: Global, nick: &str) -> Option<(Text, Text)> {
+    let nick = text(alloc, nick)?;
+    Some((nick, text(alloc, "alan")?))
+}
+
+fn config_of(alloc: Global, account: &str, network: &str, nick: &str) -> Option<Config> {
+    let (nick, user) = user_of(alloc, nick)?;
     Some(Config {
-        account,
-        network,
+        account: text(alloc, account)?,
+        network: text(alloc, network)?,
         nick,
-        user: text(alloc, "alan")?,
+        user,
         channels: Channels::of(Vec::new(alloc)),
     })
 }
@@ -59,16 +70,18 @@ pub fn names_at(network: usize) -> (&'static str, &'static str) {
     NETWORKS.get(network).copied().unwrap_or(NETWORKS[0])
 }
 
-/// The configuration of that network, or of the first where there is none.
-pub fn config_at(alloc: Global, network: usize) -> Option<Config> {
+/// The configuration of that network, or of the first where there is none, with that nick.
+pub fn config_at(alloc: Global, network: usize, nick: &str) -> Option<Config> {
     let (account, network) = names_at(network);
-    config_of(alloc, account, network)
+    config_of(alloc, account, network, nick)
 }
 
 fn configs_of(alloc: Global, count: usize) -> Option<Vec<Config>> {
     let mut configs = Vec::new(alloc);
     for (account, network) in NETWORKS.iter().take(count) {
-        configs.push(config_of(alloc, account, network)?).ok()?;
+        configs
+            .push(config_of(alloc, account, network, "al")?)
+            .ok()?;
     }
     Some(configs)
 }
@@ -85,41 +98,56 @@ fn names_in(alloc: Global, names: &str) -> Option<Vec<NodeName>> {
     Some(all)
 }
 
-// The terms with the peers of these names. Each but n9 is told the own version.
+// The terms with the peer of that name. Each but n9 is told the own version.
+fn peer_of(alloc: Global, name: &str) -> Option<PeerTerms> {
+    let version = if name == "n9" {
+        Version::One
+    } else {
+        Version::OWN
+    };
+    let name = node_name(alloc, name)?;
+    Some(PeerTerms { name, version })
+}
+
 fn peers_in(alloc: Global, names: &str) -> Option<Vec<PeerTerms>> {
     let mut all = Vec::new(alloc);
     for name in names.split_whitespace() {
-        let version = if name == "n9" {
-            Version::One
-        } else {
-            Version::OWN
-        };
-        let name = node_name(alloc, name)?;
-        all.push(PeerTerms { name, version }).ok()?;
+        all.push(peer_of(alloc, name)?).ok()?;
     }
     Some(all)
 }
 
-// The terms of the node n1 in its incarnation 7.
+// The terms of the node n1 in its incarnation 7, with the peers of these names.
 fn terms_of(alloc: Global, peers: &str) -> Option<Terms> {
     let word = SharedWord::new(alloc, b"green").ok()?;
     let me = Life::new(node_name(alloc, "n1")?, 7);
     Some(Terms::new(word, me, peers_in(alloc, peers)?))
 }
 
+// The directory, and so many of its networks.
+fn networks_of(alloc: Global, count: usize) -> Option<(Directory, Vec<Config>)> {
+    let directory = directory_of(alloc)?;
+    Some((directory, configs_of(alloc, count)?))
+}
+
+// The terms with the peers of these names, and the names.
+fn peers_of(alloc: Global, peers: &str) -> Option<(Terms, Vec<NodeName>)> {
+    let terms = terms_of(alloc, peers)?;
+    Some((terms, names_in(alloc, peers)?))
+}
+
 /// What a worker begins with, over the lobby, which is taken.
-pub fn station_of(
+pub fn worker_config_of(
     alloc: Global,
     setting: Setting<'_>,
     lobby: &mut Option<Lobby<RingClient>>,
-) -> Option<Station<RingClient>> {
+) -> Option<WorkerConfig<RingClient>> {
+    let lobby = lobby.take()?;
     let cluster = text(alloc, "bnc.example")?;
-    let peers = names_in(alloc, setting.peers)?;
-    let networks = configs_of(alloc, setting.networks)?;
-    let terms = terms_of(alloc, setting.peers)?;
-    let directory = directory_of(alloc)?;
-    Some(Station {
-        lobby: lobby.take()?,
+    let (directory, networks) = networks_of(alloc, setting.networks)?;
+    let (terms, peers) = peers_of(alloc, setting.peers)?;
+    Some(WorkerConfig {
+        lobby,
         cluster,
         maximum: 100,
         directory,
@@ -128,6 +156,12 @@ pub fn station_of(
         peers,
         retain_days: 30,
     })
+}
+
+// The name of a post.
+fn id_of(alloc: Global, number: u64) -> Option<MsgId> {
+    let name = format!(in alloc; "m{number}").ok()?;
+    MsgId::new(alloc, name.as_bytes()).ok()
 }
 
 // The post of `#a` of that number, at so many seconds.
@@ -139,8 +173,7 @@ fn post(alloc: Global, number: u64) -> Option<Change> {
         body: b"hi",
     };
     let at = Moment::from_ms(number.saturating_mul(1000))?;
-    let name = format!(in alloc; "m{number}").ok()?;
-    let id = MsgId::new(alloc, name.as_bytes()).ok()?;
+    let id = id_of(alloc, number)?;
     let buffer = Buffer::new(alloc, b"demo", b"net", b"#a").ok()?;
     let record = Record::new(alloc, buffer, id, at, message).ok()?;
     Some(Change::Post(record))

@@ -1,0 +1,54 @@
+//! Where the clients of a port of memory come in.
+use attach::{Clerk, Places, RingClient, Stand};
+use bnc_ports::{Arrival, Lobby, Waiting};
+use crossbeam_channel::Sender;
+use std::alloc::Global;
+use std::sync::Wait;
+
+/// Where clients come in.
+#[derive(Drop)]
+pub struct Entrance<R: Wait + Drop> {
+    rt: R,
+    clerk: Clerk,
+    arrivals: Sender<Arrival<RingClient>>,
+    /// Where they wait, until the worker begins.
+    pub lobby: Option<Lobby<RingClient>>,
+    // of the last client that came
+    ticket: u64,
+}
+
+impl<R: Wait + Drop> Entrance<R> {
+    /// An entrance with so many places. None is want of memory.
+    pub fn new(rt: R, alloc: Global, places: usize) -> Option<Entrance<R>> {
+        let clerk = Places::new(alloc, places).ok()?;
+        let waiting = Waiting::new(alloc, places).ok()?;
+        let (arrivals, coming) = crossbeam_channel::unbounded(alloc).ok()?;
+        Some(Entrance {
+            rt,
+            clerk,
+            arrivals,
+            lobby: Some(Lobby::new(coming, waiting)),
+            ticket: 0,
+        })
+    }
+
+    /// A free place, where there is one.
+    pub fn claim(&mut self) -> Option<Stand> {
+        self.clerk.claim().ok()
+    }
+
+    /// Sends an attachment to the lobby, under the next ticket. So many bytes may be owed to it. None is want of memory.
+    pub fn let_in(&mut self, alloc: Global, stand: Stand, bound: usize) -> Option<()> {
+        let arrival = Arrival {
+            ticket: self.ticket.saturating_add(1),
+            attachment: RingClient::new(alloc, stand, bound).ok()?,
+        };
+        self.arrivals.send(&self.rt, arrival).ok()
+    }
+
+    /// The next ticket, which is taken.
+    pub fn take_ticket(&mut self) -> u64 {
+        self.ticket = self.ticket.saturating_add(1);
+        self.ticket
+    }
+}

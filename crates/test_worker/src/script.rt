@@ -1,0 +1,68 @@
+//! The acts of a case that are still to come.
+use std::alloc::{AllocError, Global};
+use std::collections::VecDeque;
+
+/// The acts that are still to come.
+#[derive(Drop)]
+pub struct Script {
+    alloc: Global,
+    acts: VecDeque<String>,
+    // the rest of an act that happens to several connections
+    parts: VecDeque<String>,
+    // so many of the next acts happen at once
+    together: usize,
+}
+
+// The lines of a case that begin with no space.
+fn acts_of(alloc: Global, text: &str) -> Result<VecDeque<String>, AllocError> {
+    let mut acts = VecDeque::new(alloc);
+    for line in text.lines() {
+        if !line.starts_with(" ") {
+            acts.push_back(String::from_str(alloc, line)?)?;
+        }
+    }
+    Ok(acts)
+}
+
+impl Script {
+    /// The acts of a case.
+    pub fn new(alloc: Global, text: &str) -> Result<Script, AllocError> {
+        Ok(Script {
+            alloc,
+            acts: acts_of(alloc, text)?,
+            parts: VecDeque::new(alloc),
+            together: 0,
+        })
+    }
+
+    /// So many of the next acts happen at once.
+    pub fn set_together(&mut self, count: usize) {
+        self.together = count;
+    }
+
+    /// Whether the next act happens at once. Then one fewer of those behind it does.
+    pub fn is_together(&mut self) -> bool {
+        let is_together = self.together != 0;
+        self.together = self.together.saturating_sub(1);
+        is_together
+    }
+
+    /// An act happens to each of these connections, one after another.
+    pub fn spread(&mut self, first: usize, last: usize, turn: &str) -> Result<(), AllocError> {
+        for line in first..=last {
+            let part = format!(in self.alloc; "{line} {turn}")?;
+            self.parts.push_back(part)?;
+        }
+        Ok(())
+    }
+
+    /// The next part of an act that happens to several connections.
+    pub fn next_part(&mut self) -> Option<String> {
+        self.parts.pop_front()
+    }
+
+    /// The next act.
+    pub fn next_act(&mut self) -> Option<String> {
+        self.acts.pop_front()
+    }
+}

@@ -1,0 +1,161 @@
+//! What happens to a connection.
+use crate::act::{cut, number_in};
+use crate::line::Line;
+use bnc_ports::Dial;
+use std::alloc::{AllocError, Global};
+
+/// What happens to a connection.
+#[derive(Clone, Copy)]
+pub enum Turn<'a> {
+    /// The connection that was begun is there.
+    Opens,
+    /// The connection that was begun can't be made.
+    Refused,
+    /// A line comes.
+    Line(&'a str),
+    /// A line comes so many times, with whatever comes next.
+    Many(usize, &'a str),
+    /// Bytes come that end no line.
+    Part(&'a str),
+    /// A line of so many bytes comes.
+    Long(usize),
+    /// The other end sends nothing more.
+    Ends,
+    /// The other end is gone.
+    Gone,
+    /// The other end takes so many bytes at once, and so many in all.
+    Takes(usize, usize),
+    /// The other end takes so many bytes of each write, and is never full.
+    TakesAWrite(usize),
+}
+
+/// What the worker is told of a connection by a turn.
+#[derive(Clone, Copy)]
+pub enum Sign {
+    Nothing,
+    /// Bytes may be there, or room for bytes.
+    Ready { readable: bool, writable: bool },
+    Opened(Dial),
+    Refused(Dial),
+}
+
+impl Sign {
+    /// Bytes may be there.
+    pub const READABLE: Sign = Sign::Ready {
+        readable: true,
+        writable: false,
+    };
+
+    /// Room for bytes may be there.
+    pub const WRITABLE: Sign = Sign::Ready {
+        readable: false,
+        writable: true,
+    };
+
+    /// Both: the connection is gone, which a read finds and a write.
+    pub const BROKEN: Sign = Sign::Ready {
+        readable: true,
+        writable: true,
+    };
+}
+
+fn takes_in(text: &str) -> Option<Turn<'_>> {
+    if let Some(count) = text.strip_suffix(" a write") {
+        return Some(Turn::TakesAWrite(number_in(count)?));
+    }
+    match text.split_once(" of ") {
+        Some((at_once, most)) => Some(Turn::Takes(number_in(at_once)?, number_in(most)?)),
+        None => Some(Turn::Takes(number_in(text)?, usize::MAX)),
+    }
+}
+
+fn many_in(text: &str) -> Option<Turn<'_>> {
+    let (count, line) = cut(text);
+    Some(Turn::Many(number_in(count)?, line))
+}
+
+/// The turn that a word and the text behind it spell.
+pub fn turn_in<'a>(word: &str, rest: &'a str) -> Option<Turn<'a>> {
+    match word {
+        "opens" => Some(Turn::Opens),
+        "refused" => Some(Turn::Refused),
+        "<" => Some(Turn::Line(rest)),
+        "+" => Some(Turn::Many(1, rest)),
+        "many" => many_in(rest),
+        "." => Some(Turn::Part(rest)),
+        "long" => Some(Turn::Long(number_in(rest)?)),
+        "ends" => Some(Turn::Ends),
+        "gone" => Some(Turn::Gone),
+        "takes" => takes_in(rest),
+        _ => None,
+    }
+}
+
+// The bytes that a text spells.
+fn bytes_of(alloc: Global, text: &str) -> Result<Vec<u8>, AllocError> {
+    let with_nul = text.replace(alloc, "␀", "\0")?;
+    let with_cr = with_nul.replace(alloc, "␍", "\r")?;
+    Vec::from_slice(alloc, with_cr.as_bytes())
+}
+
+// The bytes that a text spells come over a connection.
+fn bring(alloc: Global, line: &mut Line, text: &str) -> Option<()> {
+    let bytes = bytes_of(alloc, text).ok()?;
+    line.come(bytes.as_slice()).ok()
+}
+
+// A line comes over a connection, so many times.
+fn bring_lines(alloc: Global, line: &mut Line, count: usize, text: &str) -> Option<()> {
+    for _ in 0..count {
+        bring(alloc, line, text)?;
+        line.come(b"\r\n").ok()?;
+    }
+    Some(())
+}
+
+// A line of so many bytes comes over a connection.
+fn bring_long(alloc: Global, line: &mut Line, count: usize) -> Option<()> {
+    let bytes = vec![in alloc; b'x'; count].ok()?;
+    line.come(bytes.as_slice()).ok()?;
+    line.come(b"\r\n").ok()
+}
+
+/// Plays a turn on a connection. None where it opens or is refused and the worker didn't begin it, and for want of memory.
+pub fn play_turn(alloc: Global, line: &mut Line, turn: Turn<'_>) -> Option<Sign> {
+    Some(match turn {
+        Turn::Opens => Sign::Opened(line.dialed()?),
+        Turn::Refused => Sign::Refused(line.dialed()?),
+        Turn::Line(text) => {
+            bring_lines(alloc, line, 1, text)?;
+            Sign::READABLE
+        }
+        Turn::Many(count, text) => {
+            bring_lines(alloc, line, count, text)?;
+            Sign::Nothing
+        }
+        Turn::Part(text) => {
+            bring(alloc, line, text)?;
+            Sign::READABLE
+        }
+        Turn::Long(count) => {
+            bring_long(alloc, line, count)?;
+            Sign::READABLE
+        }
+        Turn::Ends => {
+            line.end();
+            Sign::READABLE
+        }
+        Turn::Gone => {
+            line.go();
+            Sign::BROKEN
+        }
+        Turn::Takes(at_once, most) => {
+            line.set_pace(at_once, most);
+            Sign::Nothing
+        }
+        Turn::TakesAWrite(count) => {
+            line.set_mouthful(count);
+            Sign::Nothing
+        }
+    })
+}
