@@ -35,6 +35,18 @@ def registration_word_for_word(fixture):
 
 
 @test
+def registration_in_one_packet(fixture):
+    """All that a client says may come at once: the answers are the same, in the same order. The node has one worker."""
+    node, _ = node_and_server(fixture, workers=1, places=1)
+    client = node.client()
+    client.say("CAP LS 302", "NICK al", "USER demo/net 0 * :Al", "PASS s3cret", "CAP REQ :batch nope",
+               "CAP REQ :server-time batch", "CAP END")
+    client.hear(f":bnc.example CAP * LS :{NAMES}", ":bnc.example CAP * NAK :batch nope",
+                ":bnc.example CAP * ACK :server-time batch", *greeting())
+    client.ping()
+
+
+@test
 def a_client_is_told_the_right_nick_and_the_channels(fixture):
     """Any nick may be given. There is a JOIN for each channel, and its marker for those that know markers."""
     server = Server(fixture)

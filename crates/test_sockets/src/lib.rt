@@ -1,15 +1,14 @@
-//! What has to be shown in one process over sockets of this machine: a node whose worker ends when it is told to serves one
-//! client after another word for word, and the ports of two workers (`bnc_sockets`) pass on connections, bytes, mail and
-//! ends, and hand in the system's clocks.
+//! What has to be shown in one process over sockets of this machine: how a node ends, and that the ports of two workers
+//! (`bnc_sockets`) pass on connections, bytes, mail and ends, and hand in the system's clocks.
 //!
-//! It stands on `bnc_serve` and `bnc_sockets`, whose sockets no contract reaches. What the built program shows from outside
-//! is tested there. Read `clients` first.
+//! It stands on `bnc_node` and `bnc_sockets`, whose sockets no contract reaches. What the built program shows from outside
+//! is tested there. Read `two_ports` first.
 #![tactic(auto)]
 
 #[cfg(test)]
-mod clients;
-#[cfg(test)]
 mod clocks;
+#[cfg(test)]
+mod ends;
 #[cfg(test)]
 mod node;
 #[cfg(test)]
@@ -17,10 +16,6 @@ mod peer_line;
 #[cfg(test)]
 mod ports;
 #[cfg(test)]
-mod talk;
-#[cfg(test)]
 mod two_ports;
-#[cfg(test)]
-mod until_told;
 #[cfg(test)]
 mod words;

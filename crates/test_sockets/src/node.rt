@@ -1,16 +1,11 @@
-//! A node of one worker and one place, which ends when it is told to.
-use crate::until_told::UntilTold;
+//! A node of two workers.
 use attach::RingClient;
-use bnc_serve::{Prepared, prepare};
-use bnc_sockets::SocketPort;
-use bnc_work::{Mail, Station};
+use bnc_node::{Prepared, prepare};
 use node_config::{Config, read_config};
-use std::alloc::Global;
 use std::io::Eprint;
 use std::net::{Ipv4Addr, Net, SocketAddr, TcpListener, TcpStream};
 use std::process::Abort;
-use std::sync::atomic::AtomicBool;
-use std::sync::{Arc, Wait};
+use std::sync::Wait;
 use std::time::Clock;
 
 // How often other ports are tried where somebody else took one.
@@ -45,7 +40,7 @@ pub(crate) fn listener<R: Machine>(rt: &R) -> (TcpListener, SocketAddr) {
     (listener, address)
 }
 
-// The configuration of a node with one place, of one account whose only network is at that address.
+// The configuration of a node of two workers, of one account whose only network is at that address.
 fn config_of<R: Machine>(
     rt: &R,
     network: SocketAddr,
@@ -54,7 +49,7 @@ fn config_of<R: Machine>(
 ) -> Config {
     let text = format!(in rt.alloc();
         "name = \"bnc.example\"\nnode = \"n1\"\nlisten = \"{clients}\"\npeer_listen = \"{peers}\"\n\
-        peer_word = \"green\"\nworkers = 1\nplaces = 1\nbound = 65536\nretain_days = 30\n\
+        peer_word = \"green\"\nworkers = 2\nplaces = 1\nbound = 65536\nretain_days = 30\n\
         [[account]]\nname = \"demo\"\nsecret = \"s3cret\"\n\
         [[network]]\naccount = \"demo\"\nname = \"net\"\naddress = \"{network}\"\n\
         nick = \"al\"\nuser = \"al\"\nchannels = []\n"
@@ -70,35 +65,14 @@ fn two_addresses<R: Machine>(rt: &R) -> (SocketAddr, SocketAddr) {
     (clients, peers)
 }
 
-/// A node whose server is at that address, and where its clients connect.
-pub(crate) fn node<R: Machine>(
-    rt: &R,
-    network: SocketAddr,
-) -> (Prepared<R, RingClient>, SocketAddr) {
+/// A node whose server is at that address.
+pub(crate) fn node<R: Machine>(rt: &R, network: SocketAddr) -> Prepared<R, RingClient> {
     for _ in 0..TRIES {
         let (clients, peers) = two_addresses(rt);
         let config = config_of(rt, network, clients, peers);
         if let Ok(prepared) = prepare(rt, &config) {
-            return (prepared, clients);
+            return prepared;
         }
     }
     rt.panic("no port is free")
-}
-
-// What a worker begins with, but for its pass.
-type Post<P> = (Station<RingClient>, P);
-
-/// The workers' ports, which end once they are told so.
-pub(crate) fn until_told<R: Machine>(
-    rt: &R,
-    posts: Vec<Post<SocketPort<R, Mail>>>,
-    is_over: &Arc<AtomicBool>,
-) -> Vec<Post<UntilTold<R>>> {
-    let mut all = Vec::new(rt.alloc());
-    for (station, port) in posts {
-        let is_over = Arc::try_clone(is_over).expect(rt, "an owner");
-        let post = (station, UntilTold { port, is_over });
-        assert!(rt; all.push(post).is_ok());
-    }
-    all
 }

@@ -16,9 +16,9 @@ impl Kind for ToPeer {
 /// Opens the connection of that number, where it is there and was not opened before.
 pub(crate) fn open<R: Machine>(
     port: &mut SocketPort<R, Mail>,
-    line: usize,
+    number: usize,
 ) -> Option<SocketConnection> {
-    <SocketPort<R, Mail> as Carries<ToPeer>>::open(port, line)
+    <SocketPort<R, Mail> as Carries<ToPeer>>::open(port, number)
 }
 
 /// Moves bytes that came to the start of the buffer.

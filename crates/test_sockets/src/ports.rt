@@ -2,7 +2,7 @@
 use crate::node::Machine;
 use attach::RingClient;
 use bnc_ports::{Happening, Port};
-use bnc_sockets::{Addresses, Door, Mailbox, Newcomer, Parcel, SocketPort, waker_of};
+use bnc_sockets::{Addresses, Delivery, Mailbox, Newcomer, SocketPort, WorkerIntake, waker_of};
 use bnc_work::Mail;
 use crossbeam_channel::{Receiver, Sender, unbounded};
 use mio::Poll;
@@ -15,7 +15,7 @@ const TURNS: usize = 1000;
 #[derive(Drop)]
 struct WorkerSeat {
     poll: Poll,
-    parcels: Receiver<Parcel<Mail>>,
+    deliveries: Receiver<Delivery<Mail>>,
     mailbox: Mailbox<Mail>,
     newcomers: Receiver<Newcomer>,
     entrance: Sender<Newcomer>,
@@ -23,13 +23,13 @@ struct WorkerSeat {
 
 fn seat_of<R: Machine>(rt: &R) -> WorkerSeat {
     let poll = Poll::new(rt).expect(rt, "a poll");
-    let (sender, parcels) = unbounded(rt.alloc()).expect(rt, "memory");
+    let (sender, deliveries) = unbounded(rt.alloc()).expect(rt, "memory");
     let (entrance, newcomers) = unbounded(rt.alloc()).expect(rt, "memory");
     let waker = waker_of(rt, &poll).expect(rt, "a waker");
     let mailbox = Mailbox::new(sender, waker);
     WorkerSeat {
         poll,
-        parcels,
+        deliveries,
         mailbox,
         newcomers,
         entrance,
@@ -58,7 +58,7 @@ fn mailboxes_of<R: Machine>(
 fn port_of<R: Machine>(
     rt: &R,
     poll: Poll,
-    parcels: Receiver<Parcel<Mail>>,
+    deliveries: Receiver<Delivery<Mail>>,
     newcomers: Receiver<Newcomer>,
     mailboxes: Vec<Mailbox<Mail>>,
     peer: SocketAddr,
@@ -67,15 +67,15 @@ fn port_of<R: Machine>(
     let mut peers = Vec::new(rt.alloc());
     peers.push(peer).expect(rt, "memory");
     let addresses = Addresses { networks, peers };
-    SocketPort::new(*rt, poll, parcels, newcomers, mailboxes, addresses).expect(rt, "memory")
+    SocketPort::new(*rt, poll, deliveries, newcomers, mailboxes, addresses).expect(rt, "memory")
 }
 
-// The ports of two workers, whose peer is at that address, and the door to the second worker.
+// The ports of two workers, whose peer is at that address, and the intake of the second worker.
 #[derive(Drop)]
 pub(crate) struct TwoPorts<R: Machine> {
     pub(crate) first: SocketPort<R, Mail>,
     pub(crate) second: SocketPort<R, Mail>,
-    pub(crate) door: Door<Mail, RingClient>,
+    pub(crate) intake: WorkerIntake<Mail, RingClient>,
 }
 
 pub(crate) fn two_ports<R: Machine>(rt: &R, peer: SocketAddr) -> TwoPorts<R> {
@@ -83,14 +83,21 @@ pub(crate) fn two_ports<R: Machine>(rt: &R, peer: SocketAddr) -> TwoPorts<R> {
     let other = seat_of(rt);
     let mailboxes = mailboxes_of(rt, &one.mailbox, &other.mailbox);
     let copies = mailboxes_of(rt, &one.mailbox, &other.mailbox);
-    let first = port_of(rt, one.poll, one.parcels, one.newcomers, mailboxes, peer);
-    let second = port_of(rt, other.poll, other.parcels, other.newcomers, copies, peer);
+    let first = port_of(rt, one.poll, one.deliveries, one.newcomers, mailboxes, peer);
+    let second = port_of(
+        rt,
+        other.poll,
+        other.deliveries,
+        other.newcomers,
+        copies,
+        peer,
+    );
     let (sender, _) = unbounded(rt.alloc()).expect(rt, "memory");
-    let door = Door::new(other.mailbox, other.entrance, sender);
+    let intake = WorkerIntake::new(other.mailbox, other.entrance, sender);
     TwoPorts {
         first,
         second,
-        door,
+        intake,
     }
 }
 

@@ -12,9 +12,9 @@ use std::net::{SocketAddr, TcpListener};
 fn dialed<R: Machine>(rt: &R, port: &mut SocketPort<R, Mail>) -> SocketConnection {
     match next(rt, port) {
         Happening::Opened {
-            line,
+            number,
             what: Dial::Peer(0),
-        } => open(port, line).expect(rt, "the connection"),
+        } => open(port, number).expect(rt, "the connection"),
         _ => rt.panic("the connection was not made"),
     }
 }
@@ -22,7 +22,7 @@ fn dialed<R: Machine>(rt: &R, port: &mut SocketPort<R, Mail>) -> SocketConnectio
 // The connection of the peer that came.
 fn came<R: Machine>(rt: &R, port: &mut SocketPort<R, Mail>) -> SocketConnection {
     match next(rt, port) {
-        Happening::Peer { line } => open(port, line).expect(rt, "the connection"),
+        Happening::Peer { number } => open(port, number).expect(rt, "the connection"),
         _ => rt.panic("no peer came"),
     }
 }
@@ -30,7 +30,7 @@ fn came<R: Machine>(rt: &R, port: &mut SocketPort<R, Mail>) -> SocketConnection 
 // The number of the line that has something to be read.
 fn readable<R: Machine>(rt: &R, port: &mut SocketPort<R, Mail>) -> usize {
     match next(rt, port) {
-        Happening::Ready { line, .. } => line,
+        Happening::Ready { number, .. } => number,
         _ => rt.panic("no bytes were told"),
     }
 }
@@ -70,9 +70,9 @@ fn connected<R: Machine>(
     assert!(rt; open(&mut ports.first, line).is_none());
     let (stream, from) = accept(rt, listener);
     ports
-        .door
+        .intake
         .hand_peer(rt, stream, from)
-        .expect(rt, "the door");
+        .expect(rt, "the intake");
     let far = came(rt, &mut ports.second);
     assert!(rt; address(&ports.second, &far) == Some(from));
     let near = dialed(rt, &mut ports.first);
@@ -88,7 +88,7 @@ fn bytes_mail_and_the_end_reach_the_other_worker(rt: HostRuntime) {
     let TwoPorts {
         mut first,
         mut second,
-        door: _door,
+        intake: _door,
     } = ports;
 
     let mut buffer = [0u8; 32];
@@ -98,7 +98,7 @@ fn bytes_mail_and_the_end_reach_the_other_worker(rt: HostRuntime) {
     assert!(rt; receive(&mut second, &mut far, &mut buffer) == Ok(8));
     assert!(rt; buffer.starts_with(b"PING x\r\n"));
 
-    assert!(rt; second.workers() == 2 && second.post(0, Mail::Published).is_ok());
+    assert!(rt; second.workers() == 2 && second.send_mail(0, Mail::Published).is_ok());
     assert!(rt; is_published(&rt, &mut first));
 
     close(&mut second, far);
@@ -116,7 +116,7 @@ fn bytes_are_told_between_mail(rt: HostRuntime) {
     let mut ports = two_ports(&rt, address);
     let (_near, mut far) = connected(&rt, &listener, &mut ports);
     for _ in 0..1000 {
-        assert!(rt; ports.second.post(0, Mail::Published).is_ok());
+        assert!(rt; ports.second.send_mail(0, Mail::Published).is_ok());
     }
     assert!(rt; ports.second.backlog(0) == 1000 && ports.second.backlog(1) == 0);
     assert!(rt; is_published(&rt, &mut ports.first));
@@ -158,6 +158,6 @@ fn a_peer_that_is_not_there_is_refused(rt: HostRuntime) {
     }
     assert!(rt; ports.first.dial(Dial::Peer(1)).is_err());
     assert!(rt; ports.first.dial(Dial::Network(0)).is_err());
-    ports.door.stop(&rt);
+    ports.intake.stop(&rt);
     assert!(rt; is_ended(&rt, &mut ports.second));
 }

@@ -1,5 +1,5 @@
 //! The words of why a node can't begin.
-use bnc_serve::ServeFault;
+use bnc_node::ServeFault;
 use std::io::ErrorKind;
 use std::net::{Ipv4Addr, SocketAddr};
 

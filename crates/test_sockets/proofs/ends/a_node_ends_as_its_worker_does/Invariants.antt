@@ -1,4 +1,4 @@
-use Rattle.test_sockets.proofs.clients.the_next_client_has_the_place_of_one_that_left.Given as goal
+use Rattle.test_sockets.proofs.ends.a_node_ends_as_its_worker_does.Given as goal
 
 -- the node that is about to be made
 abbrev pub ghosts-run_node-J-Naming : goal.ghosts-run_node-J-Naming
