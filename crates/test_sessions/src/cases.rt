@@ -5,7 +5,8 @@
 //!     --
 //!     what it is to come to
 //!
-//! A NUL is spelled `␀`, and a CR `␍`. `client`, `upstream` and `config` say what else stands in theirs.
+//! In a script a NUL is spelled `␀`, and a CR `␍`. `client`, `questions`, `upstream` and `config` say what else stands in
+//! theirs.
 use std::alloc::{AllocError, Global};
 
 /// A session's setting, what comes to it, and what that is to come to.

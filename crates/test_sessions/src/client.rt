@@ -96,7 +96,7 @@ fn session_of(alloc: Global, word: &str) -> Result<Session, Error> {
         "wide" => return Ok(Session::new(alloc, b"~", 1000)?),
         _ => return Ok(Session::new(alloc, b"~", 100)?),
     };
-    Ok(Session::registered(facts_of(alloc, b"demo", b"~", caps, 1)?))
+    Ok(Session::registered(facts_of(alloc, b"demo", b"~", caps)?))
 }
 
 fn player_of(alloc: Global, setting: &str) -> Result<Player, Error> {

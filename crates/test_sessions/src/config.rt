@@ -189,17 +189,30 @@ fn changed(alloc: Global, text: &str, change: &str) -> Result<Option<String>, Al
     Ok(Some(format!(in alloc; "{before}{new}{after}")?))
 }
 
-/// Whether a case is told as it is to be. One that changes what the example doesn't have is wrong.
-pub fn is_right_change(alloc: Global, example: &str, case: &str) -> Result<bool, Error> {
+/// The example with all changes of a case: None where one changes what isn't there.
+fn changed_by(alloc: Global, example: &str, case: &str) -> Result<Option<String>, AllocError> {
     let mut text = String::from_str(alloc, example)?;
     for change in case.split("\n- ").skip(1) {
         match changed(alloc, text.as_str(), change)? {
             Some(next) => text = next,
-            None => return Ok(false),
+            None => return Ok(None),
         }
     }
+    Ok(Some(text))
+}
+
+/// Whether each line that is to be told by a case is told of a text.
+fn is_told(alloc: Global, text: &str, case: &str) -> Result<bool, Error> {
     let told = told_of(alloc, text.as_bytes())?;
     Ok(tells_all(&told, case))
+}
+
+/// Whether a case is told as it is to be. One that changes what the example doesn't have is wrong.
+pub fn is_right_change(alloc: Global, example: &str, case: &str) -> Result<bool, Error> {
+    match &changed_by(alloc, example, case)? {
+        Some(text) => is_told(alloc, text.as_str(), case),
+        None => Ok(false),
+    }
 }
 
 /// Whether a row of `wholes` says what is told of its file.

@@ -6,9 +6,11 @@
 //! The first is of a message of that source, and a session of that account that holds that capability or none; the second
 //! of a line of that account and that network, for all or for those that hold a capability, and a session of `demo` that
 //! holds the capability behind it or none.
-use crate::facts::{facts_of, record_of};
+use crate::facts::facts_of;
 use anyhow::Error;
+use chat_change::Change;
 use client_session::{hears_line, hears_message};
+use gossip_delta::read_change;
 use irc_caps::{CapSet, Capability};
 use std::alloc::Global;
 use upstream_session::{Recipients, is_from};
@@ -20,10 +22,19 @@ fn caps_of(held: &str) -> CapSet {
     }
 }
 
+/// The message m1 of that source in the channel #a of `demo`.
+fn post_of(alloc: Global, source: &str) -> Result<Change, Error> {
+    let line = format!(in alloc; "C POST demo net #a m1 1000 P #a {source} :hi")?;
+    Ok(read_change(alloc, line.as_bytes())?)
+}
+
 fn hears_of_message(alloc: Global, source: &str, account: &str, held: &str) -> Result<bool, Error> {
-    let record = record_of(alloc, source.as_bytes())?;
-    let facts = facts_of(alloc, account.as_bytes(), b"~", caps_of(held), 1)?;
-    Ok(hears_message(is_from(b"al", &record), &record, &facts))
+    let change = post_of(alloc, source)?;
+    let facts = facts_of(alloc, account.as_bytes(), b"~", caps_of(held))?;
+    match &change {
+        Change::Post(record) => Ok(hears_message(is_from(b"al", record), record, &facts)),
+        _ => Ok(false),
+    }
 }
 
 fn hears_of_line(
@@ -37,7 +48,7 @@ fn hears_of_line(
         Some(capability) => Recipients::Holding(capability),
         None => Recipients::All,
     };
-    let facts = facts_of(alloc, b"demo", b"~", caps_of(held), 1)?;
+    let facts = facts_of(alloc, b"demo", b"~", caps_of(held))?;
     Ok(hears_line(account.as_bytes(), network.as_bytes(), to, &facts))
 }
 

@@ -1,19 +1,19 @@
-//! Plays files of cases and compares what each case comes to with what it is to come to: sessions of clients (`client`),
-//! sessions with servers (`upstream`), and configurations (`config`). The words name the files; the part of a file's name in
-//! front of the first `_` says how its cases are played ([`cases`] has the forms). Then it tells the answers of each set of
-//! capabilities (`capabilities`), pages of a long conversation (`pages`), the faults of the crates in words and what the operator reads (`words`).
+//! Plays files of cases and compares what each case comes to with what it is to come to: sessions of clients (`client`), what
+//! they are answered and told (`questions`), sessions with servers (`upstream`), who hears of what (`hearers`), and
+//! configurations (`config`). The words name the files; the part of a file's name in front of the first `_` says how its
+//! cases are played ([`cases`] has the forms). Then it tells the faults of the crates in words and what the operator reads
+//! (`words`).
 //!
 //! It stands on `client_session`, `upstream_session`, `chat_batch`, `node_config` and the crates whose faults it tells. Read
 //! `play_file` first.
 #![tactic(auto)]
 
-mod capabilities;
 mod cases;
 mod client;
 mod config;
 mod facts;
 mod hearers;
-mod pages;
+mod questions;
 mod telling;
 mod upstream;
 mod words;
@@ -29,6 +29,7 @@ fn played(alloc: Global, player: &str, case: Case<'_>) -> Result<Vec<u8>, Error>
     let script = cases::spelled(alloc, case.script)?;
     match player {
         "client" => client::play(alloc, case.setting, script.as_str()),
+        "questions" => questions::play(alloc, case.setting, script.as_str()),
         _ => upstream::play(alloc, case.setting, script.as_str()),
     }
 }
@@ -90,28 +91,26 @@ fn play_file(rt: &HostRuntime, example: &str, path: &str) -> Result<(), Error> {
     play_cases(rt, example, path, text.as_str())
 }
 
-fn play_files(rt: &HostRuntime) -> Result<(), Error> {
-    let example = fs::read_to_string(rt, "example")?;
+/// Plays the files that the words name.
+fn play_files(rt: &HostRuntime, example: &str) -> Result<(), Error> {
     for path in env::args(rt)?.skip(1) {
-        play_file(rt, example.as_str(), path.as_str())?;
+        play_file(rt, example, path.as_str())?;
     }
     Ok(())
 }
 
-fn tell_answers(rt: &HostRuntime) -> Result<(), Error> {
-    let answers = capabilities::told(rt.alloc())?;
-    Ok(tell(rt, answers.as_bytes())?)
+fn play_all(rt: &HostRuntime) -> Result<(), Error> {
+    let example = fs::read_to_string(rt, "example")?;
+    play_files(rt, example.as_str())
 }
 
-fn tell_pages_and_words(rt: &HostRuntime) -> Result<(), Error> {
+fn tell_words(rt: &HostRuntime) -> Result<(), Error> {
     let mut out = Vec::new(rt.alloc());
-    pages::tell_pages(rt.alloc(), &mut out)?;
     words::tell_words(&mut out)?;
     Ok(tell(rt, &out)?)
 }
 
 fn main(rt: HostRuntime) -> Result<(), Error> {
-    play_files(&rt)?;
-    tell_answers(&rt)?;
-    tell_pages_and_words(&rt)
+    play_all(&rt)?;
+    tell_words(&rt)
 }

@@ -40,24 +40,20 @@ fn network_of(alloc: Global) -> Result<Network, Error> {
     first_of(alloc, &config.networks)
 }
 
+fn session_config(network: Network) -> Config {
+    Config {
+        account: network.account,
+        network: network.name,
+        nick: network.nick,
+        user: network.user,
+        channels: Channels::of(network.channels),
+    }
+}
+
 // A session that isn't connected yet.
 fn upstream_of(alloc: Global, node: &[u8], first_serial: u64) -> Result<Upstream, Error> {
+    let config = session_config(network_of(alloc)?);
     let node = Text::new(alloc, node)?;
-    let Network {
-        account,
-        name,
-        nick,
-        user,
-        channels,
-        ..
-    } = network_of(alloc)?;
-    let config = Config {
-        account,
-        network: name,
-        nick,
-        user,
-        channels: Channels::of(channels),
-    };
     Ok(Upstream::new(alloc, config, node, 7, first_serial))
 }
 
