@@ -4,10 +4,8 @@ ghost use Rattle.attach.specs.Attachment.{with_line};
 ghost use Rattle.attach.specs.Hall.{Changes};
 
 use crate::limits::{is_flushed, is_offered};
-use crate::places::{clerk_of, is_full, next_place};
-use attach::{
-    Attachment, Boxed, Clerk, CountingClient, Hall, HallFault, Overrun, Recorder, RingClient, Stand,
-};
+use crate::places::{clerk_of, counting_client, is_full, next_place, recorder, ring_client};
+use attach::{Attachment, Boxed, Clerk, Hall, HallFault, Overrun, Recorder, RingClient, Stand};
 use std::alloc::Global;
 use std::process::Abort;
 use std::thread;
@@ -34,13 +32,7 @@ fn a_clerk_hands_out_the_lowest_free_place(rt: HostRuntime) {
     drop(clerk);
 }
 
-// A client at the lowest free place, to which 4 bytes may be owed.
-fn ring_client<R: Abort>(rt: &R, alloc: Global, clerk: &mut Clerk) -> RingClient {
-    let stand = clerk.claim().expect(rt, "a place");
-    RingClient::new(alloc, stand, 4).expect(rt, "memory")
-}
-
-// The same client in a box.
+// A client at the lowest free place in a box.
 fn boxed_ring<R: Abort>(rt: &R, alloc: Global, clerk: &mut Clerk) -> Boxed {
     let client = ring_client(rt, alloc, clerk);
     Box::new(alloc, client).expect(rt, "memory")
@@ -118,22 +110,20 @@ fn a_hall_offers_and_flushes_under_a_key(rt: HostRuntime) {
 
 // A box in a hall holds the one place, and frees it once it is dropped.
 fn holds_the_place<R: Abort>(rt: &R, clerk: &mut Clerk, hall: &mut Hall, attachment: Boxed) {
-    assert!(rt; is_full(clerk));
+    let was_full = is_full(clerk);
     let key = added(rt, hall, attachment);
-    assert!(rt; is_full(clerk));
+    assert!(rt; was_full && is_full(clerk));
     drop(hall.remove(key));
     assert!(rt; next_place(rt, clerk) == 0);
 }
 
 fn boxed_counting_client<R: Abort>(rt: &R, alloc: Global, clerk: &mut Clerk) -> Boxed {
-    let stand = clerk.claim().expect(rt, "a place");
-    let client = CountingClient::new(alloc, stand, 4).expect(rt, "memory");
+    let client = counting_client(rt, alloc, clerk);
     Box::new(alloc, client).expect(rt, "memory")
 }
 
 fn boxed_recorder<R: Abort>(rt: &R, alloc: Global, clerk: &mut Clerk) -> Boxed {
-    let stand = clerk.claim().expect(rt, "a place");
-    let client = Recorder::new(alloc, stand, 4).expect(rt, "memory");
+    let client = recorder(rt, alloc, clerk);
     Box::new(alloc, client).expect(rt, "memory")
 }
 
@@ -150,17 +140,26 @@ fn each_kind_of_box_frees_its_place(rt: HostRuntime) {
     holds_the_place(&rt, &mut clerk, &mut hall, attachment);
 }
 
+// Whether 3 bytes are taken, no 2 more, and 2 of the 3 are flushed.
+fn owes_three_bytes(client: &mut RingClient) -> bool {
+    let mut out = [0u8; 2];
+    is_offered(client, b"abc", Ok(()), 3)
+        && is_offered(client, b"de", Err(Overrun), 3)
+        && is_flushed(client, &mut out, b"ab", 1)
+}
+
+// Whether 3 bytes more are taken, and then no other.
+fn owes_four_bytes(client: &mut RingClient) -> bool {
+    is_offered(client, b"def", Ok(()), 4)
+        && is_offered(client, b"", Ok(()), 4)
+        && is_offered(client, b"x", Err(Overrun), 4)
+}
+
 #[test]
 fn a_ring_client_owes_up_to_its_bound(rt: HostRuntime) {
     let mut clerk = clerk_of(&rt, rt.alloc(), 1);
     let mut client = ring_client(&rt, rt.alloc(), &mut clerk);
-    let mut out = [0u8; 2];
-    assert!(rt; is_offered(&mut client, b"abc", Ok(()), 3));
-    assert!(rt; is_offered(&mut client, b"de", Err(Overrun), 3));
-    assert!(rt; is_flushed(&mut client, &mut out, b"ab", 1));
-    assert!(rt; is_offered(&mut client, b"def", Ok(()), 4));
-    assert!(rt; is_offered(&mut client, b"", Ok(()), 4));
-    assert!(rt; is_offered(&mut client, b"x", Err(Overrun), 4));
+    assert!(rt; owes_three_bytes(&mut client) && owes_four_bytes(&mut client));
     assert!(rt; client.place() == 0 && client.bound() == 4);
 }
 
@@ -184,8 +183,7 @@ fn takes_two_of_three<X: Attachment>(client: &mut X) -> bool {
 #[test]
 fn what_is_accepted_is_counted(rt: HostRuntime) {
     let mut clerk = clerk_of(&rt, rt.alloc(), 1);
-    let stand = clerk.claim().expect(&rt, "a place");
-    let mut counting = CountingClient::new(rt.alloc(), stand, 4).expect(&rt, "memory");
+    let mut counting = counting_client(&rt, rt.alloc(), &mut clerk);
     assert!(rt; takes_two_of_three(&mut counting));
     assert!(rt; counting.lines() == 2 && counting.bytes() == 5);
 }
@@ -209,8 +207,6 @@ fn is_still_recorded(recorder: &mut Recorder) -> bool {
 #[test]
 fn what_is_accepted_is_recorded(rt: HostRuntime) {
     let mut clerk = clerk_of(&rt, rt.alloc(), 1);
-    let stand = clerk.claim().expect(&rt, "a place");
-    let mut recorder = Recorder::new(rt.alloc(), stand, 4).expect(&rt, "memory");
-    assert!(rt; is_recorded(&mut recorder));
-    assert!(rt; is_still_recorded(&mut recorder));
+    let mut recorder = recorder(&rt, rt.alloc(), &mut clerk);
+    assert!(rt; is_recorded(&mut recorder) && is_still_recorded(&mut recorder));
 }

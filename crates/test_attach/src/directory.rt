@@ -66,19 +66,35 @@ fn differs_once(secret: &Secret, given: Option<&[u8]>) -> bool {
     }
 }
 
+// The secret of the longest bytes but for one.
+fn secret_but<R: Abort>(rt: &R, alloc: Global, at: usize, byte: u8) -> Secret {
+    Secret::of(Text::of(longest_but(rt, alloc, at, byte)))
+}
+
+// Whether just that place differs of the longest bytes with another byte there.
+fn differs_at<R: Abort>(rt: &R, alloc: Global, secret: &Secret, at: usize) -> bool {
+    differs_once(secret, Some(&longest_but(rt, alloc, at, b'b')))
+}
+
 #[test]
 fn a_secret_is_compared_to_its_end(rt: HostRuntime) {
-    let alloc = rt.alloc();
-    let bytes = longest_but(&rt, alloc, 0, b'a');
-    let secret = Secret::of(Text::of(longest_but(&rt, alloc, 0, b'a')));
+    let secret = secret_but(&rt, rt.alloc(), 0, b'a');
+    let bytes = longest_but(&rt, rt.alloc(), 0, b'a');
     assert!(rt; secret.differing(&bytes) == 0 && secret.is_same(&bytes));
     assert!(rt; differs_once(&secret, bytes.get(1..)));
-    let first = longest_but(&rt, alloc, 0, b'b');
-    assert!(rt; differs_once(&secret, Some(&first)));
-    let last = longest_but(&rt, alloc, 504, b'b');
-    assert!(rt; differs_once(&secret, Some(&last)));
-    let shorter = Secret::of(Text::of(longest_but(&rt, alloc, 0, b'b')));
-    assert!(rt; shorter.differing(b"a") == 505 && shorter.differing(b"") == 505);
+}
+
+#[test]
+fn one_other_byte_of_a_secret_differs(rt: HostRuntime) {
+    let secret = secret_but(&rt, rt.alloc(), 0, b'a');
+    assert!(rt; differs_at(&rt, rt.alloc(), &secret, 0));
+    assert!(rt; differs_at(&rt, rt.alloc(), &secret, 504));
+}
+
+#[test]
+fn each_missing_byte_of_a_secret_differs(rt: HostRuntime) {
+    let secret = secret_but(&rt, rt.alloc(), 0, b'b');
+    assert!(rt; secret.differing(b"a") == 505 && secret.differing(b"") == 505);
 }
 
 fn has_channels(entry: &Entry, first: &[u8], second: &[u8]) -> bool {

@@ -1,5 +1,5 @@
 //! Rows of what stands below the workers: places, clients at their stands and halls (`attach`), the directory's entries and
-//! secrets (`client_directory`), timers (`work_timers`) and lines that threads share (`shared_lines`).
+//! secrets (`client_directory`), timers (`worker_io`) and lines that threads share (`worker_io`).
 //!
 //! The contracts of these crates say what each call does. Here are the rows that no clause promises: that there is memory at
 //! the greatest sizes, that the lowest free place is given, also after it was freed in another thread, and the words of

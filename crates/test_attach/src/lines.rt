@@ -1,7 +1,7 @@
 //! Lines that others still have stay as they are, however many are shared after them.
-use shared_lines::{Lines, SharedLine};
 use std::alloc::Global;
 use std::process::Abort;
+use worker_io::{Lines, SharedLine};
 
 fn has_bytes(line: &SharedLine, bytes: &[u8]) -> bool {
     line.as_bytes() == bytes

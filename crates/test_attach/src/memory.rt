@@ -1,5 +1,8 @@
 //! A request for memory that is refused loses neither a client nor its stand.
-use crate::places::{clerk_of, is_full, next_place};
+use crate::places::{
+    REFUSALS, claimed, clerk_of, counting_client, handed_back, is_full, next_place, recorder,
+    ring_client,
+};
 use attach::{
     Attachment, Boxed, Clerk, CountingClient, Hall, NoRing, Places, PlacesFault, Recorder,
     RingClient, Stand,
@@ -9,13 +12,6 @@ use std::process::Abort;
 
 // No block of memory is so large.
 const TOO_LARGE: usize = usize::MAX;
-
-// The stand that comes back, which still holds the one place.
-fn handed_back<R: Abort>(rt: &R, clerk: &mut Clerk, fault: NoRing) -> Stand {
-    let NoRing { stand } = fault;
-    assert!(rt; stand.place() == 0 && is_full(clerk));
-    stand
-}
 
 // What comes of a client that is refused for want of memory.
 fn refused<R: Abort, C: Drop>(rt: &R, clerk: &mut Clerk, made: Result<C, NoRing>) -> Stand {
@@ -40,10 +36,6 @@ fn no_room_hands_the_stand_back(rt: HostRuntime) {
     assert!(rt; next_place(&rt, &mut clerk) == 0);
 }
 
-// Each call below that takes memory is made again where it was refused, so often. So these pass too where the Nth request for
-// memory is refused, and as many in a row, for each N, as under `rt try --test --fail-alloc N`.
-const REFUSALS: usize = 3;
-
 // Places for one client.
 fn one_place<R: Abort>(rt: &R, alloc: Global) -> Clerk {
     for _ in 0..REFUSALS {
@@ -54,51 +46,6 @@ fn one_place<R: Abort>(rt: &R, alloc: Global) -> Clerk {
         }
     }
     Places::new(alloc, 1).expect(rt, "memory")
-}
-
-fn claimed<R: Abort>(rt: &R, clerk: &mut Clerk) -> Stand {
-    clerk.claim().expect(rt, "a place")
-}
-
-// The client that is made at last.
-fn made<R: Abort, C: Drop>(rt: &R, made: Result<C, NoRing>) -> C {
-    match made {
-        Ok(client) => client,
-        Err(_) => rt.panic("memory"),
-    }
-}
-
-fn ring_client<R: Abort>(rt: &R, alloc: Global, clerk: &mut Clerk) -> RingClient {
-    let mut stand = claimed(rt, clerk);
-    for _ in 0..REFUSALS {
-        match RingClient::new(alloc, stand, 4) {
-            Ok(client) => return client,
-            Err(fault) => stand = handed_back(rt, clerk, fault),
-        }
-    }
-    made(rt, RingClient::new(alloc, stand, 4))
-}
-
-fn counting_client<R: Abort>(rt: &R, alloc: Global, clerk: &mut Clerk) -> CountingClient {
-    let mut stand = claimed(rt, clerk);
-    for _ in 0..REFUSALS {
-        match CountingClient::new(alloc, stand, 4) {
-            Ok(client) => return client,
-            Err(fault) => stand = handed_back(rt, clerk, fault),
-        }
-    }
-    made(rt, CountingClient::new(alloc, stand, 4))
-}
-
-fn recorder<R: Abort>(rt: &R, alloc: Global, clerk: &mut Clerk) -> Recorder {
-    let mut stand = claimed(rt, clerk);
-    for _ in 0..REFUSALS {
-        match Recorder::new(alloc, stand, 4) {
-            Ok(recorder) => return recorder,
-            Err(fault) => stand = handed_back(rt, clerk, fault),
-        }
-    }
-    made(rt, Recorder::new(alloc, stand, 4))
 }
 
 #[test]

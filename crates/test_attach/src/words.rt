@@ -1,5 +1,6 @@
 //! The words of faults.
-use attach::{ClaimFault, HallFault, NoRing, Overrun, Places, PlacesFault};
+use crate::places::{claimed, clerk_of};
+use attach::{ClaimFault, HallFault, NoRing, Overrun, PlacesFault, Stand};
 use std::alloc::Global;
 use std::fmt;
 use std::process::Abort;
@@ -43,17 +44,25 @@ fn each_fault_has_a_text(rt: HostRuntime) {
     );
 }
 
+// The one stand of a clerk that is gone.
+fn stand_of<R: Abort>(rt: &R, alloc: Global) -> Stand {
+    claimed(rt, &mut clerk_of(rt, alloc, 1))
+}
+
 #[test]
 fn a_stand_has_a_text(rt: HostRuntime) {
-    let mut clerk = Places::new(rt.alloc(), 1).expect(&rt, "memory");
-    let stand = clerk.claim().expect(&rt, "a place");
+    let stand = stand_of(&rt, rt.alloc());
     let printed = format!(in rt.alloc(); "{stand:?}").expect(&rt, "memory");
     assert!(rt; printed.as_str() == "Stand { place: 0 }");
-    let fault = NoRing { stand };
+}
+
+#[test]
+fn a_stand_that_is_handed_back_has_a_text(rt: HostRuntime) {
+    let stand = stand_of(&rt, rt.alloc());
     prints(
         &rt,
         rt.alloc(),
-        &fault,
+        &NoRing { stand },
         "no memory for the client at place 0",
     );
 }

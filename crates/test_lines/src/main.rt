@@ -72,16 +72,21 @@ fn tell_part(alloc: Global, kind: &str, input: &str, out: &mut Vec<u8>) -> Resul
     }
 }
 
-/// What comes of the input behind a kind. Want of memory is no fault that a row may name.
-fn found(alloc: Global, spelling: &str) -> Result<Vec<u8>, Error> {
-    let (kind, input) = spelling.split_once(" ").unwrap_or((spelling, ""));
-    let input = spelled(alloc, input)?;
+/// What comes of an input. Want of memory is no fault that a row may name.
+fn told(alloc: Global, kind: &str, input: &str) -> Result<Vec<u8>, Error> {
     let mut out = Vec::new(alloc);
-    tell(alloc, kind, input.as_str(), &mut out)?;
+    tell(alloc, kind, input, &mut out)?;
     if out.ends_with(b" memory") {
         return Err(Error::from(AllocError));
     }
     Ok(out)
+}
+
+/// What comes of the input that is spelled behind a kind.
+fn found(alloc: Global, spelling: &str) -> Result<Vec<u8>, Error> {
+    let (kind, input) = spelling.split_once(" ").unwrap_or((spelling, ""));
+    let input = spelled(alloc, input)?;
+    told(alloc, kind, input.as_str())
 }
 
 /// Whether that comes of a row that is to come of it.
@@ -114,10 +119,14 @@ fn play_rows(rt: &HostRuntime, path: &str, text: &str) -> Result<(), Error> {
     Ok(println!(rt; "{path}: {rows} rows, {wrong} wrong")?)
 }
 
+fn play_file(rt: &HostRuntime, path: &str) -> Result<(), Error> {
+    let text = fs::read_to_string(rt, path)?;
+    play_rows(rt, path, text.as_str())
+}
+
 fn main(rt: HostRuntime) -> Result<(), Error> {
     for path in env::args(&rt)?.skip(1) {
-        let text = fs::read_to_string(&rt, path.as_str())?;
-        play_rows(&rt, path.as_str(), text.as_str())?;
+        play_file(&rt, path.as_str())?;
     }
     Ok(())
 }

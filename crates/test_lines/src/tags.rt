@@ -1,11 +1,11 @@
 //! Tags that are read, and their values, and what is kept of them.
 use crate::spelling::{tell_all, tell_words};
+use crate::writing::failing_sink;
 use anyhow::Error;
 use irc_tags::{
     Tags, find_tag, is_client_only_text, read_tags, read_value, write_client_only, write_value,
 };
 use std::alloc::{AllocError, Global};
-use test_devices::Sink;
 
 /// Whether the look-up of a key in tag data gives that value, or none.
 fn is_found(
@@ -76,15 +76,17 @@ fn tell_read_tags(
     }
 }
 
-/// Whether a writer that fails after any number of bytes, up to a hundred, gets these, and only then is the answer a fault.
+/// Whether a writer that fails after so many bytes gets these, and only then is the answer a fault.
+fn is_kept_up_to(alloc: Global, data: &[u8], text: &[u8], bytes: usize) -> bool {
+    let mut sink = failing_sink(alloc, bytes);
+    let is_ok = write_client_only(data, &mut sink).is_ok();
+    is_ok == (bytes == text.len()) && text.get(..bytes) == Some(sink.bytes())
+}
+
+/// Whether the same is so after any number of bytes, up to a hundred.
 fn is_kept_anywhere(alloc: Global, data: &[u8], text: &[u8]) -> bool {
     for bytes in 0..=text.len().min(100) {
-        let mut sink = Sink::new(alloc)
-            .at_most(1)
-            .interrupted()
-            .failing_after(bytes);
-        let is_ok = write_client_only(data, &mut sink).is_ok();
-        if is_ok != (bytes == text.len()) || text.get(..bytes) != Some(sink.bytes()) {
+        if !is_kept_up_to(alloc, data, text, bytes) {
             return false;
         }
     }

@@ -8,6 +8,14 @@ use std::io;
 use std::io::Write;
 use test_devices::Sink;
 
+/// A writer that takes a byte a write, is interrupted, and fails once it has so many bytes.
+pub fn failing_sink(alloc: Global, bytes: usize) -> Sink<'static> {
+    Sink::new(alloc)
+        .at_most(1)
+        .interrupted()
+        .failing_after(bytes)
+}
+
 /// What is written.
 #[derive(Clone, Copy)]
 enum Written<'a> {
@@ -27,10 +35,7 @@ impl<'a> Written<'a> {
 
     /// Whether a writer that fails after so many bytes gets these, and only then is the answer a fault.
     fn stops_at(&self, alloc: Global, whole: &[u8], bytes: usize) -> bool {
-        let mut sink = Sink::new(alloc)
-            .at_most(1)
-            .interrupted()
-            .failing_after(bytes);
+        let mut sink = failing_sink(alloc, bytes);
         let is_ok = self.write(&mut sink).is_ok();
         is_ok == (bytes == whole.len()) && whole.get(..bytes) == Some(sink.bytes())
     }

@@ -1,7 +1,6 @@
 //! What is asked, and what the answers say.
 use crate::changes::buffer_of;
 use crate::fault::Fault;
-use byte_text::Text;
 use chat_batch::Facts;
 use chat_change::{Change, Moment, MsgId};
 use chat_state::{NoEntry, Peek};
@@ -47,19 +46,7 @@ pub const THREE: [Channel; 3] = [
 
 /// The session of `al`, which holds every capability.
 pub fn facts(alloc: Global) -> Option<Facts> {
-    let account = Text::new(alloc, b"demo").ok()?;
-    let network = Text::new(alloc, b"net").ok()?;
-    let nick = Text::new(alloc, b"al").ok()?;
-    let cluster = Text::new(alloc, b"~").ok()?;
-    Some(Facts {
-        account,
-        network,
-        nick,
-        caps: CapSet::all(),
-        reference: 1,
-        cluster,
-        maximum: 100,
-    })
+    Facts::new(alloc, b"demo", b"net", b"al", CapSet::all(), b"~", 100).ok()
 }
 
 // Milliseconds in the form 05.123.

@@ -7,7 +7,10 @@ use crate::growth::{REFUSALS, put_markers};
 use crate::rows::{LONG, Play, SHORT};
 use crate::steps::Cluster;
 use crate::threads::puts_beside_asks;
+use chat_batch::Facts;
+use shared_node::laws::WritingHalf;
 use shared_node::{Naming, Pass, SharedNode, Unnamed};
+use std::alloc::Global;
 use std::marker::Brand;
 use std::sync::Wait;
 use std::thread::Threads;
@@ -22,27 +25,74 @@ fn total_of<J: Naming, R: Wait>(node: Node<'_, J, R>, passes: Vec<Pass<J>>) -> R
     }
 }
 
+/// The same, where these are all passes but one.
+fn total_with<J: Naming, R: Wait>(
+    node: Node<'_, J, R>,
+    mut passes: Vec<Pass<J>>,
+    pass: Pass<J>,
+) -> Result<u64, Fault> {
+    match passes.push(pass) {
+        Ok(()) => total_of(node, passes),
+        Err(_) => Err(Fault::NoMemory),
+    }
+}
+
 /// A node isn't closed where a pass is missing. Then it counts what all of them put.
-fn close<J: Naming, R: Wait>(cluster: Cluster<'_, J, R>) -> Result<u64, Fault> {
-    let Cluster {
-        node,
-        mut passes,
-        ..
-    } = cluster;
+fn close<J: Naming, R: Wait>(node: Node<'_, J, R>, mut passes: Vec<Pass<J>>) -> Result<u64, Fault> {
     let Some(pass) = passes.pop() else {
         return Err(Fault::NoPass);
     };
     match node.close(passes) {
         Ok(_) => Err(Fault::NotClosed),
-        Err((node, mut passes)) => match passes.push(pass) {
-            Ok(()) => total_of(node, passes),
-            Err(_) => Err(Fault::NoMemory),
-        },
+        Err((node, passes)) => total_with(node, passes, pass),
     }
 }
 
-// The first pass puts three markers on what stood under the lock of the node.
-fn play_half<J: Naming, R: Wait>(cluster: Cluster<'_, J, R>) -> Result<u64, Fault> {
+// The first pass puts three markers on what stood under the lock of a node, and it is counted what was put.
+fn put_on_half<J: Naming, H: Wait + Drop>(
+    alloc: Global,
+    facts: &Facts,
+    half: &mut WritingHalf<J, H>,
+    passes: &mut [Pass<J>],
+) -> Result<u64, Fault> {
+    let Some(pass) = passes.first_mut() else {
+        return Err(Fault::NoPass);
+    };
+    let _ = put_markers(alloc, facts, half, pass, 3)?;
+    Ok(half.total())
+}
+
+fn play_half<J: Naming, R: Wait>(
+    alloc: Global,
+    facts: &Facts,
+    node: Node<'_, J, R>,
+    passes: Vec<Pass<J>>,
+) -> Result<u64, Fault> {
+    match node.close(passes) {
+        Ok((mut half, mut passes)) => {
+            put_on_half(alloc, facts, &mut half, passes.as_mut_slice())
+        }
+        Err(_) => Err(Fault::NotClosed),
+    }
+}
+
+// Plays on a node that stays open.
+fn play_open<J: Naming + Send + Sync, R: Threads + Wait + Sync>(
+    cluster: &mut Cluster<'_, J, R>,
+    play: Play,
+) -> Result<(), Fault> {
+    match play {
+        Play::Half => Ok(()),
+        Play::Steps(steps) => cluster.play_steps(steps),
+        Play::Threads => puts_beside_asks(cluster),
+    }
+}
+
+fn play_on<J: Naming + Send + Sync, R: Threads + Wait + Sync>(
+    mut cluster: Cluster<'_, J, R>,
+    play: Play,
+) -> Result<u64, Fault> {
+    play_open(&mut cluster, play)?;
     let Cluster {
         alloc,
         facts,
@@ -50,26 +100,10 @@ fn play_half<J: Naming, R: Wait>(cluster: Cluster<'_, J, R>) -> Result<u64, Faul
         passes,
         ..
     } = cluster;
-    let Ok((mut half, mut passes)) = node.close(passes) else {
-        return Err(Fault::NotClosed);
-    };
-    let Some(pass) = passes.first_mut() else {
-        return Err(Fault::NoPass);
-    };
-    let _ = put_markers(alloc, &facts, &mut half, pass, 3)?;
-    Ok(half.total())
-}
-
-fn play_on<J: Naming + Send + Sync, R: Threads + Wait + Sync>(
-    mut cluster: Cluster<'_, J, R>,
-    play: Play,
-) -> Result<u64, Fault> {
     match play {
-        Play::Half => return play_half(cluster),
-        Play::Steps(steps) => cluster.play_steps(steps)?,
-        Play::Threads => puts_beside_asks(&mut cluster)?,
+        Play::Half => play_half(alloc, facts, node, passes),
+        _ => close(node, passes),
     }
-    close(cluster)
 }
 
 // Plays on a new node, and says how many changes were put.
@@ -86,7 +120,7 @@ fn play<J: Naming + Send + Sync, R: Threads + Wait + AllocGlobal + Sync>(
     let cluster = Cluster {
         rt,
         alloc,
-        facts,
+        facts: &facts,
         node,
         passes,
     };

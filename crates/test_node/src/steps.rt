@@ -16,7 +16,7 @@ use std::sync::Wait;
 pub struct Cluster<'a, J: Naming, R: Wait> {
     pub rt: &'a R,
     pub alloc: Global,
-    pub facts: Facts,
+    pub facts: &'a Facts,
     pub node: SharedNode<J, &'a R>,
     pub passes: Vec<Pass<J>>,
 }
@@ -65,7 +65,7 @@ impl<J: Naming, R: Wait> Cluster<'_, J, R> {
             return Err(Fault::NoPass);
         };
         match read {
-            Read::Marker => marker(self.alloc, &self.facts, pass, A),
+            Read::Marker => marker(self.alloc, self.facts, pass, A),
             Read::Delta => delta_count(self.alloc, pass),
             Read::Shown(id) => shown(self.alloc, pass, id),
             Read::Due => due_floor(self.alloc, pass),
@@ -114,7 +114,7 @@ impl<J: Naming, R: Wait> Cluster<'_, J, R> {
         let Some(pass) = self.passes.first_mut() else {
             return Err(Fault::NoPass);
         };
-        put_markers_on(self.rt, &self.node, self.alloc, &self.facts, pass, count)
+        put_markers_on(self.rt, &self.node, self.alloc, self.facts, pass, count)
     }
 
     fn put_markers_once(&mut self) -> Result<(), Fault> {

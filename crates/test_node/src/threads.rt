@@ -111,7 +111,7 @@ pub fn puts_beside_asks<J: Naming + Send + Sync, R: Threads + Wait + Sync>(
     let shared = Shared {
         rt: cluster.rt,
         alloc: cluster.alloc,
-        facts: &cluster.facts,
+        facts: cluster.facts,
         node: &cluster.node,
         told: &told,
     };

@@ -39,29 +39,39 @@ fn deliver(
     Ok(())
 }
 
-/// Connects the nodes, and carries what each sends to the other until nothing more is sent.
+/// Carries what each node sends to the other until nothing more is sent.
 fn carry(
+    alloc: Global,
+    opener: &mut Node,
+    acceptor: &mut Node,
+    to_acceptor: &mut Vec<u8>,
+    to_opener: &mut Vec<u8>,
+    out: &mut Vec<u8>,
+) -> Result<(), Error> {
+    for _ in 0..MOST_ROUNDS {
+        deliver(alloc, acceptor, b"1> ", to_acceptor, to_opener, out)?;
+        deliver(alloc, opener, b"2> ", to_opener, to_acceptor, out)?;
+    }
+    Ok(())
+}
+
+fn connect_and_carry(
     alloc: Global,
     opener: &mut Node,
     acceptor: &mut Node,
     out: &mut Vec<u8>,
 ) -> Result<(), Error> {
-    let mut to_acceptor = Vec::new(alloc);
-    let mut to_opener = Vec::new(alloc);
+    let (mut to_acceptor, mut to_opener) = (Vec::new(alloc), Vec::new(alloc));
     opener.connect(Side::Opener(1), &mut to_acceptor)?;
     acceptor.connect(Side::Acceptor, &mut to_opener)?;
-    for _ in 0..MOST_ROUNDS {
-        deliver(
-            alloc,
-            acceptor,
-            b"1> ",
-            &mut to_acceptor,
-            &mut to_opener,
-            out,
-        )?;
-        deliver(alloc, opener, b"2> ", &mut to_opener, &mut to_acceptor, out)?;
-    }
-    Ok(())
+    carry(
+        alloc,
+        opener,
+        acceptor,
+        &mut to_acceptor,
+        &mut to_opener,
+        out,
+    )
 }
 
 fn tell_pair(
@@ -73,7 +83,7 @@ fn tell_pair(
 ) -> Result<(), Error> {
     put_all(alloc, opener, "1", script)?;
     put_all(alloc, acceptor, "2", script)?;
-    carry(alloc, opener, acceptor, out)?;
+    connect_and_carry(alloc, opener, acceptor, out)?;
     tell_node(opener, out)?;
     tell_node(acceptor, out)
 }

@@ -32,14 +32,29 @@ fn peer_of(alloc: Global, name: &[u8], version: Version) -> Result<PeerTerms, Li
     Ok(PeerTerms { name, version })
 }
 
-// The terms of a node with three peers, itself among them. n3 is told version 1.
+fn add_peer(
+    alloc: Global,
+    peers: &mut Vec<PeerTerms>,
+    name: &[u8],
+    version: Version,
+) -> Result<(), Error> {
+    Ok(peers.push(peer_of(alloc, name, version)?)?)
+}
+
+// Three peers. n3 is told version 1.
+fn add_peers(alloc: Global, peers: &mut Vec<PeerTerms>) -> Result<(), Error> {
+    add_peer(alloc, peers, b"n1", Version::OWN)?;
+    add_peer(alloc, peers, b"n2", Version::OWN)?;
+    add_peer(alloc, peers, b"n3", Version::One)
+}
+
+// The terms of a node with three peers, itself among them.
 fn terms_of(alloc: Global, me: &[u8], incarnation: u64) -> Result<Terms, Error> {
-    let mut peers = Vec::new(alloc);
-    peers.push(peer_of(alloc, b"n1", Version::OWN)?)?;
-    peers.push(peer_of(alloc, b"n2", Version::OWN)?)?;
-    peers.push(peer_of(alloc, b"n3", Version::One)?)?;
+    let me = life_of(alloc, me, incarnation)?;
     let word = SharedWord::new(alloc, b"green")?;
-    Ok(Terms::new(word, life_of(alloc, me, incarnation)?, peers))
+    let mut peers = Vec::new(alloc);
+    add_peers(alloc, &mut peers)?;
+    Ok(Terms::new(word, me, peers))
 }
 
 /// The link of a node of that name, in that incarnation, to a peer.
@@ -166,7 +181,7 @@ impl Node {
     ) -> Result<&'static [u8], Error> {
         match heard {
             Heard::Nothing => Ok(b""),
-            Heard::Close => Ok(b"close"),
+            Heard::Close(_) => Ok(b"close"),
             Heard::Message(place, arrived) => self.arrive(alloc, *place, arrived, out),
         }
     }

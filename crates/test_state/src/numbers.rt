@@ -74,17 +74,17 @@ fn has_newer(
     limit: u64,
 ) -> Result<bool, Error> {
     let mut wanted = Vec::new(alloc);
-    let mut found = Vec::new(alloc);
     put_part(pieces, from, limit, true, &mut wanted)?;
+    let mut found = Vec::new(alloc);
     put_newer(alloc, state, from, limit, &mut found)?;
     Ok(found == wanted)
 }
 
 fn has_delta(alloc: Global, state: &State, pieces: &str, from: u64) -> Result<bool, Error> {
     let mut wanted = Vec::new(alloc);
-    let mut found = Vec::new(alloc);
     write!(wanted, "{from} {} ", state.front().max(from))?;
     put_part(pieces, from, u64::MAX, false, &mut wanted)?;
+    let mut found = Vec::new(alloc);
     put_delta(alloc, state, from, &mut found)?;
     Ok(found == wanted)
 }

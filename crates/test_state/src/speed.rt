@@ -6,7 +6,6 @@
 //! messages lie in COUNT buffers, once, and lets half of each go; `lines` cuts and reads 1,000 lines that come in pieces of
 //! HELD bytes (`streams`). `bench/plain/state.rs` and `bench/plain/lines.rs` do the same in plain Rust.
 use crate::streams::read_lines;
-use byte_text::Text;
 use chat_batch::{Facts, answer};
 use chat_change::{Account, Buffer, Change, Moment};
 use chat_state::State;
@@ -112,19 +111,16 @@ fn fill(
 
 /// The session of `al`, which holds every capability.
 fn facts(alloc: Global) -> Option<Facts> {
-    let account = Text::new(alloc, b"demo").ok()?;
-    let network = Text::new(alloc, b"net").ok()?;
-    let nick = Text::new(alloc, b"al").ok()?;
-    let cluster = Text::new(alloc, b"bnc.example").ok()?;
-    Some(Facts {
-        account,
-        network,
-        nick,
-        caps: CapSet::all(),
-        reference: 1,
-        cluster,
-        maximum: 100,
-    })
+    Facts::new(
+        alloc,
+        b"demo",
+        b"net",
+        b"al",
+        CapSet::all(),
+        b"bnc.example",
+        100,
+    )
+    .ok()
 }
 
 /// A question on the latest messages, or on those before one that lies anywhere, with a whole page before it.
@@ -222,18 +218,31 @@ fn timed(
     Some((start.elapsed(rt).ok()?, total))
 }
 
-fn measured_on(rt: &HostRuntime, buffers: &[Buffer], task: Task<'_>) -> Option<(Duration, u64)> {
-    let alloc = rt.alloc();
-    let is_mixed = task.what == "mixed";
-    let mut state = State::new(alloc);
-    fill(alloc, &mut state, buffers, task.held, is_mixed)?;
+/// The messages that are taken as it is measured.
+fn further_posts(alloc: Global, buffers: &[Buffer], task: Task<'_>) -> Option<Vec<Change>> {
     let further = match task.what {
         "newest" | "mixed" => task.count,
         _ => 0,
     };
     let end = task.held.saturating_add(further);
-    let posts = posts(alloc, buffers, task.held, end, is_mixed)?;
-    timed(rt, &mut state, &facts(alloc)?, posts, task)
+    posts(alloc, buffers, task.held, end, task.what == "mixed")
+}
+
+fn measured_over(
+    rt: &HostRuntime,
+    state: &mut State,
+    buffers: &[Buffer],
+    task: Task<'_>,
+) -> Option<(Duration, u64)> {
+    fill(rt.alloc(), state, buffers, task.held, task.what == "mixed")?;
+    let facts = facts(rt.alloc())?;
+    let posts = further_posts(rt.alloc(), buffers, task)?;
+    timed(rt, state, &facts, posts, task)
+}
+
+fn measured_on(rt: &HostRuntime, buffers: &[Buffer], task: Task<'_>) -> Option<(Duration, u64)> {
+    let mut state = State::new(rt.alloc());
+    measured_over(rt, &mut state, buffers, task)
 }
 
 fn measured(rt: &HostRuntime, task: Task<'_>) -> Option<(Duration, u64)> {
