@@ -151,33 +151,45 @@ def a_line_of_a_server_is_read_again_where_memory_was_short(fixture):
     fixture.notes.append(", ".join(f"{count} {what}" for what, count in sorted(counts.items())))
 
 
-def without_memory(fixture, name, line):
-    """A node for whose server's line eleven requests in a row are refused, and its session, a client and the server."""
+def without_memory(fixture, name, line, refused):
+    """A node for whose server's line so many requests in a row are refused, and its session, a client and the server."""
     server, refusals = Server(fixture), Refusals(fixture)
     node = Node(fixture, name, servers=[server.address], workers=1, front=refusals.front).begin()
     session = server.register()
     client = node.client().register()
-    refusals.set(0, 11)
+    refusals.set(0, refused)
     session.say(line)
     return node, server, session, client
 
 
+# A line is heard once and then tried again so often. A try for which there is no memory makes one request.
+TRIES = 10
+
+
 @test
 def a_line_that_is_only_passed_on_is_dropped_where_there_is_no_memory(fixture):
-    """Once it was tried at ten turns. The session stays, and the next line is told."""
+    """Once it was tried again ten times. The session stays, and the next line is told. One try earlier it is told."""
     first, second = ":bob!b@h TOPIC #a :first", ":bob!b@h TOPIC #a :second"
-    node, server, session, client = without_memory(fixture, "x1", first)
-    server.settled(session)
-    session.say(second)
-    line = client.line("a line")
-    expect("what is told", second, client.line("the second line") if line == first else line)
-    expect("whether the session ended", False, node.told("upstream down"))
+    for refused, is_told in ((TRIES, True), (TRIES + 1, False)):
+        node, server, session, client = without_memory(fixture, f"x{refused}", first, refused)
+        server.settled(session)
+        session.say(second)
+        for line in (first, second) if is_told else (second,):
+            expect(f"what is told with {refused} refused", line, client.line("a line"))
+        expect("whether the session ended", False, node.told("upstream down"))
+        node.kill()
 
 
 @test
 def a_message_for_which_there_is_no_memory_ends_the_session(fixture):
-    """Once it was tried at ten turns. No client is told it."""
-    node, _, session, client = without_memory(fixture, "x1", ":bob!b@h PRIVMSG #a :hi")
+    """Once it was tried again ten times. No client is told it. One try earlier it is told, and the session stays."""
+    line = ":bob!b@h PRIVMSG #a :hi"
+    node, server, session, client = without_memory(fixture, "x1", line, TRIES)
+    server.settled(session)
+    expect("what is told", line, client.line("a line"))
+    expect("whether the session ended", False, node.told("upstream down"))
+    node.kill()
+    node, _, session, client = without_memory(fixture, "x2", line, TRIES + 1)
     session.hear_end()
     node.wait_for("upstream down: demo/net: no memory")
     client.ping()
