@@ -37,8 +37,8 @@ KEPT = 200
 MOST = 30000
 # The seconds in which clients and strangers have left, and those in which what was cut is mended.
 LEAVE, MENDED = 15, 300
-# The first node's memory may be a tenth above what it was, and so many megabytes that the C library keeps of a crowd's.
-TENTH, KEPT_FREE = 1.1, 2
+# The first node's memory may be a tenth above what it was.
+TENTH = 1.1
 # After so many seconds a node gives up a peer from which nothing comes.
 GIVEN_UP = 330
 WRONG = "wr0ng"
@@ -371,7 +371,7 @@ def soak(run):
     check_first(run)
     after = at_rest(run)
     run.is_over = True
-    if after > quarter * TENTH + KEPT_FREE:
+    if after > quarter * TENTH:
         run.fail(f"{after:.1f} MB resident, and {quarter:.1f} MB after the first quarter")
     check_logs(run)
     lines = {node.name: node.log().count("\n") for node in run.cluster.nodes}
