@@ -76,7 +76,17 @@ impl Attachment for RingClient {
         Ok(())
     }
 
+    // What is all taken at once leaves the ring where it began, and not behind it. So a client that reads what it is owed has few
+    // of its ring's pages in memory, however much it was sent.
     fn flush_into(&mut self, out: &mut [u8]) -> usize {
-        self.ring.read_into(out)
+        let count = self.ring.len();
+        if count > out.len() {
+            return self.ring.read_into(out);
+        }
+        let (front, back) = self.ring.as_slices();
+        out[..front.len()].copy_from_slice(front);
+        out[front.len()..count].copy_from_slice(back);
+        self.ring.clear();
+        count
     }
 }
