@@ -1,6 +1,7 @@
 mod AnswerLemmas
 mod OwnPastLemmas
 mod TagLemmas
+mod MessageLemmas
 mod WordLemmas
 mod LinesLemmas
 mod ToldLemmas

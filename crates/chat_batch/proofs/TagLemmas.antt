@@ -1,11 +1,14 @@
 -- Tags that are written one by one.
-use Rattle.std.proofs.Common.{◌≡◌, ℕ, List, [], ◌++◌, Bool, true, false, codes, cond, refl, ap, ◌∙◌, append_assoc, append-nil}
+use Rattle.std.proofs.Common.{◌≡◌, ℕ, List, [], ◌∷◌, ◌++◌, Bool, true, false, codes, cond, refl, ap, ◌∙◌, append_assoc, append-nil, arith}
+use Rattle.std.proofs.lemmas.Bool.{and_parts}
 use Rattle.std.specs.Prelude.{◌||◌}
-use Rattle.irc_tags.specs.Value.{value_text}
+use Rattle.std.specs.List.{list_all}
+use Rattle.std.proofs.lemmas.Bool.Decides.{nat_tests}
+use Rattle.irc_tags.specs.Value.{byte_spelling, value_text}
 use Rattle.irc_time.specs.Text.{time_text}
 use Rattle.chat_change.specs.Record.{Record}
 use Rattle.irc_caps.specs.declared.CapSet.{CapSet}
-use Rattle.chat_batch.specs.Tags.{tag_part, more_tags, only_if, has_own_tags, batch_tags, message_tags, next_tag}
+use Rattle.chat_batch.specs.Tags.{tag_part, more_tags, only_if, has_own_tags, batch_tags, message_tags, next_tag, is_plain_byte}
 
 -- tags from the first on, or from a later one on
 abbrev from_here : Bool → List (List ℕ) → List ℕ
@@ -51,3 +54,14 @@ tags_same caps reference r batch id_too time_too own_too own id time tags one tw
     ++ (next_tag (second i) caps.server_time (codes "time=" ++ time_is i) ++ (next_tag (third i) (own_is i) (tags_are i) ++ cond (fourth i) (codes " ") []))))
     ∙ four_tags caps.batch caps.message_tags caps.server_time (has_own_tags caps r)
     (codes "batch=" ++ reference) (codes "msgid=" ++ value_text r.id) (codes "time=" ++ time_text r.at) r.tags
+
+-- ---- values without escapes
+
+plain_byte : (b : ℕ) → is_plain_byte b ≡ true → byte_spelling b ≡ b ∷ []
+plain_byte b e = grind (arith, nat_tests)
+
+pub plain_value : (value : List ℕ) → list_all is_plain_byte value ≡ true → value_text value ≡ value
+plain_value [] e = refl
+plain_value (b ∷ value) e =
+    let both = and_parts (is_plain_byte b) (list_all is_plain_byte value) e in
+    λ i. plain_byte b both.0 i ++ plain_value value both.1 i

@@ -1,9 +1,11 @@
 -- The tags of the lines that are written (IRCv3 message-tags, "Format").
-use Rattle.std.specs.Prelude.{ℕ, Bool, not, ◌&&◌, ◌==◌, List, [], ◌∷◌, ◌++◌, length, codes, if◌then◌else◌}
+use Rattle.std.specs.Prelude.{ℕ, Bool, not, ◌&&◌, ◌||◌, ◌==◌, List, [], ◌∷◌, ◌++◌, length, codes, if◌then◌else◌}
 use Rattle.irc_caps.specs.declared.CapSet.{CapSet}
-use Rattle.irc_tags.specs.Value.{value_text}
+use Rattle.irc_tags.specs.Value.{semicolon, space, backslash, carriage_return, line_feed, value_text}
 use Rattle.irc_time.specs.Text.{time_text}
 use Rattle.chat_change.specs.Record.{Record}
+use Rattle.chat_batch.specs.declared.tags.Tag.{Tag}
+use Rattle.chat_batch.specs.declared.tags.Tag.TheVariants as tag
 
 -- tags as they stand before a line: `@`, the tags with `;` between them, and a space. No tags are nothing.
 abbrev pub more_tags : List (List ℕ) → List ℕ
@@ -41,6 +43,19 @@ message_tags caps r =
 abbrev pub separator : Bool → List ℕ
 separator begun = if begun then codes ";" else codes "@"
 
+-- the key of a tag, with its `=`
+abbrev pub key_text : Tag → List ℕ
+key_text tag.Batch = codes "batch="
+key_text tag.MsgId = codes "msgid="
+key_text tag.Time = codes "time="
+
 -- the next tag, if there is one: `begun` says that a tag stands before it
 abbrev pub next_tag : Bool → Bool → List ℕ → List ℕ
 next_tag begun flag tag = if flag then separator begun ++ tag else []
+
+-- ---- values without escapes
+
+-- whether a byte of a value is written as it is
+abbrev pub is_plain_byte : ℕ → Bool
+is_plain_byte b =
+    not ((b == semicolon) || (b == space) || (b == backslash) || (b == carriage_return) || (b == line_feed))

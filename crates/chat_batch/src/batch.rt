@@ -46,7 +46,8 @@ fn put_start<W: Write>(
     put(writer, reference)
 }
 
-fn put_pair<W: Write>(writer: &mut W, prefix: &[u8], text: &[u8]) -> io::Result<()>
+/// Writes two texts in turn.
+pub(crate) fn put_pair<W: Write>(writer: &mut W, prefix: &[u8], text: &[u8]) -> io::Result<()>
     ensures { Writes W.contents writer.old writer.new result (prefix.now ++ text.now) }
 {
     put(writer, prefix)?;

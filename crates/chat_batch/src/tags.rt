@@ -1,9 +1,11 @@
 //! The tags of a message (IRCv3 message-tags), each written only where the session has its capability.
 ghost use Rattle.std.specs.Prelude.{◌≡◌, ◌++◌, ◌||◌, [], codes, if◌then◌else◌, OnOk};
 ghost use Rattle.byte_text.specs.Writes.{Writes};
+ghost use Rattle.std.specs.List.{list_all};
 ghost use Rattle.irc_tags.specs.Value.{value_text};
-ghost use Rattle.chat_batch.specs.Tags.{next_tag, tag_part, has_own_tags, batch_tags, message_tags, separator};
+ghost use Rattle.chat_batch.specs.Tags.{next_tag, tag_part, has_own_tags, batch_tags, message_tags, separator, key_text, is_plain_byte};
 
+use crate::batch::put_pair;
 use byte_text::put;
 use chat_change::Record;
 use irc_caps::CapSet;
@@ -27,19 +29,60 @@ pub(crate) fn put_three<W: Write>(
     put(writer, third)
 }
 
-/// Writes a tag whose value is written with the escapes of a value.
-fn put_escaped<W: Write>(
-    writer: &mut W,
-    separator: &[u8],
-    key: &[u8],
-    value: &[u8],
-) -> io::Result<()>
-    ensures { Writes W.contents writer.old writer.new result (separator.now ++
-        (key.now ++ value_text value.now)) }
+// Whether a byte of a value is written as it is.
+fn is_plain_byte(b: u8) -> bool
+    ensures { result ≡ is_plain_byte b }
 {
-    put(writer, separator)?;
+    !matches!(b, b';' | b' ' | b'\\' | b'\r' | b'\n')
+}
+
+fn is_plain(value: &[u8]) -> bool
+    ensures { result ≡ list_all is_plain_byte value.now }
+{
+    value.iter().all(|b| is_plain_byte(*b))
+}
+
+/// Writes a value with its escapes. Most ids have none, and are written at once.
+fn put_value<W: Write>(writer: &mut W, value: &[u8]) -> io::Result<()>
+    ensures { Writes W.contents writer.old writer.new result (value_text value.now) }
+{
+    if is_plain(value) {
+        put(writer, value)
+    } else {
+        write_value(value, writer)
+    }
+}
+
+/// Writes a tag whose value is written with the escapes of a value.
+fn put_escaped<W: Write>(writer: &mut W, key: &[u8], value: &[u8]) -> io::Result<()>
+    ensures { Writes W.contents writer.old writer.new result (key.now ++ value_text value.now) }
+{
     put(writer, key)?;
-    write_value(value, writer)
+    put_value(writer, value)
+}
+
+/// A tag that a line has before the record's own.
+#[derive(Clone, Copy)]
+pub(crate) enum Tag {
+    Batch,
+    MsgId,
+    Time,
+}
+
+impl Tag {
+    /// Its key, with what stands before the tag, and with the `=` behind it.
+    fn key(self, begun: bool) -> &'static [u8]
+        ensures { result.now ≡ separator begun ++ key_text self }
+    {
+        match (self, begun) {
+            (Tag::Batch, false) => b"@batch=",
+            (Tag::Batch, true) => b";batch=",
+            (Tag::MsgId, false) => b"@msgid=",
+            (Tag::MsgId, true) => b";msgid=",
+            (Tag::Time, false) => b"@time=",
+            (Tag::Time, true) => b";time=",
+        }
+    }
 }
 
 /// Tags that are written one by one: `@` before the first, `;` before a later one.
@@ -62,19 +105,19 @@ impl TagWriter {
         &mut self,
         writer: &mut W,
         flag: bool,
-        key: &[u8],
+        tag: Tag,
         value: &[u8],
     ) -> io::Result<()>
         ensures text { Writes W.contents writer.old writer.new result
-            (next_tag self.old.begun flag (key.now ++ value.now)) }
+            (next_tag self.old.begun flag (key_text tag ++ value.now)) }
         ensures begun { OnOk result (self.new.begun ≡ (self.old.begun || flag)) }
     {
         if !flag {
             return Ok(());
         }
-        let separator = self.separator();
+        let key = tag.key(self.begun);
         self.begun = true;
-        put_three(writer, separator, key, value)
+        put_pair(writer, key, value)
     }
 
     /// Writes a tag where the flag is set, with the escapes of a value.
@@ -82,19 +125,19 @@ impl TagWriter {
         &mut self,
         writer: &mut W,
         flag: bool,
-        key: &[u8],
+        tag: Tag,
         value: &[u8],
     ) -> io::Result<()>
         ensures text { Writes W.contents writer.old writer.new result
-            (next_tag self.old.begun flag (key.now ++ value_text value.now)) }
+            (next_tag self.old.begun flag (key_text tag ++ value_text value.now)) }
         ensures begun { OnOk result (self.new.begun ≡ (self.old.begun || flag)) }
     {
         if !flag {
             return Ok(());
         }
-        let separator = self.separator();
+        let key = tag.key(self.begun);
         self.begun = true;
-        put_escaped(writer, separator, key, value)
+        put_escaped(writer, key, value)
     }
 
     /// Writes tags that stand as they are written, where the flag is set.
@@ -103,7 +146,12 @@ impl TagWriter {
             (next_tag self.old.begun flag tags.now) }
         ensures begun { OnOk result (self.new.begun ≡ (self.old.begun || flag)) }
     {
-        self.tag(writer, flag, b"", tags)
+        if !flag {
+            return Ok(());
+        }
+        let separator = self.separator();
+        self.begun = true;
+        put_pair(writer, separator, tags)
     }
 
     /// Writes the space behind the tags, where there are any.
@@ -140,9 +188,9 @@ pub(crate) fn put_tags<W: Write>(
     let time = write_time(message.at());
     let id = message.id().as_bytes();
     let mut tags = TagWriter { begun: false };
-    tags.tag(writer, caps.batch, b"batch=", reference)?;
-    tags.escaped_tag(writer, caps.message_tags, b"msgid=", id)?;
-    tags.tag(writer, caps.server_time, b"time=", time.as_slice())?;
+    tags.tag(writer, caps.batch, Tag::Batch, reference)?;
+    tags.escaped_tag(writer, caps.message_tags, Tag::MsgId, id)?;
+    tags.tag(writer, caps.server_time, Tag::Time, time.as_slice())?;
     tags.written_tags(writer, has_own_tags(caps, message), message.tags())?;
     tags.end(writer)
 }
