@@ -16,16 +16,16 @@ use byte_text::{NoMemory, find_byte};
 use std::alloc::Global;
 use std::marker::Model;
 
-/// So many lines are offered in one go.
-const LINES: usize = 256;
+/// So many times lines are offered in one go.
+const OFFERS: usize = 256;
 
-// What came of offering the first of the lines that wait.
+// What came of offering lines that wait.
 enum Offered {
-    // It was handed to the attachment.
-    Line,
+    // They were handed to the attachment.
+    Lines,
     // None may be offered now.
     Nothing,
-    // It doesn't fit into the bound.
+    // They don't fit into the bound.
     Overrun,
 }
 
@@ -143,9 +143,11 @@ impl<X: Attachment, C: Connection> AttachedConnection<X, C> {
         ensures waiting { self.new.waiting ≡ self.old.waiting }
         ensures received { self.new.traffic.received ≡ self.old.traffic.received }
     {
-        if self.owed().saturating_add(line.len()) > self.attachment.bound() {
+        let ahead = self.queue.owed();
+        if ahead != 0 && self.owed().saturating_add(line.len()) > self.attachment.bound() {
             return false;
         }
+        // Where nothing left the attachment that is still to be sent, it refuses what doesn't fit itself.
         self.attachment.offer(line).is_ok()
     }
 
@@ -233,22 +235,22 @@ impl<X: Attachment, C: Connection> AttachedConnection<X, C> {
         !self.waiting.is_empty()
     }
 
-    // Offers the first of the lines that wait, where there is room.
+    // Offers the lines that wait, or the first of them, where there is room.
     fn offer_first(&mut self) -> Offered
         ensures moves { Moves self.old self.new }
         ensures received { self.new.traffic.received ≡ self.old.traffic.received }
     {
         let owed = self.owed();
         let bound = self.attachment.bound();
-        let Some(line) = next_of(self.waiting.as_bytes(), owed, bound) else {
+        let Some(lines) = next_of(self.waiting.as_bytes(), owed, bound) else {
             return Offered::Nothing;
         };
-        let count = line.len();
-        if self.attachment.offer(line).is_err() {
+        let count = lines.len();
+        if self.attachment.offer(lines).is_err() {
             return Offered::Overrun;
         }
         self.waiting.take(count);
-        Offered::Line
+        Offered::Lines
     }
 
     /// Offers the lines that wait, as far as there is room. False where one doesn't fit into the bound.
@@ -256,9 +258,9 @@ impl<X: Attachment, C: Connection> AttachedConnection<X, C> {
         ensures moves { Moves self.old self.new }
         ensures received { self.new.traffic.received ≡ self.old.traffic.received }
     {
-        for _ in 0..LINES {
+        for _ in 0..OFFERS {
             match self.offer_first() {
-                Offered::Line => {}
+                Offered::Lines => {}
                 Offered::Nothing => return true,
                 Offered::Overrun => return false,
             }
@@ -285,16 +287,21 @@ impl<X: Attachment, C: Connection> AttachedConnection<X, C> {
     }
 }
 
-// The first of the lines that wait, where it may be offered now.
+// The lines that wait where they all fit, or else the first of them, where it may be offered now.
 fn next_of(bytes: &[u8], owed: usize, bound: usize) -> Option<&[u8]>
-    ensures { IfSome result (λ line. bytes.now ≡ line.now ++ drop (length line.now) bytes.now) }
+    ensures { IfSome result (λ lines. bytes.now ≡ lines.now ++ drop (length lines.now) bytes.now) }
 {
+    if bytes.is_empty() {
+        return None;
+    }
+    if owed.saturating_add(bytes.len()) <= bound / 2 {
+        return Some(bytes);
+    }
     let line = match find_byte(bytes, b'\n') {
         Some(at) => &bytes[..at + 1],
         None => bytes,
     };
-    let fits = owed.saturating_add(line.len()) <= bound / 2;
-    if !line.is_empty() && (owed == 0 || fits) {
+    if owed == 0 || owed.saturating_add(line.len()) <= bound / 2 {
         Some(line)
     } else {
         None

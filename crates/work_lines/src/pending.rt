@@ -8,7 +8,7 @@ use std::alloc::Global;
 use std::marker::Model;
 
 /// So many bytes at most are taken from an attachment at once.
-const CHUNK: usize = 16_384;
+const CHUNK: usize = 32_768;
 
 /// So much room is kept where nothing waits: enough for a line or two, and not for a page.
 const KEPT: usize = 1024;
