@@ -3,7 +3,8 @@
 //! A [`Context`] is lent to the part that has its turn: the servers, the clients or the peers. Its [`NodeView`] is what the node's
 //! configuration and directory say; its [`Schedule`] rings when a connection is to be tried again, is silent, or a floor is
 //! due; its [`Shortage`] counts what is closed for want of memory. [`Closing`] says whether a connection stays, and a
-//! [`ClockWatch`] whether the wall clock keeps time.
+//! [`ClockWatch`] whether the wall clock keeps time. [`Connections`] is the table of the clients, of the servers and of the
+//! peers, with the queue of those that have something to do.
 //!
 //! [`Timers`] is a value and reads no clock: its caller sets and clears timers, waits until the moment that [`Timers::next`] tells,
 //! and then takes the due ones out, the earliest first. [`Lines::share`] puts a line's bytes into a block that all who get the
@@ -13,6 +14,7 @@
 
 mod clock_watch;
 mod closing;
+mod connections;
 mod context;
 mod due;
 pub mod laws;
@@ -27,6 +29,7 @@ mod waits;
 
 pub use clock_watch::{BETWEEN_LOOKS, ClockWatch};
 pub use closing::Closing;
+pub use connections::{Connections, Entry, Found, Served};
 pub use context::{Context, clock};
 pub use lines::Lines;
 pub use node_view::NodeView;
