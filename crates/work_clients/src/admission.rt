@@ -19,11 +19,12 @@ impl<X: Attachment, C: Connection> Admitted<X, C> {
         }
     }
 
-    // Known from now on by its network, where its session has just registered.
+    // Known from now on by its network, where its session has just registered. It stands under that key.
     fn register<P: Carries<ToClient, Connection = C>>(
         &mut self,
         context: &mut Context<P>,
         registrations: &mut Registrations,
+        key: usize,
     ) {
         if self.client.know_nick(context.view.alloc).is_err() {
             self.closing = Closing::AtOnce(Reason::NoMemory);
@@ -40,6 +41,7 @@ impl<X: Attachment, C: Connection> Admitted<X, C> {
         let registration = Registration {
             network: place,
             number: self.client.number(),
+            key,
         };
         let Ok(()) = registrations.enter(registration) else {
             self.closing = Closing::AtOnce(Reason::NoMemory);
@@ -98,6 +100,8 @@ impl<X: Attachment, C: Connection> Clients<X, C> {
         number: usize,
         ticket: u64,
     ) {
+        // Where the port gives a number again, the connection that bore it before is closed.
+        self.close(context, number, Reason::Closed);
         let attachment = self.lobby.admit(rt, ticket);
         let Some(connection) = context.port.open(number) else {
             return self.tell_refused(context, None, Reason::Closed);
@@ -108,7 +112,7 @@ impl<X: Attachment, C: Connection> Clients<X, C> {
         if let Err(connection) = self.begin(&context.view, connection, attachment, ticket) {
             return self.refuse(context, connection, Reason::NoMemory);
         }
-        self.wake(number);
+        self.connections.wake(number);
         if context.set_patience(number, PATIENCE).is_err() {
             self.close(context, number, Reason::NoMemory);
         }
@@ -122,14 +126,17 @@ impl<X: Attachment, C: Connection> Clients<X, C> {
         number: usize,
     ) {
         let Clients {
-            all,
+            connections,
             registrations,
             lobby,
             ..
         } = self;
-        if let Some(admitted) = all.get_mut(&number) {
+        let Some(key) = connections.key_of(number) else {
+            return;
+        };
+        if let Some(admitted) = connections.get_mut(number) {
             if admitted.network.is_none() {
-                admitted.register(context, registrations);
+                admitted.register(context, registrations, key);
                 if admitted.network.is_some() {
                     lobby.note_registered(admitted.client.place());
                 }
@@ -146,7 +153,7 @@ impl<X: Attachment, C: Connection> Clients<X, C> {
         if self.release(number) {
             return;
         }
-        let Some(admitted) = self.all.get(&number) else {
+        let Some(admitted) = self.connections.get(number) else {
             return;
         };
         if let Some(reason) = admitted.reason_when_due() {
@@ -157,7 +164,7 @@ impl<X: Attachment, C: Connection> Clients<X, C> {
     /// The client is closed once it has read what it is owed, or had long enough to. Where there is no memory to wait for
     /// that, it is lost.
     pub fn end<P: Port>(&mut self, context: &mut Context<P>, number: usize, reason: Reason) {
-        if let Some(admitted) = self.all.get_mut(&number) {
+        if let Some(admitted) = self.connections.get_mut(number) {
             admitted.closing = match context.set_patience(number, PATIENCE) {
                 Ok(()) => Closing::AfterWrites(reason),
                 Err(_) => Closing::AtOnce(Reason::NoMemory),

@@ -3,12 +3,11 @@ use crate::turned_away::TurnedAway;
 use attach::Attachment;
 use bnc_ports::{Connection, Reason};
 use client_connection::{Client, Delivery};
-use std::collections::VecDeque;
-use worker_io::Closing;
+use worker_io::{Closing, Found, Served};
 
 /// A client that was admitted.
 #[derive(Drop)]
-pub(crate) struct Admitted<X: Attachment, C: Connection> {
+pub struct Admitted<X: Attachment, C: Connection> {
     pub(crate) client: Client<X, C>,
     /// The place of its network among those of the node. Only the registered have one.
     pub(crate) network: Option<usize>,
@@ -16,8 +15,6 @@ pub(crate) struct Admitted<X: Attachment, C: Connection> {
     pub(crate) turned_away: TurnedAway,
     /// The ticket under which it came.
     pub(crate) ticket: u64,
-    /// Whether it stands in the queue of those that have something to do.
-    pub(crate) is_queued: bool,
 }
 
 impl<X: Attachment, C: Connection> Admitted<X, C> {
@@ -29,7 +26,6 @@ impl<X: Attachment, C: Connection> Admitted<X, C> {
             closing: Closing::Open,
             turned_away: TurnedAway::No,
             ticket,
-            is_queued: false,
         }
     }
 
@@ -48,21 +44,23 @@ impl<X: Attachment, C: Connection> Admitted<X, C> {
     pub(crate) fn lose(&mut self, reason: Reason) {
         self.closing = Closing::AtOnce(reason);
     }
+}
 
-    /// Stands in the queue.
-    pub(crate) fn wake(&mut self, busy: &mut VecDeque<usize>, number: usize) {
-        if !self.is_queued && busy.push_back(number).is_ok() {
-            self.is_queued = true;
-        }
+impl<X: Attachment, C: Connection> Served for Admitted<X, C> {
+    fn mark(&mut self, readable: bool, writable: bool) {
+        self.client.mark(readable, writable);
     }
+}
 
-    /// It was told something, or can't be.
-    pub(crate) fn note(&mut self, delivery: Delivery, busy: &mut VecDeque<usize>, number: usize) {
-        match delivery {
-            Delivery::Skipped => return,
-            Delivery::Taken => {}
-            Delivery::Refused(reason) => self.lose(reason),
-        }
-        self.wake(busy, number);
+/// The client was told something, or can't be.
+pub(crate) fn note<X: Attachment, C: Connection>(
+    found: &mut Found<'_, Admitted<X, C>>,
+    delivery: Delivery,
+) {
+    match delivery {
+        Delivery::Skipped => return,
+        Delivery::Taken => {}
+        Delivery::Refused(reason) => found.served().lose(reason),
     }
+    found.wake();
 }

@@ -1,4 +1,5 @@
 //! What comes of clients' lines: what they are answered, and what else is done for them.
+use crate::admitted::note;
 use crate::clients::Clients;
 use attach::Attachment;
 use bnc_ports::{Carries, Connection, Port, Reason};
@@ -16,7 +17,7 @@ impl<X: Attachment, C: Connection> Clients<X, C> {
         alloc: Global,
         number: usize,
     ) -> Result<Option<ClientEffect>, Reason> {
-        match self.all.get_mut(&number) {
+        match self.connections.get_mut(number) {
             Some(admitted) => admitted.client.next_effect(alloc),
             None => Ok(None),
         }
@@ -24,12 +25,12 @@ impl<X: Attachment, C: Connection> Clients<X, C> {
 
     /// The client's line for the network's server, where that is next.
     pub fn line_for_server(&self, number: usize) -> Option<Said<'_>> {
-        self.all.get(&number)?.client.line_for_server()
+        self.connections.get(number)?.client.line_for_server()
     }
 
     /// The client's line for the network's server, where that was next, is done.
     pub fn line_done(&mut self, number: usize) {
-        if let Some(admitted) = self.all.get_mut(&number) {
+        if let Some(admitted) = self.connections.get_mut(number) {
             admitted.client.line_done();
         }
     }
@@ -41,8 +42,12 @@ impl<X: Attachment, C: Connection> Clients<X, C> {
         pass: &mut Pass<J>,
         number: usize,
     ) -> Result<(), Reason> {
-        let Clients { all, room, .. } = self;
-        match all.get_mut(&number) {
+        let Clients {
+            connections,
+            room,
+            ..
+        } = self;
+        match connections.get_mut(number) {
             Some(admitted) => admitted.client.answer(context.view.alloc, pass, room),
             None => Ok(()),
         }
@@ -57,14 +62,14 @@ impl<X: Attachment, C: Connection> Clients<X, C> {
         target: &[u8],
     ) {
         let Clients {
-            all,
-            busy,
+            connections,
             room,
             ..
         } = self;
-        if let Some(admitted) = all.get_mut(&number) {
-            let delivery = admitted.client.tell_marker(context, pass, target, room);
-            admitted.note(delivery, busy, number);
+        if let Some(mut found) = connections.find(number) {
+            let client = &mut found.served().client;
+            let delivery = client.tell_marker(context, pass, target, room);
+            note(&mut found, delivery);
         }
     }
 }

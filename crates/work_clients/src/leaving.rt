@@ -19,9 +19,10 @@ impl<X: Attachment, C: Connection> Clients<X, C> {
 
     // The connection of the client that came under the ticket, if it isn't registered.
     fn unregistered(&self, ticket: u64) -> Option<usize> {
-        for (line, admitted) in self.all.iter() {
+        for (_, entry) in self.connections.iter() {
+            let admitted = &entry.served;
             if admitted.ticket == ticket && admitted.network.is_none() {
-                return Some(*line);
+                return Some(entry.number);
             }
         }
         None

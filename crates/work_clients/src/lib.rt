@@ -18,5 +18,6 @@ mod telling;
 mod turned_away;
 mod turns;
 
+pub use admitted::Admitted;
 pub use client_connection::{ClientEffect, ClientPut, ClientStep, ToClient};
 pub use clients::Clients;

@@ -1,54 +1,76 @@
 //! Which clients are registered with which network.
 use byte_text::NoMemory;
 use std::alloc::Global;
-use std::collections::BTreeSet;
-use std::collections::btree_set::Range;
 
-/// A client, by the number of its connection, is registered with a network, by its place among those of the node.
+/// A client, by the number of its connection and by its key among the worker's, is registered with a network, by its place
+/// among those of the node.
 #[derive(Clone, Copy, PartialEq, Eq, PartialOrd, Ord)]
 pub(crate) struct Registration {
     pub(crate) network: usize,
     pub(crate) number: usize,
+    pub(crate) key: usize,
 }
 
-/// The registrations of a worker's clients: those of a network stand together, in the order of their connections. So what a
-/// network's clients are told costs nothing for the clients of other networks.
+/// The registrations of a worker's clients, in order: those of a network stand together, in the order of their connections.
+/// So what a network's clients are told costs nothing for the clients of other networks, and they are gone through without a
+/// search.
 #[derive(Drop)]
 pub(crate) struct Registrations {
-    all: BTreeSet<Registration>,
+    all: Vec<Registration>,
+}
+
+// Where the registration stands in the list, or would.
+fn place_of(list: &[Registration], registration: &Registration) -> usize {
+    match list.binary_search(registration) {
+        Ok(place) => place,
+        Err(place) => place,
+    }
 }
 
 impl Registrations {
     /// Nobody is registered.
     pub(crate) fn new(alloc: Global) -> Registrations {
         Registrations {
-            all: BTreeSet::new(alloc),
+            all: Vec::new(alloc),
         }
     }
 
     /// A client is registered from now on. For want of memory nothing changes.
     pub(crate) fn enter(&mut self, registration: Registration) -> Result<(), NoMemory> {
-        match self.all.insert(registration) {
+        match self.all.binary_search(&registration) {
             Ok(_) => Ok(()),
-            Err(_) => Err(NoMemory),
+            Err(place) => match self.all.insert(place, registration) {
+                Ok(()) => Ok(()),
+                Err(_) => Err(NoMemory),
+            },
         }
     }
 
     /// A client isn't registered any more. It takes no memory.
     pub(crate) fn leave(&mut self, registration: Registration) {
-        self.all.remove(&registration);
+        if let Ok(place) = self.all.binary_search(&registration) {
+            self.all.remove(place);
+        }
     }
 
     /// The registrations with a network, from that connection on.
-    pub(crate) fn of(&self, network: usize, from: usize) -> Range<'_, Registration> {
+    pub(crate) fn of(&self, network: usize, from: usize) -> &[Registration] {
         let first = Registration {
             network,
             number: from,
+            key: 0,
         };
         let last = Registration {
             network,
             number: usize::MAX,
+            key: usize::MAX,
         };
-        self.all.range(first..=last)
+        let Some(rest) = self.all.get(place_of(&self.all, &first)..) else {
+            return &[];
+        };
+        match rest.get(..place_of(rest, &last)) {
+            Some(those) => those,
+            None => rest,
+        }
     }
 }

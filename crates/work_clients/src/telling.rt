@@ -1,4 +1,5 @@
 //! What all sessions of a network are told.
+use crate::admitted::note;
 use crate::clients::Clients;
 use crate::registrations::Registration;
 use attach::Attachment;
@@ -30,15 +31,14 @@ impl<X: Attachment, C: Connection> Clients<X, C> {
         live: &mut LiveText<'_>,
     ) {
         let Clients {
-            all,
+            connections,
             registrations,
-            busy,
             ..
         } = self;
-        for Registration { number, .. } in registrations.of(network, 0) {
-            if let Some(admitted) = all.get_mut(number) {
-                let delivery = admitted.client.take_message(port, live);
-                admitted.note(delivery, busy, *number);
+        for Registration { key, .. } in registrations.of(network, 0) {
+            if let Some(mut found) = connections.find_at(*key) {
+                let delivery = found.served().client.take_message(port, live);
+                note(&mut found, delivery);
             }
         }
     }
@@ -51,15 +51,14 @@ impl<X: Attachment, C: Connection> Clients<X, C> {
         passed: &Passed<'_>,
     ) {
         let Clients {
-            all,
+            connections,
             registrations,
-            busy,
             ..
         } = self;
-        for Registration { number, .. } in registrations.of(network, 0) {
-            if let Some(admitted) = all.get_mut(number) {
-                let delivery = admitted.client.take_line(&mut context.port, passed);
-                admitted.note(delivery, busy, *number);
+        for Registration { key, .. } in registrations.of(network, 0) {
+            if let Some(mut found) = connections.find_at(*key) {
+                let delivery = found.served().client.take_line(&mut context.port, passed);
+                note(&mut found, delivery);
             }
         }
     }
@@ -74,22 +73,20 @@ impl<X: Attachment, C: Connection> Clients<X, C> {
         is_passed_on: bool,
     ) {
         let Clients {
-            all,
+            connections,
             registrations,
-            busy,
             room,
             ..
         } = self;
         let nick = entry.entry.nick();
-        for Registration { number, .. } in registrations.of(network, 0) {
-            match all.get_mut(number) {
-                Some(admitted) if admitted.client.knows_another_nick(nick) => {
-                    let delivery = admitted
-                        .client
-                        .take_nick(context, entry, is_passed_on, room);
-                    admitted.note(delivery, busy, *number);
-                }
-                _ => {}
+        for Registration { key, .. } in registrations.of(network, 0) {
+            let Some(mut found) = connections.find_at(*key) else {
+                continue;
+            };
+            let client = &mut found.served().client;
+            if client.knows_another_nick(nick) {
+                let delivery = client.take_nick(context, entry, is_passed_on, room);
+                note(&mut found, delivery);
             }
         }
     }

@@ -58,13 +58,14 @@ impl<X: Attachment, C: Connection> Admitted<X, C> {
 impl<X: Attachment, C: Connection> Clients<X, C> {
     /// A client that waited until it may be told that it is turned away is told now. False where it doesn't wait for that.
     pub(crate) fn release(&mut self, number: usize) -> bool {
-        match self.all.get_mut(&number) {
-            Some(admitted) if admitted.is_held() => {
-                admitted.turned_away = TurnedAway::IsTold;
-                admitted.wake(&mut self.busy, number);
-                true
-            }
-            _ => false,
+        let Some(mut found) = self.connections.find(number) else {
+            return false;
+        };
+        if !found.served().is_held() {
+            return false;
         }
+        found.served().turned_away = TurnedAway::IsTold;
+        found.wake();
+        true
     }
 }

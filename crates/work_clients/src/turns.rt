@@ -54,7 +54,7 @@ impl<X: Attachment, C: Connection> Clients<X, C> {
         peek: &mut K,
         number: usize,
     ) -> ClientStep {
-        match self.all.get_mut(&number) {
+        match self.connections.get_mut(number) {
             Some(admitted) => admitted.step(context, peek),
             None => ClientStep::Rest,
         }
@@ -65,7 +65,7 @@ impl<X: Attachment, C: Connection> Clients<X, C> {
         context: &mut Context<P>,
         number: usize,
     ) -> Pumped {
-        match self.all.get_mut(&number) {
+        match self.connections.get_mut(number) {
             Some(admitted) => admitted.client.write_out(&mut context.port),
             None => Pumped::All,
         }
@@ -80,7 +80,7 @@ impl<X: Attachment, C: Connection> Clients<X, C> {
     ) {
         match self.write_out(context, number) {
             Pumped::All if !has_more => {}
-            Pumped::All | Pumped::Some => self.wake(number),
+            Pumped::All | Pumped::Some => self.connections.wake(number),
             Pumped::Blocked => {}
             Pumped::Closed => self.close(context, number, Reason::Closed),
             Pumped::Overrun => self.close(context, number, Reason::Overrun),
