@@ -1,6 +1,8 @@
--- The lines that came in a course, and what was said by then.
+-- What came in a course, and what was said by then.
 use Rattle.std.proofs.Common.{◌≡◌, ℕ, Bool, true, false, cond, ◌&&◌, List, [], ◌∷◌, ◌++◌, Option, Some, None, Ok, Err, refl, sym, ap, ◌∙◌, subst, ◌⊎◌, inl, inr, ⊎_elim, nat_lt, append-nil, append_assoc}
+use Rattle.std.proofs.lemmas.Slice.Zip.{all_zipped_more}
 use Rattle.std.specs.Prelude.{slice_get}
+use Rattle.irc_line.specs.Stream.{Item, items}
 use Rattle.peer_lines.specs.Gather as gather
 use Rattle.peer_lines.specs.Gather.{Gather, pushed}
 use Rattle.peer_lines.specs.declared.gather.Arrived.{Arrived}
@@ -19,7 +21,8 @@ use Rattle.peer_session.specs.declared.heard.Heard.{Heard}
 use Rattle.peer_session.specs.declared.heard.Heard.TheVariants.{Nothing, Message}
 use Rattle.peer_session.specs.declared.pace.Pace.{Pace}
 use Rattle.peer_session.specs.declared.pace.TheConstants.{MOST_UNANSWERED}
-use Rattle.peer_connection.specs.PeerCourse.{PeerCourse, Opens, Hears, Notes, Replies, Publishes, Ticks, Makes, Repeats, Reminds, lines_of, IsGreeted}
+use Rattle.peer_connection.specs.Lines.{IsLine, AreLines}
+use Rattle.peer_connection.specs.PeerCourse.{PeerCourse, Opens, Hears, Notes, Replies, Publishes, Ticks, Makes, Repeats, Reminds, IsToldByRight, IsGreeted, ComesFrom}
 
 -- ---- when packets are made plays no part in what comes of a line
 
@@ -122,31 +125,45 @@ after_one_more : (t : Terms) (s : Session) (lines : List (Option PeerLine)) (l :
 after_one_more t s [] l = refl
 after_one_more t s (m ∷ lines) l = after_one_more t (step t s m).session lines l
 
-greeted_by : {t : Terms} {lines : List (Option PeerLine)} → ArePeers t lines → IsGreeted t lines
-greeted_by {t} {lines} are = record { first = lines; more = []; all = sym (append-nil lines); are = are }
+greeted_by : {t : Terms} {came : List Item} {lines : List (Option PeerLine)} → AreLines came lines → ArePeers t lines → IsGreeted t came
+greeted_by {t} {came} {lines} read are = record { first = came; more = []; lines = lines; all = sym (append-nil came); lines_are = read; are = are }
 
-greeted_before : {t : Terms} {lines : List (Option PeerLine)} (l : Option PeerLine) → IsGreeted t lines → IsGreeted t (lines ++ l ∷ [])
-greeted_before {t} {lines} l g = record {
+-- whatever comes behind that
+greeted_behind : {t : Terms} {came : List Item} (more : List Item) → IsGreeted t came → IsGreeted t (came ++ more)
+greeted_behind {t} {came} more g = record {
   first = g.first;
-  more = g.more ++ l ∷ [];
-  all = ap (λ (x : List (Option PeerLine)). x ++ l ∷ []) g.all ∙ append_assoc g.first g.more (l ∷ []);
+  more = g.more ++ more;
+  lines = g.lines;
+  all = ap (λ (x : List Item). x ++ more) g.all ∙ append_assoc g.first g.more more;
+  lines_are = g.lines_are;
   are = g.are;
 }
+
+greeted_before : {t : Terms} {came : List Item} (item : Item) → IsGreeted t came → IsGreeted t (came ++ item ∷ [])
+greeted_before item g = greeted_behind (item ∷ []) g
 
 -- ---- courses
 
 -- the lines are those of the peer at that place
-abbrev pub ComesFrom : Terms → List (Option PeerLine) → ℕ → Type 0
-ComesFrom t lines place = (are : ArePeers t lines) × (slice_get (names_of t) place ≡ Some are.peer.node)
+abbrev pub ArePeersAt : Terms → List (Option PeerLine) → ℕ → Type 0
+ArePeersAt t lines place = (are : ArePeers t lines) × (slice_get (names_of t) place ≡ Some are.peer.node)
 
-record Stands (t : Terms) (s : Session) (heard : Heard) (noted : Option ℕ) (said : List ℕ) (lines : List (Option PeerLine)) : Type 0 where
+comes_from : {t : Terms} {place : ℕ} {came : List Item} (lines : List (Option PeerLine)) → AreLines came lines → ArePeersAt t lines place → ComesFrom t place came
+comes_from {t} {place} {came} lines read are = record { lines = lines; lines_are = read; are = are.0; is_there = are.1 }
+
+greeted_from : {t : Terms} {place : ℕ} {came : List Item} → ComesFrom t place came → IsGreeted t came
+greeted_from from = greeted_by from.lines_are from.are
+
+record Stands (t : Terms) (s : Session) (brought : Heard) (noted : Option ℕ) (said : List ℕ) (came : List Item) : Type 0 where
   side : Side
+  lines : List (Option PeerLine)
+  lines_are : AreLines came lines
   same : s.handshake.side ≡ side
   alike : Alike (after_lines t (new side) lines) s
-  opened : (said ≡ opening t side) ⊎ IsGreeted t lines
-  message : (place : ℕ) (arrived : Arrived) → heard ≡ Message place arrived → ComesFrom t lines place
-  placed : (place : ℕ) → noted ≡ Some place → IsGreeted t lines
-  paced : s.pace.is_greeted ≡ true → IsGreeted t lines
+  opened : (said ≡ opening t side) ⊎ IsGreeted t came
+  message : (place : ℕ) (arrived : Arrived) → brought ≡ Message place arrived → ComesFrom t place came
+  placed : (place : ℕ) → noted ≡ Some place → IsGreeted t came
+  paced : s.pace.is_greeted ≡ true → IsGreeted t came
 
 no_message : (place : ℕ) (arrived : Arrived) → Nothing ≡ Message place arrived → ⊥
 no_message place arrived e = cc
@@ -159,43 +176,50 @@ not_greeted e = cc
 
 -- what comes of a line is said to nobody but a peer that has said hello, and a message comes from one alone
 module _
-    (arrives : (t : Terms) (side : Side) (before : List (Option PeerLine)) (line : Option PeerLine) (place : ℕ) (arrived : Arrived) → (last_step t side before line).heard ≡ Message place arrived → ComesFrom t (before ++ line ∷ []) place)
+    (arrives : (t : Terms) (side : Side) (before : List (Option PeerLine)) (line : Option PeerLine) (place : ℕ) (arrived : Arrived) → (last_step t side before line).heard ≡ Message place arrived → ArePeersAt t (before ++ line ∷ []) place)
     (sends : (t : Terms) (side : Side) (before : List (Option PeerLine)) (line : Option PeerLine) → ((last_step t side before line).sent ≡ []) ⊎ ArePeers t (before ++ line ∷ [])) where
-  heard_stands : (t : Terms) (s : Session) (noted : Option ℕ) (said : List ℕ) (lines : List (Option PeerLine)) (l : Option PeerLine) → Stands t s Nothing noted said lines → Stands t (step t s l).session (step t s l).heard noted (said ++ (step t s l).sent) (lines ++ l ∷ [])
-  heard_stands t s noted said lines l h =
-      let start : Session = after_lines t (new h.side) lines in
+  heard_stands : (t : Terms) (s : Session) (noted : Option ℕ) (said : List ℕ) (came : List Item) (item : Item) (l : Option PeerLine) → IsLine item l → Stands t s Nothing noted said came → Stands t (step t s l).session (step t s l).heard noted (said ++ (step t s l).sent) (came ++ item ∷ [])
+  heard_stands t s noted said came item l is h =
+      let start : Session = after_lines t (new h.side) h.lines in
       let k : AlikeSteps (step t start l) (step t s l) = step_alike t start s h.alike l in
+      let read : AreLines (came ++ item ∷ []) (h.lines ++ l ∷ []) = all_zipped_more IsLine came h.lines item l h.lines_are is in
       record {
         side = h.side;
+        lines = h.lines ++ l ∷ [];
+        lines_are = read;
         same = step_side t s l ∙ h.same;
-        alike = subst (λ (x : Session). Alike x (step t s l).session) (sym (after_one_more t (new h.side) lines l)) k.session;
+        alike = subst (λ (x : Session). Alike x (step t s l).session) (sym (after_one_more t (new h.side) h.lines l)) k.session;
         opened = ⊎_elim
             (λ e. ⊎_elim
             (λ o. inl (ap (λ (x : List ℕ). said ++ x) (sym k.sent ∙ e) ∙ append-nil said ∙ o))
-            (λ g. inr (greeted_before l g)) h.opened)
-            (λ are. inr (greeted_by are)) (sends t h.side lines l);
-        message = λ place arrived e. arrives t h.side lines l place arrived (k.heard ∙ e);
-        placed = λ place e. greeted_before l (h.placed place e);
-        paced = λ e. greeted_before l (h.paced (step_greeted t s l e));
+            (λ g. inr (greeted_before item g)) h.opened)
+            (λ are. inr (greeted_by read are)) (sends t h.side h.lines l);
+        message = λ place arrived e. comes_from (h.lines ++ l ∷ []) read (arrives t h.side h.lines l place arrived (k.heard ∙ e));
+        placed = λ place e. greeted_before item (h.placed place e);
+        paced = λ e. greeted_before item (h.paced (step_greeted t s l e));
       }
 
-  replied_stands : (t : Terms) (s : Session) (p : Pace) (noted : Option ℕ) (said text : List ℕ) (lines : List (Option PeerLine)) (place : ℕ) (arrived : Arrived) → Stands t s (Message place arrived) noted said lines → Stands t (record s { pace = p }) Nothing noted (said ++ text) lines
-  replied_stands t s p noted said text lines place arrived h =
-      let greeted : IsGreeted t lines = greeted_by (h.message place arrived refl).0 in
+  replied_stands : (t : Terms) (s : Session) (p : Pace) (noted : Option ℕ) (said text : List ℕ) (came : List Item) (place : ℕ) (arrived : Arrived) → Stands t s (Message place arrived) noted said came → Stands t (record s { pace = p }) Nothing noted (said ++ text) came
+  replied_stands t s p noted said text came place arrived h =
+      let greeted : IsGreeted t came = greeted_from (h.message place arrived refl) in
       record {
         side = h.side;
+        lines = h.lines;
+        lines_are = h.lines_are;
         same = h.same;
         alike = record { handshake = h.alike.handshake; gather = h.alike.gather };
         opened = inr greeted;
-        message = λ other came e. absurd (no_message other came e);
+        message = λ other arrives e. absurd (no_message other arrives e);
         placed = h.placed;
         paced = λ e. greeted;
       }
 
   -- the pace alone is another one, and what is said is said to a greeted peer
-  paced_stands : (t : Terms) (s : Session) (p : Pace) (heard : Heard) (noted : Option ℕ) (said text : List ℕ) (lines : List (Option PeerLine)) → (p.is_greeted ≡ true → s.pace.is_greeted ≡ true) → (said ≡ text) ⊎ IsGreeted t lines → Stands t s heard noted said lines → Stands t (record s { pace = p }) heard noted text lines
-  paced_stands t s p heard noted said text lines same to h = record {
+  paced_stands : (t : Terms) (s : Session) (p : Pace) (brought : Heard) (noted : Option ℕ) (said text : List ℕ) (came : List Item) → (p.is_greeted ≡ true → s.pace.is_greeted ≡ true) → (said ≡ text) ⊎ IsGreeted t came → Stands t s brought noted said came → Stands t (record s { pace = p }) brought noted text came
+  paced_stands t s p brought noted said text came same to h = record {
     side = h.side;
+    lines = h.lines;
+    lines_are = h.lines_are;
     same = h.same;
     alike = record { handshake = h.alike.handshake; gather = h.alike.gather };
     opened = ⊎_elim (λ e. ⊎_elim (λ o. inl (sym e ∙ o)) (λ g. inr g) h.opened) (λ g. inr g) to;
@@ -204,49 +228,58 @@ module _
     paced = λ e. h.paced (same e);
   }
 
-  stands : {t : Terms} {s : Session} {heard : Heard} {noted : Option ℕ} {said : List ℕ} (course : PeerCourse t s heard noted said) → Stands t s heard noted said (lines_of course)
+  stands : {t : Terms} {came : List Item} {s : Session} {brought : Heard} {noted : Option ℕ} {said : List ℕ} → PeerCourse t came s brought noted said → Stands t s brought noted said came
   stands {t} (Opens side) = record {
     side = side;
+    lines = [];
+    lines_are = tt;
     same = refl;
     alike = record { handshake = refl; gather = refl };
     opened = inl refl;
-    message = λ other came e. absurd (no_message other came e);
+    message = λ other arrives e. absurd (no_message other arrives e);
     placed = λ other e. absurd (no_place other e);
     paced = λ e. absurd (not_greeted e);
   }
-  stands {t} (Hears {session} {noted} {said} line goes_on course) = heard_stands t session noted said (lines_of course) line (stands course)
-  stands {t} (Notes {session} {said} place arrived course) =
+  stands {t} (Hears {heard} {session} {noted} {said} item line is goes_on course) = heard_stands t session noted said heard item line is (stands course)
+  stands {t} (Notes {heard} {session} {said} place arrived course) =
       let h = stands course in
       record {
         side = h.side;
+        lines = h.lines;
+        lines_are = h.lines_are;
         same = h.same;
         alike = h.alike;
         opened = h.opened;
         message = h.message;
-        placed = λ other e. greeted_by (h.message place arrived refl).0;
+        placed = λ other e. greeted_from (h.message place arrived refl);
         paced = h.paced;
       }
-  stands {t} (Replies {session} {noted} {said} place arrived link outcome is course) =
-      replied_stands t session _ noted said _ (lines_of course) place arrived (stands course)
-  stands {t} (Publishes {session} {heard} {noted} {said} course) =
-      paced_stands t session (pace.published session.pace) heard noted said said (lines_of course) (λ e. e) (inl refl) (stands course)
-  stands {t} (Ticks {session} {heard} {noted} {said} now course) =
-      paced_stands t session (pace.ticked now session.pace) heard noted said said (lines_of course) (λ e. sym (ticked_greeted now session.pace) ∙ e) (inl refl) (stands course)
-  stands {t} (Makes {session} {heard} {noted} {said} packet now due course) =
+  stands {t} (Replies {heard} {session} {noted} {said} place arrived link outcome is course) =
+      replied_stands t session _ noted said _ heard place arrived (stands course)
+  stands {t} (Publishes {heard} {session} {brought} {noted} {said} course) =
+      paced_stands t session (pace.published session.pace) brought noted said said heard (λ e. e) (inl refl) (stands course)
+  stands {t} (Ticks {heard} {session} {brought} {noted} {said} now course) =
+      paced_stands t session (pace.ticked now session.pace) brought noted said said heard (λ e. sym (ticked_greeted now session.pace) ∙ e) (inl refl) (stands course)
+  stands {t} (Makes {heard} {session} {brought} {noted} {said} packet now due course) =
       let is = due_greeted session.pace.is_greeted _ due in
       let h = stands course in
-      paced_stands t session _ heard noted said _ (lines_of course) (λ e. is) (inr (h.paced is)) h
-  stands {t} (Repeats {session} {heard} {said} place course) =
+      paced_stands t session _ brought noted said _ heard (λ e. is) (inr (h.paced is)) h
+  stands {t} (Repeats {heard} {session} {brought} {said} place course) =
       let h = stands course in
-      paced_stands t session session.pace heard (Some place) said _ (lines_of course) (λ e. e) (inr (h.placed place refl)) h
-  stands {t} (Reminds {session} {heard} {said} place life course) =
+      paced_stands t session session.pace brought (Some place) said _ heard (λ e. e) (inr (h.placed place refl)) h
+  stands {t} (Reminds {heard} {session} {brought} {said} place life course) =
       let h = stands course in
-      paced_stands t session session.pace heard (Some place) said _ (lines_of course) (λ e. e) (inr (h.placed place refl)) h
+      paced_stands t session session.pace brought (Some place) said _ heard (λ e. e) (inr (h.placed place refl)) h
 
-  pub nothing_before_the_hello : {t : Terms} {s : Session} {heard : Heard} {noted : Option ℕ} {said : List ℕ} (course : PeerCourse t s heard noted said) → (said ≡ opening t s.handshake.side) ⊎ IsGreeted t (lines_of course)
-  nothing_before_the_hello {t} {s} {heard} {noted} {said} course =
+  pub nothing_before_the_hello : {t : Terms} {came : List Item} {s : Session} {brought : Heard} {noted : Option ℕ} {said : List ℕ} → PeerCourse t came s brought noted said → (said ≡ opening t s.handshake.side) ⊎ IsGreeted t came
+  nothing_before_the_hello {t} {came} {s} {brought} {noted} {said} course =
       let h = stands course in
       ⊎_elim (λ o. inl (o ∙ ap (opening t) (sym h.same))) (λ g. inr g) h.opened
 
-  pub message_of_a_peer : {t : Terms} {s : Session} {noted : Option ℕ} {said : List ℕ} {place : ℕ} {arrived : Arrived} (course : PeerCourse t s (Message place arrived) noted said) → ComesFrom t (lines_of course) place
-  message_of_a_peer {t} {s} {noted} {said} {place} {arrived} course = (stands course).message place arrived refl
+  pub message_of_a_peer : {t : Terms} {came : List Item} {s : Session} {noted : Option ℕ} {said : List ℕ} {place : ℕ} {arrived : Arrived} → PeerCourse t came s (Message place arrived) noted said → ComesFrom t place came
+  message_of_a_peer {t} {came} {s} {noted} {said} {place} {arrived} course = (stands course).message place arrived refl
+
+  -- what was said so far over a connection over which that came
+  pub nothing_before_that_came : (received bytes : List ℕ) (right : IsToldByRight received bytes) → (bytes ≡ opening right.terms right.session.handshake.side) ⊎ IsGreeted right.terms (items received)
+  nothing_before_that_came received bytes right =
+      ⊎_elim (λ e. inl e) (λ g. inr (subst (IsGreeted right.terms) (sym right.own) (greeted_behind right.unheard g))) (nothing_before_the_hello right.course)

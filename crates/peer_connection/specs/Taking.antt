@@ -1,5 +1,6 @@
 -- What is taken of what comes over the connections with peers.
-use Rattle.std.specs.Prelude.{ℕ, ◌≡◌, List, Option}
+use Rattle.std.specs.Prelude.{ℕ, ◌≡◌, ◌++◌, List, Option}
+use Rattle.irc_line.specs.Stream.{Item, items}
 use Rattle.chat_change.specs.declared.change.Change.{Change}
 use Rattle.peer_lines.specs.declared.gather.Arrived.{Arrived}
 use Rattle.gossip_link.specs.Handshake.{Terms}
@@ -10,13 +11,18 @@ use Rattle.peer_session.specs.declared.outcome.Outcome.{Outcome}
 use Rattle.peer_session.specs.declared.outcome.Outcome.TheVariants.{Ignored}
 use Rattle.peer_connection.specs.PeerCourse.{PeerCourse}
 
--- The message came over a connection with the peer at that place: it is what the last line of a course brought.
+-- The message came over a connection with the peer at that place: it is what the last line of a course brought, in which the
+-- session heard the first items of what came over one connection, in order, each once.
 pub record IsHeardFrom (place : ℕ) (arrived : Arrived) : Type 0 where
+  pub received : List ℕ
+  pub heard : List Item
+  pub unheard : List Item
   pub terms : Terms
   pub session : Session
   pub noted : Option ℕ
   pub said : List ℕ
-  pub course : PeerCourse terms session (Message place arrived) noted said
+  pub course : PeerCourse terms heard session (Message place arrived) noted said
+  pub own : items received ≡ heard ++ unheard
 
 -- Of a taker before and after, and what a message came to: there was none, and nothing was taken; or it came over a connection
 -- with a peer, and what was taken of its changes is what goes with the outcome.

@@ -17,7 +17,8 @@ pub(crate) fn owe<C: Connection>(
     bytes: &[u8],
     now: u64,
 ) -> Option<Reason>
-    ensures { IfNone result (handed queue.new ≡ handed queue.old ++ bytes.now) }
+    ensures handed { IfNone result (handed queue.new ≡ handed queue.old ++ bytes.now) }
+    ensures received { queue.new.received ≡ queue.old.received }
 {
     if bytes.is_empty() {
         return None;

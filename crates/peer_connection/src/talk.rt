@@ -1,15 +1,18 @@
-//! What is said over a connection with a peer.
-ghost use Rattle.std.specs.Prelude.{◌≡◌, ◌++◌, [], false, IfNone, IfOk};
+//! What is heard and said over a connection with a peer.
+ghost use Rattle.std.specs.Prelude.{◌≡◌, ◌++◌, [], None, false, IfNone, IfOk, IfSome};
+ghost use Rattle.work_lines.specs.Incoming.{next_of, without_next};
 ghost use Rattle.work_lines.specs.Outgoing.{handed};
 ghost use Rattle.peer_session.specs.Session as sessions;
-ghost use Rattle.peer_connection.specs.PeerCourse.{PeerCourse};
+ghost use Rattle.peer_connection.specs.Served.{IsServed, AfterNext};
 
 use crate::kind::ToPeer;
 use crate::owing::owe;
 use bnc_ports::{Carries, Connection, Reason};
 use byte_text::NoMemory;
 use gossip_link::{Arrived, Side, Terms};
+use irc_line::Next;
 use peer_session::{Fault, Heard, PeerSession, say_hello_again};
+use std::alloc::Global;
 use std::sync::Arc;
 use work_lines::{Feeders, Filled, Input, Pumped, SendQueue};
 use worker_io::NodeView;
@@ -17,11 +20,14 @@ use worker_io::NodeView;
 /// The hello is said again to a peer that was owed nothing for so many milliseconds.
 const HELLO_AGAIN: u64 = 60_000;
 
-/// A connection with a peer, as far as something is said over it: the session, and what waits for the peer. All that was said,
-/// and all that waits, is said by right. Once the connection is lost nothing is said any more.
+/// A connection with a peer, as far as something is heard and said over it: what came and isn't heard yet, the session, and
+/// what waits for the peer. The session hears what came over this connection alone. All that was said, and all that waits, is
+/// said by right. Once the connection is lost nothing is said any more.
 #[derive(Drop)]
 pub struct Talk<C: Connection> {
     pub(crate) queue: SendQueue<C>,
+    // What came and isn't heard yet.
+    pub(crate) input: Input,
     // The same throughout.
     pub(crate) terms: Arc<Terms>,
     pub(crate) session: PeerSession,
@@ -33,7 +39,7 @@ pub struct Talk<C: Connection> {
     pub(crate) lost: Option<Reason>,
     // When the peer was last owed bytes, in milliseconds.
     pub(crate) said_at: u64,
-    ghost by_right: { ∥ IfNone lost (PeerCourse terms.value session heard noted (handed queue)) ∥₁ },
+    ghost by_right: { ∥ IfNone lost (IsServed terms.value input session heard noted queue) ∥₁ },
 }
 
 // Who opened the connection: this node where it was opened to the peer at that place.
@@ -51,12 +57,34 @@ fn open<C: Connection>(
     queue: &mut SendQueue<C>,
     room: &mut Vec<u8>,
 ) -> Result<(), NoMemory>
-    ensures { IfOk result (λ _. handed queue.new
+    ensures handed { IfOk result (λ _. handed queue.new
         ≡ handed queue.old ++ sessions.opening terms.now session.now.handshake.side) }
+    ensures received { queue.new.received ≡ queue.old.received }
 {
     room.clear();
     session.open(terms, room)?;
     queue.owe(room.as_slice())
+}
+
+// What the session makes of the next line that came, or of one that was too long. None where none is there.
+fn hear_next(
+    input: &mut Input,
+    session: &mut PeerSession,
+    alloc: Global,
+    terms: &Terms,
+    out: &mut Vec<u8>,
+) -> Option<Result<Heard, NoMemory>>
+    ensures heard { IfSome result (λ answer. IfOk answer (λ heard.
+        AfterNext terms.now session.old input.old (λ step. (session.new ≡ step.session)
+        × (heard ≡ step.heard) × (out.new.items ≡ out.old.items ++ step.sent)))) }
+    ensures none { IfNone result ((None ≡ next_of input.old) × (session.new ≡ session.old)) }
+    ensures left { input.new ≡ without_next input.old }
+{
+    match input.next_line() {
+        Next::Line(bytes) => Some(session.hear(alloc, terms, Some(bytes), out)),
+        Next::TooLong => Some(session.hear(alloc, terms, None, out)),
+        Next::More => None,
+    }
 }
 
 // Why a connection is closed whose line has that fault, before a peer said hello over it or afterwards.
@@ -80,15 +108,16 @@ fn refusal(noted: Option<usize>, heard: &Heard) -> Option<Reason>
 }
 
 impl<C: Connection> Talk<C> {
-    /// A new connection, to the peer at that place where this node opened it. What is said first waits for the peer. For want of
-    /// memory the connection comes back.
+    /// A new connection, over which nothing came and nothing was sent: to the peer at that place where this node opened it. What
+    /// is said first waits for the peer. For want of memory the connection comes back.
     pub fn new(
         view: &NodeView,
         connection: C,
         dialed: Option<usize>,
         room: &mut Vec<u8>,
     ) -> Result<Talk<C>, C>
-        requires { C.sent connection ≡ [] }
+        requires received { C.received connection ≡ [] }
+        requires sent { C.sent connection ≡ [] }
     {
         let Ok(terms) = Arc::try_clone(&view.terms) else {
             return Err(connection);
@@ -100,6 +129,7 @@ impl<C: Connection> Talk<C> {
         };
         Ok(Talk {
             queue,
+            input: Input::new(view.alloc),
             terms,
             session,
             heard: Heard::Nothing,
@@ -134,27 +164,33 @@ impl<C: Connection> Talk<C> {
         self.lost = Some(reason);
     }
 
-    /// Hears a line; None stands for one that was too long. What is to be sent because of it waits for the peer. Where the
-    /// connection is to be closed because of the line, it is lost. Nothing is heard before the message that came is carried out.
-    pub fn hear(&mut self, view: &NodeView, bytes: Option<&[u8]>, out: &mut Vec<u8>) {
+    /// Hears the next line that came over the connection, or that it was too long. What is to be sent because of it waits for
+    /// the peer. Where the connection is to be closed because of the line, it is lost. Nothing is heard before the message that
+    /// came is carried out. False where the next line isn't there yet: it is time to [`fill`](Talk::fill).
+    pub fn hear(&mut self, view: &NodeView, out: &mut Vec<u8>) -> bool {
         if self.lost.is_some() {
-            return;
+            return true;
         }
         let Heard::Nothing = &self.heard else {
-            return;
+            return true;
         };
         out.clear();
-        let Ok(heard) = self.session.hear(view.alloc, &self.terms, bytes, out) else {
+        let (input, session) = (&mut self.input, &mut self.session);
+        let Some(answer) = hear_next(input, session, view.alloc, &self.terms, out) else {
+            return false;
+        };
+        let Ok(heard) = answer else {
             self.lost = Some(Reason::NoMemory);
-            return;
+            return true;
         };
         let refused = refusal(self.noted, &heard);
         self.heard = heard;
         if let Some(reason) = refused {
             self.lost = Some(reason);
-            return;
+            return true;
         }
         self.lost = owe(&mut self.queue, &mut self.said_at, out.as_slice(), view.now);
+        true
     }
 
     /// The message that is to be carried out before the next line is heard, where there is one.
@@ -243,19 +279,24 @@ impl<C: Connection> Talk<C> {
         }
     }
 
-    /// There may be room for bytes again.
-    pub fn mark_writable(&mut self) {
-        self.queue.mark_writable();
+    /// What the port tells of the connection.
+    pub fn mark(&mut self, readable: bool, writable: bool) {
+        if readable {
+            self.input.mark_readable();
+        }
+        if writable {
+            self.queue.mark_writable();
+        }
     }
 
     /// Takes in more bytes that come over the connection.
     pub fn fill<P: Carries<ToPeer, Connection = C>>(
         &mut self,
-        input: &mut Input,
         port: &mut P,
         chunk: &mut [u8],
         feeders: &mut Feeders,
     ) -> Filled {
-        self.queue.fill::<ToPeer, P>(input, port, chunk, feeders)
+        self.queue
+            .fill::<ToPeer, P>(&mut self.input, port, chunk, feeders)
     }
 }

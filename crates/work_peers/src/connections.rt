@@ -27,7 +27,7 @@ impl<C: Connection> Peers<C> {
         };
         match self.open(&context.view, number, connection, dialed) {
             Ok(()) => {
-                self.wake(number);
+                self.connections.wake(number);
                 if context.set_patience(number, PATIENCE).is_err() {
                     self.close(context, number, Reason::NoMemory);
                 }
@@ -59,8 +59,8 @@ impl<C: Connection> Peers<C> {
         }
     }
 
-    // Takes a new connection in, over which nothing was sent, with what is to be sent before any line came. For want of memory
-    // it is handed back.
+    // Takes a new connection in, over which nothing came and nothing was sent, with what is to be sent before any line came. For
+    // want of memory it is handed back.
     fn open(
         &mut self,
         view: &NodeView,
@@ -68,15 +68,13 @@ impl<C: Connection> Peers<C> {
         connection: C,
         dialed: Option<usize>,
     ) -> Result<(), C>
-        requires { C.sent connection ≡ [] }
+        requires received { C.received connection ≡ [] }
+        requires sent { C.sent connection ≡ [] }
     {
-        if self.make_room().is_err() {
-            return Err(connection);
-        }
         let order = self.begun;
         self.begun = order.saturating_add(1);
         let peer = Peer::new(view, connection, dialed, order, &mut self.out)?;
-        match self.add(number, peer) {
+        match self.connections.insert(number, peer) {
             Ok(()) => Ok(()),
             Err(peer) => Err(peer.into_connection()),
         }
@@ -88,7 +86,7 @@ impl<C: Connection> Peers<C> {
         context: &mut Context<P>,
         number: usize,
     ) {
-        let is_late = match self.all.get(&number) {
+        let is_late = match self.connections.get(number) {
             Some(peer) => peer.talk.noted().is_none(),
             None => false,
         };
@@ -104,7 +102,7 @@ impl<C: Connection> Peers<C> {
         context: &mut Context<P>,
         number: usize,
     ) {
-        let Some(peer) = self.all.get(&number) else {
+        let Some(peer) = self.connections.get(number) else {
             return;
         };
         let Some(place) = peer.talk.newcomer() else {

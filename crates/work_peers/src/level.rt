@@ -102,7 +102,7 @@ impl<C: Connection> Peers<C> {
         if self.is_level(place) {
             return;
         }
-        let Some(peer) = self.all.get_mut(&number) else {
+        let Some(peer) = self.connections.get_mut(number) else {
             return;
         };
         peer.supply = supply;

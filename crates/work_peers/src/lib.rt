@@ -23,6 +23,7 @@ mod quiet;
 mod strangers;
 mod turns;
 
+pub use peer::Peer;
 pub use peer_connection::ToPeer;
 pub use peers::Peers;
 pub use turns::PeerStep;

@@ -52,12 +52,12 @@ impl<C: Connection> Peers<C> {
     // that life, or knows a later one; then the peer is told so too.
     fn judge<P: Port>(&mut self, context: &mut Context<P>, number: usize, place: usize, said: u64) {
         let Peers {
-            all,
+            connections,
             records,
             out,
             ..
         } = self;
-        let (Some(peer), Some(record)) = (all.get_mut(&number), records.get(place)) else {
+        let (Some(peer), Some(record)) = (connections.get_mut(number), records.get(place)) else {
             return;
         };
         if peer.is_judged {
@@ -91,7 +91,7 @@ impl<C: Connection> Peers<C> {
         if !is_later(&context.view.terms, receiver) {
             return;
         }
-        let Some(peer) = self.all.get_mut(&number) else {
+        let Some(peer) = self.connections.get_mut(number) else {
             return;
         };
         if peer.is_behind {

@@ -14,7 +14,7 @@ use worker_io::{Context, Timer};
 impl<C: Connection> Peers<C> {
     /// The message that came over a connection, where one is to be carried out.
     pub fn message(&self, number: usize) -> Option<&Arrived> {
-        self.all.get(&number)?.talk.message()
+        self.connections.get(number)?.talk.message()
     }
 
     /// Carries out the message that came over that connection: the taker takes the changes of a packet, and the
@@ -37,12 +37,12 @@ impl<C: Connection> Peers<C> {
             ⊎ IsTakenFromPeer T.holds T.may_add taker.old taker.new Outcome.Taken) }
     {
         let Peers {
-            all,
+            connections,
             records,
             out,
             ..
         } = self;
-        let Some(peer) = all.get_mut(&number) else {
+        let Some(peer) = connections.get_mut(number) else {
             return Ok(Outcome::Ignored);
         };
         let Some(place) = peer.talk.place() else {
@@ -83,12 +83,12 @@ impl<C: Connection> Peers<C> {
         source: &mut S,
     ) {
         let Peers {
-            all,
+            connections,
             records,
             out,
             ..
         } = self;
-        let Some(peer) = all.get_mut(&number) else {
+        let Some(peer) = connections.get_mut(number) else {
             return;
         };
         let Some(place) = peer.talk.noted() else {
@@ -103,17 +103,17 @@ impl<C: Connection> Peers<C> {
         if let Some(at) = peer.talk.deadline() {
             context.timers.set(Timer::UnansweredPacket(number), at);
         }
-        self.wake(number);
+        self.connections.wake(number);
     }
 
     /// Something was published, which each peer is to have: packets are made for those that are due.
     pub fn publish<P: Port, S: Source>(&mut self, context: &mut Context<P>, source: &mut S) {
         let mut from = 0;
         for _ in 0..usize::MAX {
-            let Some(number) = self.line_from(from) else {
+            let Some(number) = self.connections.first_from(from) else {
                 return;
             };
-            if let Some(peer) = self.all.get_mut(&number) {
+            if let Some(peer) = self.connections.get_mut(number) {
                 peer.talk.publish();
             }
             self.advance(context, number, source);
@@ -131,7 +131,7 @@ impl<C: Connection> Peers<C> {
         number: usize,
         source: &mut S,
     ) {
-        let Some(peer) = self.all.get_mut(&number) else {
+        let Some(peer) = self.connections.get_mut(number) else {
             return;
         };
         if peer.talk.tick(context.view.now) {

@@ -4,17 +4,12 @@ ghost use Rattle.std.specs.Prelude.{◌≡◌, []};
 use crate::level::Supply;
 use bnc_ports::Connection;
 use peer_connection::Talk;
-use std::collections::VecDeque;
-use work_lines::Input;
-use worker_io::NodeView;
+use worker_io::{NodeView, Served};
 
 /// A connection with a peer.
 #[derive(Drop)]
-pub(crate) struct Peer<C: Connection> {
-    pub(crate) input: Input,
+pub struct Peer<C: Connection> {
     pub(crate) talk: Talk<C>,
-    // Whether it stands in its worker's queue.
-    is_queued: bool,
     /// The place of the peer to which this node connected.
     pub(crate) dialed: Option<usize>,
     /// How many connections came before it.
@@ -39,13 +34,12 @@ impl<C: Connection> Peer<C> {
         order: u64,
         room: &mut Vec<u8>,
     ) -> Result<Peer<C>, C>
-        requires { C.sent connection ≡ [] }
+        requires received { C.received connection ≡ [] }
+        requires sent { C.sent connection ≡ [] }
     {
         let talk = Talk::new(view, connection, dialed, room)?;
         Ok(Peer {
-            input: Input::new(view.alloc),
             talk,
-            is_queued: false,
             dialed,
             order,
             supply: Supply::Awaited { since: view.now },
@@ -70,26 +64,10 @@ impl<C: Connection> Peer<C> {
         self.talk.note();
         self.supply = Supply::Awaited { since: now };
     }
+}
 
-    /// Stands in the queue.
-    pub(crate) fn queue(&mut self, busy: &mut VecDeque<usize>, number: usize) {
-        if !self.is_queued && busy.push_back(number).is_ok() {
-            self.is_queued = true;
-        }
-    }
-
-    /// It was taken out of the queue.
-    pub(crate) fn unqueue(&mut self) {
-        self.is_queued = false;
-    }
-
-    /// What the port tells of the connection.
-    pub(crate) fn mark(&mut self, readable: bool, writable: bool) {
-        if readable {
-            self.input.mark_readable();
-        }
-        if writable {
-            self.talk.mark_writable();
-        }
+impl<C: Connection> Served for Peer<C> {
+    fn mark(&mut self, readable: bool, writable: bool) {
+        self.talk.mark(readable, writable);
     }
 }

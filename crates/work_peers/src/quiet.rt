@@ -37,12 +37,12 @@ impl<C: Connection> Peers<C> {
         number: usize,
     ) {
         let Peers {
-            all,
+            connections,
             records,
             out,
             ..
         } = self;
-        let Some(peer) = all.get_mut(&number) else {
+        let Some(peer) = connections.get_mut(number) else {
             return;
         };
         let Some(place) = peer.talk.noted() else {
@@ -59,7 +59,7 @@ impl<C: Connection> Peers<C> {
         if let Some(record) = records.get_mut(place) {
             record.tell_level(context, peer, place);
         }
-        self.wake(number);
+        self.connections.wake(number);
     }
 
     /// There is no connection with the peer at that place from now on. Where this node is to open one, the operator is told if

@@ -27,11 +27,12 @@ impl<C: Connection> Peers<C> {
     fn strangers(&self) -> (usize, Option<usize>) {
         let mut count: usize = 0;
         let mut first: Option<(u64, usize)> = None;
-        for (number, peer) in self.all.iter() {
+        for (_, entry) in self.connections.iter() {
+            let peer = &entry.served;
             if peer.is_stranger() {
                 count = count.saturating_add(1);
                 if first.is_none_or(|(order, _)| peer.order < order) {
-                    first = Some((peer.order, *number));
+                    first = Some((peer.order, entry.number));
                 }
             }
         }

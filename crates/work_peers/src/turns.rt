@@ -2,7 +2,6 @@
 use crate::peer::Peer;
 use crate::peers::Peers;
 use bnc_ports::{Carries, Connection, Reason};
-use irc_line::Next;
 use peer_connection::ToPeer;
 use work_lines::{Filled, Pumped};
 use worker_io::Context;
@@ -57,13 +56,11 @@ impl<C: Connection> Peer<C> {
         context: &mut Context<P>,
         out: &mut Vec<u8>,
     ) -> PeerStep {
-        let line = match self.input.next_line() {
-            Next::Line(bytes) => Some(bytes),
-            Next::TooLong => None,
-            Next::More => return self.fill(context),
-        };
-        self.talk.hear(&context.view, line, out);
-        self.next_step()
+        if self.talk.hear(&context.view, out) {
+            self.next_step()
+        } else {
+            self.fill(context)
+        }
     }
 
     // Takes in more bytes that come over the connection.
@@ -75,9 +72,7 @@ impl<C: Connection> Peer<C> {
             feeders,
             ..
         } = context;
-        let filled = self
-            .talk
-            .fill(&mut self.input, port, chunk.as_mut_slice(), feeders);
+        let filled = self.talk.fill(port, chunk.as_mut_slice(), feeders);
         if filled == Filled::More {
             self.heard_at = view.now;
         }
@@ -93,8 +88,12 @@ impl<C: Connection> Peers<C> {
         context: &mut Context<P>,
         number: usize,
     ) -> PeerStep {
-        let Peers { all, out, .. } = self;
-        match all.get_mut(&number) {
+        let Peers {
+            connections,
+            out,
+            ..
+        } = self;
+        match connections.get_mut(number) {
             Some(peer) => peer.step(context, out),
             None => PeerStep::Rest,
         }
@@ -106,13 +105,13 @@ impl<C: Connection> Peers<C> {
         context: &mut Context<P>,
         number: usize,
     ) {
-        let pumped = match self.all.get_mut(&number) {
+        let pumped = match self.connections.get_mut(number) {
             Some(peer) => peer.talk.pump(&mut context.port),
             None => return,
         };
         match pumped {
             Ok(Pumped::All | Pumped::Blocked) => {}
-            Ok(Pumped::Some) => self.wake(number),
+            Ok(Pumped::Some) => self.connections.wake(number),
             Ok(Pumped::Closed | Pumped::Overrun) => self.close(context, number, Reason::Closed),
             Ok(Pumped::NoMemory) => self.close(context, number, Reason::NoMemory),
             Err(reason) => self.close(context, number, reason),

@@ -4,7 +4,7 @@ use Rattle.std.proofs.Math.Logic.{∥∥₁_map}
 use Rattle.peer_session.specs.declared.heard.Heard.TheVariants.{Nothing, Message}
 use Rattle.peer_session.specs.declared.outcome.Outcome.TheVariants.{Taken}
 use Rattle.peer_connection.specs.Taking.{NoMessage, OfMessage}
-use Rattle.peer_connection.proofs.CourseLemmas.{owed, not_lost, replies, heard_from}
+use Rattle.peer_connection.proofs.CourseLemmas.{owed, not_lost, served_on, replies, heard_from}
 use Rattle.peer_connection.proofs.talk.Talk.arrive.Goals as goal
 
 pub returns-then-is_some-clause-taken : goal.returns-then-is_some-clause-taken
@@ -32,9 +32,9 @@ invariant_of-self-2 g c =
     let done : c.replace-message.new.dest ≡ Nothing = search rules in
     let e = c.in-Ok.ensures in
     record {
-      by_right = ∥∥₁_map c.args.self.now.by_right (owed c.args.self.now.lost c.owe-self.result lost c.owe-self.ensures
-          (λ owes. replies place arrived c.args.link.now c.in-Ok.outcome is done e.outcome e.pace
-          c.clear.ensures.items (c.as_slice.ensures.value ∙ e.reply) owes));
+      by_right = ∥∥₁_map c.args.self.now.by_right (owed c.args.self.now.lost c.owe-self.result lost c.owe-self.ensures.handed
+          (λ owes. served_on c.owe-self.ensures.received (λ heard. replies place arrived c.args.link.now c.in-Ok.outcome is done e.outcome e.pace
+          c.clear.ensures.items (c.as_slice.ensures.value ∙ e.reply) owes)));
     }
 
 pub returns-clause-taken : goal.returns-clause-taken
