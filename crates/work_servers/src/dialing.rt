@@ -89,15 +89,14 @@ impl<C: Connection> Servers<C> {
         put_off(context, network, Reason::Unreachable, None);
     }
 
-    // The network's next session, for which there is room in the queue, what it begins with, and how it stands.
+    // The network's next session, what it begins with, and how it stands.
     fn next_session(
-        &mut self,
+        &self,
         view: &NodeView,
         network: usize,
     ) -> Result<(NetworkSession, ServerEffects, NetworkEntry), NoMemory>
         ensures { IfOk result (λ begun. Begins begun.0 begun.1) }
     {
-        self.make_room()?;
         let (session, opening) = new_session(view, network, self.serial_of(network))?;
         let entry = session.entry_now(view.alloc)?;
         Ok((session, opening, entry))
@@ -111,13 +110,14 @@ impl<C: Connection> Servers<C> {
         connection: C,
         network: usize,
     ) -> Result<ServerEffects, C>
-        requires { C.sent connection ≡ [] }
+        requires received { C.received connection ≡ [] }
+        requires sent { C.sent connection ≡ [] }
     {
         let Ok((session, opening, entry)) = self.next_session(view, network) else {
             return Err(connection);
         };
         let dialogue = Dialogue::new(view.alloc, connection, session, &opening);
-        let server = Server::new(view.alloc, dialogue, network, entry, view.now);
+        let server = Server::new(dialogue, network, entry, view.now);
         self.insert(number, server)?;
         Ok(opening)
     }
@@ -138,7 +138,7 @@ impl<C: Connection> Servers<C> {
         match self.take_up(&context.view, number, connection, network) {
             Ok(effects) => {
                 self.set_line(network, Some(number));
-                self.wake(number);
+                self.connections.wake(number);
                 context.timers.clear(Timer::RetryNetwork(network));
                 context.set_timer(Timer::QuietUpstream(number), QUIET);
                 Some(effects)
@@ -158,7 +158,7 @@ impl<C: Connection> Servers<C> {
         context: &mut Context<P>,
         number: usize,
     ) -> Option<Standing> {
-        let until = self.all.get(&number)?.heard_at.saturating_add(QUIET);
+        let until = self.connections.get(number)?.heard_at.saturating_add(QUIET);
         if until <= context.view.now {
             return self.close(context, number, Reason::Silent);
         }

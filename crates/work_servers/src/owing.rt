@@ -15,7 +15,8 @@ const MOST_OWED: usize = 65_536;
 
 // Bytes wait for the server. For too many there is no room.
 fn owe<C: Connection>(queue: &mut SendQueue<C>, bytes: &[u8]) -> Result<(), Reason>
-    ensures { IfOk result (λ _. handed queue.new ≡ handed queue.old ++ bytes.now) }
+    ensures owed { IfOk result (λ _. handed queue.new ≡ handed queue.old ++ bytes.now) }
+    ensures received { queue.new.received ≡ queue.old.received }
 {
     if queue.owed().saturating_add(bytes.len()) > MOST_OWED {
         return Err(Reason::Overrun);
@@ -28,8 +29,9 @@ fn owe<C: Connection>(queue: &mut SendQueue<C>, bytes: &[u8]) -> Result<(), Reas
 
 // What is next waits for the server, where that is a line to it.
 fn owe_effect<C: Connection>(queue: &mut SendQueue<C>, effect: &UpEffect) -> Result<(), Reason>
-    ensures { IfOk result (λ _.
+    ensures owed { IfOk result (λ _.
         handed queue.new ≡ handed queue.old ++ sends_of (effect.now ∷ [])) }
+    ensures received { queue.new.received ≡ queue.old.received }
 {
     match effect {
         UpEffect::Send(text) => owe(queue, text.as_bytes()),
@@ -41,7 +43,9 @@ fn owe_effect<C: Connection>(queue: &mut SendQueue<C>, effect: &UpEffect) -> Res
 
 // All lines to the server among these wait for it, in their order.
 fn owe_all<C: Connection>(queue: &mut SendQueue<C>, effects: &[UpEffect]) -> Result<(), Reason>
-    ensures { IfOk result (λ _. handed queue.new ≡ handed queue.old ++ sends_of effects.now) }
+    ensures owed { IfOk result (λ _.
+        handed queue.new ≡ handed queue.old ++ sends_of effects.now) }
+    ensures received { queue.new.received ≡ queue.old.received }
 {
     for effect in effects {
         owe_effect(queue, effect)?;
@@ -56,7 +60,7 @@ pub(crate) fn owe_sends<C: Connection>(
     lost: &mut Option<Reason>,
     effects: &ServerEffects,
 )
-    ensures { IsOwed lost.old (handed queue.old) effects.now lost.new (handed queue.new) }
+    ensures { IsOwed lost.old queue.old effects.now lost.new queue.new }
 {
     if lost.is_some() {
         return;

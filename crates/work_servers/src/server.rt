@@ -1,17 +1,14 @@
 //! One connection with the server of a network.
-use crate::dialogue::Dialogue;
-use crate::kept_line::KeptLine;
+use crate::dialogue::{Dialogue, Hearing};
+use crate::kept_line::LineRoom;
 use crate::kind::ToServer;
 use crate::standing::is_same_entry;
 use bnc_ports::{Carries, Connection, Port, Reason};
-use byte_text::{NoMemory, Text};
-use irc_line::Next;
+use byte_text::Text;
 use passed_lines::{NetworkEntry, ServerEffects};
 use std::alloc::Global;
-use std::collections::VecDeque;
-use upstream_session::is_passed_on;
-use work_lines::{Filled, Input, Pumped};
-use worker_io::{Context, NodeView};
+use work_lines::{Filled, Pumped};
+use worker_io::{Context, Served};
 
 /// A server that sends without pause is asked for room each time that bytes came so often.
 const UNPAUSED: u32 = 4;
@@ -31,11 +28,8 @@ pub enum ServerStep {
 
 /// A connection with the server of a network.
 #[derive(Drop)]
-pub(crate) struct Server<C: Connection> {
-    pub(crate) input: Input,
+pub struct Server<C: Connection> {
     pub(crate) dialogue: Dialogue<C>,
-    // whether it stands in the queue of those that have something to do
-    pub(crate) is_queued: bool,
     // the place of its network among those of the node
     pub(crate) network: usize,
     // how the session stood last, and whether all workers know that
@@ -54,16 +48,13 @@ pub(crate) struct Server<C: Connection> {
 impl<C: Connection> Server<C> {
     /// A session with a network's server that begins over a connection, at that moment. No worker knows yet how it stands.
     pub(crate) fn new(
-        alloc: Global,
         dialogue: Dialogue<C>,
         network: usize,
         entry: NetworkEntry,
         now: u64,
     ) -> Server<C> {
         Server {
-            input: Input::new(alloc),
             dialogue,
-            is_queued: false,
             network,
             entry,
             is_known: false,
@@ -71,13 +62,6 @@ impl<C: Connection> Server<C> {
             heard_at: now,
             fills: 0,
             ends: None,
-        }
-    }
-
-    /// Stands in the queue.
-    pub(crate) fn wake(&mut self, busy: &mut VecDeque<usize>, number: usize) {
-        if !self.is_queued && busy.push_back(number).is_ok() {
-            self.is_queued = true;
         }
     }
 
@@ -110,47 +94,23 @@ impl<C: Connection> Server<C> {
     }
 
     /// What the next line comes to, or more bytes where there is none. A line for which there is no memory is kept, and is the
-    /// next line again.
+    /// next line again. Once it was tried often, it is dropped where it would only be passed on, and for any other the connection
+    /// is closed.
     pub(crate) fn step<P: Port + Carries<ToServer, Connection = C>>(
         &mut self,
         context: &mut Context<P>,
         number: usize,
-        kept: &mut KeptLine,
+        room: &mut LineRoom,
     ) -> ServerStep {
-        if kept.server() == Some(number) {
-            return self.hear_kept(&context.view, kept);
-        }
-        let Server {
-            input,
-            dialogue,
-            joined,
-            ..
-        } = self;
-        match input.next_line() {
-            Next::Line(bytes) => match hear(dialogue, joined, &context.view, bytes) {
-                Ok(effects) => ServerStep::Do(effects),
-                Err(NoMemory) => keep(kept, number, bytes),
-            },
-            Next::TooLong => ServerStep::Again,
-            Next::More => self.fill(context),
-        }
-    }
-
-    // What the line that was kept comes to. Once it was tried often, it is dropped where it would only be passed on, and for any
-    // other the connection is closed.
-    fn hear_kept(&mut self, view: &NodeView, kept: &mut KeptLine) -> ServerStep {
-        if let Ok(effects) = hear(&mut self.dialogue, &mut self.joined, view, kept.as_bytes()) {
-            kept.let_go();
-            return ServerStep::Do(effects);
-        }
-        if !kept.count_try() {
-            return ServerStep::Rest;
-        }
-        kept.let_go();
-        if is_passed_on(kept.as_bytes()) {
-            ServerStep::Again
-        } else {
-            ServerStep::Over(Reason::NoMemory)
+        match self.dialogue.hear(&context.view, number, room) {
+            Hearing::Line(heard) => {
+                self.joined = heard.joined;
+                ServerStep::Do(heard.effects)
+            }
+            Hearing::LeftOut => ServerStep::Again,
+            Hearing::Waits => ServerStep::Rest,
+            Hearing::GivenUp => ServerStep::Over(Reason::NoMemory),
+            Hearing::More => self.fill(context),
         }
     }
 
@@ -159,7 +119,7 @@ impl<C: Connection> Server<C> {
         &mut self,
         context: &mut Context<P>,
     ) -> ServerStep {
-        match self.dialogue.fill(&mut self.input, context) {
+        match self.dialogue.fill(context) {
             Filled::More => {
                 self.heard_at = context.view.now;
                 self.fills = self.fills.wrapping_add(1);
@@ -178,28 +138,13 @@ impl<C: Connection> Server<C> {
     }
 }
 
-// What a line of the server comes to, and the channel that the session itself joins by it: one is joined only where the session
-// has one more channel then. For want of memory the session stays as it was; a channel is left out for want of it.
-fn hear<C: Connection>(
-    dialogue: &mut Dialogue<C>,
-    joined: &mut Option<Text>,
-    view: &NodeView,
-    bytes: &[u8],
-) -> Result<ServerEffects, NoMemory> {
-    let before = dialogue.count_channels();
-    let effects = dialogue.hear(view.alloc, bytes, view.moment)?;
-    *joined = if dialogue.count_channels() > before {
-        dialogue.joined(view.alloc, bytes)
-    } else {
-        None
-    };
-    Ok(effects)
-}
-
-// Keeps a line for which there was no memory.
-fn keep(kept: &mut KeptLine, number: usize, bytes: &[u8]) -> ServerStep {
-    match kept.keep(number, bytes) {
-        Ok(()) => ServerStep::Rest,
-        Err(NoMemory) => ServerStep::Over(Reason::NoMemory),
+impl<C: Connection> Served for Server<C> {
+    fn mark(&mut self, readable: bool, writable: bool) {
+        if readable {
+            self.dialogue.mark_readable();
+        }
+        if writable {
+            self.dialogue.mark_writable();
+        }
     }
 }

@@ -1,11 +1,11 @@
 //! The table of a worker's servers.
-use crate::kept_line::KeptLine;
+use crate::kept_line::LineRoom;
 use crate::server::Server;
 use bnc_ports::{Connection, Reason};
 use byte_text::{NoMemory, Text};
 use passed_lines::{Live, ServerPut};
 use std::alloc::Global;
-use std::collections::{BTreeMap, VecDeque};
+use worker_io::Connections;
 
 // The serial number of the first id that the node makes for a network. Messages of one millisecond are ordered by the bytes of
 // their ids. So that they stand in the order in which they came, all numbers have 13 digits: the next longer one comes after 9
@@ -24,12 +24,11 @@ struct NetworkLine {
 /// A worker's servers, by the numbers of their connections.
 #[derive(Drop)]
 pub struct Servers<C: Connection> {
-    pub(crate) all: BTreeMap<usize, Server<C>>,
+    pub connections: Connections<Server<C>>,
     // of all networks; those of other workers stay empty
     networks: Vec<NetworkLine>,
-    busy: VecDeque<usize>,
-    // the line for which there was no memory
-    pub(crate) kept: KeptLine,
+    // the room for a line for which there is no memory
+    pub(crate) room: LineRoom,
 }
 
 impl<C: Connection> Servers<C> {
@@ -43,10 +42,9 @@ impl<C: Connection> Servers<C> {
             return Err(NoMemory);
         };
         Ok(Servers {
-            all: BTreeMap::new(alloc),
+            connections: Connections::new(alloc),
             networks,
-            busy: VecDeque::new(alloc),
-            kept: KeptLine::new(alloc)?,
+            room: LineRoom::new(alloc)?,
         })
     }
 
@@ -70,32 +68,19 @@ impl<C: Connection> Servers<C> {
         }
     }
 
-    /// Makes room in the queue for one more server: each has its place there.
-    pub(crate) fn make_room(&mut self) -> Result<(), NoMemory> {
-        match self.busy.reserve(self.all.len().saturating_add(1)) {
-            Ok(()) => Ok(()),
-            Err(_) => Err(NoMemory),
-        }
-    }
-
-    /// A session with a network's server has begun over a connection, whose number no other has. There is
-    /// [room](Servers::make_room) for it. For want of memory nothing changes, and the connection comes back.
+    /// A session with a network's server has begun over a connection, whose number no other has. For want of memory nothing
+    /// changes, and the connection comes back.
     pub(crate) fn insert(&mut self, number: usize, server: Server<C>) -> Result<(), C> {
-        match self.all.insert(number, server) {
-            Ok(_) => Ok(()),
-            Err(refused) => {
-                let (_, server) = refused.value;
-                Err(server.dialogue.into_connection())
-            }
+        match self.connections.insert(number, server) {
+            Ok(()) => Ok(()),
+            Err(server) => Err(server.dialogue.into_connection()),
         }
     }
 
     /// Takes a server out. Its network's next session goes on from its serial number.
     pub(crate) fn remove(&mut self, number: usize) -> Option<Server<C>> {
-        let server = self.all.remove(&number)?;
-        if self.kept.server() == Some(number) {
-            self.kept.let_go();
-        }
+        let mut server = self.connections.remove(number)?;
+        server.dialogue.give_up_line(&mut self.room);
         if let Some(network_line) = self.networks.get_mut(server.network) {
             network_line.number = None;
             network_line.serial = server.dialogue.session().serial();
@@ -105,79 +90,44 @@ impl<C: Connection> Servers<C> {
 
     /// The network of that connection, by its place among those of the node.
     pub fn network(&self, number: usize) -> Option<usize> {
-        Some(self.all.get(&number)?.network)
+        Some(self.connections.get(number)?.network)
     }
 
     /// A message that the session over that connection put, as it is told. None where there is no such session, or where the
     /// change is no message, or one of another network.
     pub fn live<'a>(&self, number: usize, put: &ServerPut<'a>) -> Option<Live<'a>> {
-        self.all.get(&number)?.dialogue.session().live(put)
+        self.connections.get(number)?.dialogue.session().live(put)
     }
 
     /// The channel that the session over that connection itself joined by the last line that was taken, where it joined one.
     /// It is told once, and for want of memory not at all.
     pub fn take_joined(&mut self, number: usize) -> Option<Text> {
-        self.all.get_mut(&number)?.joined.take()
+        self.connections.get_mut(number)?.joined.take()
     }
 
-    /// The server whose line waits for memory, as long as it takes lines.
-    pub(crate) fn waiting(&self) -> Option<usize> {
-        let number = self.kept.server()?;
-        if self.all.get(&number)?.takes_lines() {
-            Some(number)
-        } else {
-            None
+    /// The server whose line waits for memory. One that takes no lines gives it up.
+    pub(crate) fn waiting(&mut self) -> Option<usize> {
+        let Servers {
+            connections,
+            room,
+            ..
+        } = self;
+        let number = room.server()?;
+        let server = connections.get_mut(number)?;
+        if server.takes_lines() {
+            return Some(number);
         }
-    }
-
-    /// The server has something to do.
-    pub fn wake(&mut self, number: usize) {
-        let Servers { all, busy, .. } = self;
-        if let Some(server) = all.get_mut(&number) {
-            server.wake(busy, number);
-        }
-    }
-
-    /// What the port tells of a connection. False where it isn't a server's.
-    pub fn mark(&mut self, number: usize, readable: bool, writable: bool) -> bool {
-        let Servers { all, busy, .. } = self;
-        match all.get_mut(&number) {
-            Some(server) => {
-                if readable {
-                    server.input.mark_readable();
-                }
-                if writable {
-                    server.dialogue.mark_writable();
-                }
-                server.wake(busy, number);
-                true
-            }
-            None => false,
-        }
+        server.dialogue.give_up_line(room);
+        None
     }
 
     /// The connection is closed once what is owed is written. No further line of the server is taken.
     pub fn end(&mut self, number: usize, reason: Reason) {
-        let Servers { all, busy, .. } = self;
-        if let Some(server) = all.get_mut(&number) {
+        if let Some(server) = self.connections.get_mut(number) {
             if server.ends.is_none() {
                 server.ends = Some(reason);
             }
-            server.wake(busy, number);
         }
-    }
-
-    /// Whether a server has something to do.
-    pub fn is_busy(&self) -> bool {
-        !self.busy.is_empty()
-    }
-
-    /// The next server that has something to do.
-    pub fn next_busy(&mut self) -> Option<usize> {
-        let number = self.busy.pop_front()?;
-        if let Some(server) = self.all.get_mut(&number) {
-            server.is_queued = false;
-        }
-        Some(number)
+        self.connections.wake(number);
     }
 }

@@ -60,7 +60,7 @@ impl<C: Connection> Servers<C> {
             _ => self.step_server(context, number),
         };
         if self.waiting().is_some() {
-            self.wake(number);
+            self.connections.wake(number);
         }
         step
     }
@@ -71,9 +71,13 @@ impl<C: Connection> Servers<C> {
         context: &mut Context<P>,
         number: usize,
     ) -> ServerStep {
-        let Servers { all, kept, .. } = self;
-        match all.get_mut(&number) {
-            Some(server) if server.takes_lines() => server.step(context, number, kept),
+        let Servers {
+            connections,
+            room,
+            ..
+        } = self;
+        match connections.get_mut(number) {
+            Some(server) if server.takes_lines() => server.step(context, number, room),
             _ => ServerStep::Rest,
         }
     }
@@ -84,7 +88,7 @@ impl<C: Connection> Servers<C> {
         context: &mut Context<P>,
         number: usize,
     ) -> Option<Standing> {
-        let server = self.all.get_mut(&number)?;
+        let server = self.connections.get_mut(number)?;
         let pumped = match server.dialogue.pump(&mut context.port) {
             Ok(pumped) => pumped,
             Err(reason) => return self.close(context, number, reason),
@@ -93,7 +97,7 @@ impl<C: Connection> Servers<C> {
             return self.close(context, number, reason);
         }
         if pumped == Pumped::Some {
-            self.wake(number);
+            self.connections.wake(number);
         }
         None
     }
@@ -107,7 +111,7 @@ impl<C: Connection> Servers<C> {
         said: &Said<'_>,
     ) -> Option<SaidStep> {
         let number = self.line_of(network)?;
-        let server = self.all.get_mut(&number)?;
+        let server = self.connections.get_mut(number)?;
         if server.dialogue.lost().is_some() {
             return None;
         }
@@ -116,13 +120,13 @@ impl<C: Connection> Servers<C> {
             Err(SayFault::NoMemory) => Err(NoMemory),
             Err(SayFault::OtherServer) => return None,
         };
-        self.wake(number);
+        self.connections.wake(number);
         Some(SaidStep { number, effects })
     }
 
     /// Takes back a list of effects, once they are done, so that the server's next line can be answered in its room.
     pub fn recycle(&mut self, number: usize, effects: ServerEffects) {
-        if let Some(server) = self.all.get_mut(&number) {
+        if let Some(server) = self.connections.get_mut(number) {
             server.dialogue.recycle(effects);
         }
     }
@@ -134,7 +138,7 @@ impl<C: Connection> Servers<C> {
         context: &mut Context<P>,
         number: usize,
     ) -> Option<Standing> {
-        let server = self.all.get_mut(&number)?;
+        let server = self.connections.get_mut(number)?;
         if !server.has_changed() {
             return None;
         }

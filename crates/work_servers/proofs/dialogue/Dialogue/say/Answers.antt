@@ -1,13 +1,11 @@
 use Rattle.std.proofs.Math.Logic.{∥∥₁_map}
-use Rattle.upstream_session.specs.Events.{Saying}
-use Rattle.work_lines.specs.Outgoing.{handed}
-use Rattle.work_servers.proofs.SendingLemmas.{goes_on}
+use Rattle.work_servers.proofs.SendingLemmas.{said}
 use Rattle.work_servers.proofs.dialogue.Dialogue.say.Goals as goal
 
 pub invariant_of-self-2 : goal.invariant_of-self-2
 invariant_of-self-2 g c =
     let self = c.args.self.now in
+    let ok = c.in_ok-effects.ensures in
     record {
-      by_right = ∥∥₁_map self.by_right (goes_on self.session (Saying c.args.now c.args.said.now.text.now) self.lost c.owe_sends.new.lost (handed self.queue) (handed c.owe_sends.new.queue)
-          c.in_ok-effects.ensures.theirs c.in_ok-effects.ensures.session c.in_ok-effects.ensures.effects c.owe_sends.ensures);
+      by_right = ∥∥₁_map self.by_right (said self.queue c.owe_sends.new.queue c.owe_sends.new.lost c.args.now c.args.said.now.text.now ok.theirs ok.session ok.effects c.owe_sends.ensures);
     }
