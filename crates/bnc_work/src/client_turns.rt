@@ -1,6 +1,5 @@
 //! The turns of clients.
 use crate::mail::Mail;
-use crate::node::Node;
 use crate::work_port::WorkPort;
 use crate::worker::Worker;
 use crate::worker_config::WorkEnd;
@@ -9,6 +8,7 @@ use bnc_ports::Reason;
 use chat_change::Change;
 use passed_lines::SaidLine;
 use work_clients::{ClientEffect, ClientPut, ClientStep};
+use worker_node::Node;
 
 /// So many steps a client has before the others have their turn.
 const STEPS: usize = 64;

@@ -1,22 +1,10 @@
 //! The floors that are due: what is older than the node keeps messages is let go, once an hour.
-use crate::node::Node;
-use crate::putting::due_floors;
 use crate::work_port::WorkPort;
 use crate::worker::Worker;
 use attach::Attachment;
 use bnc_ports::Event;
-use chat_change::Change;
-use shared_node::PutFault;
 use worker_io::{BETWEEN_LOOKS, Timer};
-
-// How many of the floors the node has now, also where they only wait to be published.
-fn count_put(done: Result<(), PutFault>, all: usize) -> usize {
-    match done {
-        Ok(()) | Err(PutFault::Waiting) => all,
-        Err(PutFault::NoMemory { appended }) => appended,
-        Err(PutFault::Exhausted) => 0,
-    }
-}
+use worker_node::{DueFloors, Node, put_due_floors};
 
 impl<N: Node, X: Attachment, P: WorkPort> Worker<N, X, P> {
     /// Puts the floors that are due, and looks again in an hour. A floor can't be taken back: where the clock leapt since the
@@ -30,19 +18,21 @@ impl<N: Node, X: Attachment, P: WorkPort> Worker<N, X, P> {
         }
     }
 
-    // Puts the floors that are due, and tells the operator. They are all at one moment.
+    // Puts the floors that are due, and tells the operator.
     fn put_floors(&mut self) {
-        let Worker { node, context, .. } = self;
-        let Ok(floors) = due_floors(node, &context.view) else {
+        let Some(due) = put_due_floors(&mut self.node, &self.context.view) else {
             return;
         };
-        let Some(Change::Floor { at, .. }) = floors.first() else {
-            return;
-        };
-        let count = count_put(self.put(floors.as_slice()), floors.len());
+        let DueFloors {
+            count,
+            at,
+            is_waiting,
+        } = due;
+        if is_waiting {
+            self.publish_later();
+        }
         if count > 0 {
-            let event = Event::FloorsPut { count, at: *at };
-            self.context.port.report(&event);
+            self.context.port.report(&Event::FloorsPut { count, at });
         }
         self.publish();
     }

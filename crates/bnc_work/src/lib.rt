@@ -3,9 +3,8 @@
 //! Each kind of connection has a crate of its own that decides what comes of it. What is here carries between them: from a
 //! server to the clients of its network, from a client to its server, from a peer to the node, and from worker to worker.
 //!
-//! What a worker puts into its node it puts by right (`MayBePut`): a marker that a registered session of a client puts, what the
-//! session with a network's server puts, or floors that are due by the worker's clock. Beside that the node takes only what a
-//! peer sent that had greeted this node. The [`Mail`] between workers carries whose each line, message and entry is.
+//! What a worker puts into its node it puts by right, as [`worker_node`] says. The [`Mail`] between workers carries whose each
+//! line, message and entry is.
 #![tactic(auto)]
 
 mod client_turns;
@@ -13,7 +12,6 @@ mod floor_turns;
 mod mail;
 mod mail_turns;
 mod marker_turns;
-mod node;
 mod peer_turns;
 mod putting;
 mod server_turns;

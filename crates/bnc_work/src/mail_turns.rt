@@ -1,12 +1,12 @@
 //! What workers tell each other, and what is done for the whole node.
 use crate::mail::Mail;
-use crate::node::Node;
 use crate::work_port::WorkPort;
 use crate::worker::Worker;
 use crate::worker_config::WorkEnd;
 use attach::Attachment;
 use passed_lines::NetworkEntry;
 use work_servers::Standing;
+use worker_node::Node;
 
 impl<N: Node, X: Attachment, P: WorkPort> Worker<N, X, P> {
     /// Does what another worker tells.

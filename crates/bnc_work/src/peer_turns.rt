@@ -1,7 +1,5 @@
 //! The turns of peers.
 use crate::mail::Mail;
-use crate::marker_turns::{MarkAhead, marks_ahead};
-use crate::node::Node;
 use crate::work_port::WorkPort;
 use crate::worker::Worker;
 use crate::worker_config::WorkEnd;
@@ -10,6 +8,7 @@ use bnc_ports::Reason;
 use byte_text::NoMemory;
 use peer_session::{Outcome, changes_of};
 use work_peers::PeerStep;
+use worker_node::{MarkAhead, Node, marks_ahead};
 
 /// So many lines of a peer are taken before the others have their turn.
 const STEPS: usize = 64;
@@ -22,7 +21,7 @@ impl<N: Node, X: Attachment, P: WorkPort> Worker<N, X, P> {
                 return Ok(());
             }
         }
-        self.peers.wake(number);
+        self.peers.connections.wake(number);
         self.peers.finish(&mut self.context, number);
         Ok(())
     }

@@ -1,6 +1,5 @@
 //! The turns of networks' servers.
 use crate::mail::Mail;
-use crate::node::Node;
 use crate::work_port::WorkPort;
 use crate::worker::Worker;
 use crate::worker_config::WorkEnd;
@@ -10,6 +9,7 @@ use byte_text::NoMemory;
 use passed_lines::{Deed, Live, LiveMessage, Passed, PassedLine, Said, ServerEffects, ServerPut};
 use shared_node::PutFault;
 use work_servers::{SaidStep, ServerStep};
+use worker_node::Node;
 
 /// So many lines of a server are taken before the others have their turn: about as many as one read brings, so that what
 /// they come to is written to each client at once.
@@ -24,7 +24,7 @@ impl<N: Node, X: Attachment, P: WorkPort> Worker<N, X, P> {
                 return Ok(());
             }
         }
-        self.servers.wake(number);
+        self.servers.connections.wake(number);
         self.finish_server(number);
         Ok(())
     }
@@ -122,7 +122,7 @@ impl<N: Node, X: Attachment, P: WorkPort> Worker<N, X, P> {
                 Deed::PassOn(passed) => self.pass_on(number, &passed),
                 Deed::Close => {
                     self.servers.end(number, Reason::Ended);
-                    self.servers.wake(number);
+                    self.servers.connections.wake(number);
                 }
             }
         }

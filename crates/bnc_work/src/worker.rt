@@ -1,6 +1,5 @@
 //! One worker: what comes, and who has something to do.
 use crate::mail::Mail;
-use crate::node::{GatedNode, Node};
 use crate::work_port::WorkPort;
 use crate::worker_config::{WorkEnd, WorkerConfig};
 use attach::Attachment;
@@ -15,6 +14,7 @@ use work_clients::{Clients, ToClient};
 use work_peers::{Peers, ToPeer};
 use work_servers::{Servers, ToServer};
 use worker_io::{ClockWatch, Context, NodeView, Timer, clock};
+use worker_node::{GatedNode, Node};
 
 /// A worker looks after its timers at least so often, in milliseconds.
 const LONGEST: u64 = 60_000;
@@ -227,10 +227,13 @@ impl<N: Node, X: Attachment, P: WorkPort> Worker<N, X, P> {
 
     // How long the port may wait.
     fn patience(&self) -> u64 {
-        if self.has_published || self.clients.is_busy() || self.peers.is_busy() {
+        if self.has_published
+            || self.clients.connections.is_busy()
+            || self.peers.connections.is_busy()
+        {
             return 0;
         }
-        if self.servers.is_busy() {
+        if self.servers.connections.is_busy() {
             return if self.is_another_behind() { PAUSE } else { 0 };
         }
         match self.context.timers.next() {
@@ -259,7 +262,7 @@ impl<N: Node, X: Attachment, P: WorkPort> Worker<N, X, P> {
         self.clients.tell_refusals(&mut self.context);
         self.peers.tell_refusals(&mut self.context);
         self.context.begin_turn();
-        if let Some(number) = self.servers.next_busy() {
+        if let Some(number) = self.servers.connections.next_busy() {
             self.serve_server(number)?;
         }
         self.serve_clients()?;
@@ -269,8 +272,8 @@ impl<N: Node, X: Attachment, P: WorkPort> Worker<N, X, P> {
 
     // Those clients that have something to do by now have a turn each.
     fn serve_clients(&mut self) -> Result<(), WorkEnd> {
-        for _ in 0..self.clients.busy_count() {
-            if let Some(number) = self.clients.next_busy() {
+        for _ in 0..self.clients.connections.busy_count() {
+            if let Some(number) = self.clients.connections.next_busy() {
                 self.serve_client(number)?;
             }
         }
@@ -279,8 +282,8 @@ impl<N: Node, X: Attachment, P: WorkPort> Worker<N, X, P> {
 
     // Those peers that have something to do by now have a turn each.
     fn serve_peers(&mut self) -> Result<(), WorkEnd> {
-        for _ in 0..self.peers.busy_count() {
-            if let Some(number) = self.peers.next_busy() {
+        for _ in 0..self.peers.connections.busy_count() {
+            if let Some(number) = self.peers.connections.next_busy() {
                 self.serve_peer(number)?;
             }
         }
@@ -333,11 +336,9 @@ impl<N: Node, X: Attachment, P: WorkPort> Worker<N, X, P> {
     }
 
     fn mark(&mut self, number: usize, readable: bool, writable: bool) {
-        let is_marked = self.clients.mark(number, readable, writable)
-            || self.servers.mark(number, readable, writable);
-        if !is_marked {
-            let _ = self.peers.mark(number, readable, writable);
-        }
+        let _ = self.clients.connections.mark(number, readable, writable)
+            || self.servers.connections.mark(number, readable, writable)
+            || self.peers.connections.mark(number, readable, writable);
     }
 
     // A connection that was dialed is there.

@@ -4,7 +4,7 @@ use Rattle.chat_change.specs.declared.change.Change.{Change}
 use Rattle.chat_history.specs.History.{norm}
 use Rattle.chat_history.specs.Retention.{due_floors}
 use Rattle.passed_lines.specs.Passing.{IsPutBy}
-use Rattle.work_clients.specs.Marking.{IsMarkedBy}
+use Rattle.client_connection.specs.Marking.{IsMarkedBy}
 
 -- These changes may be put at that moment, where messages are kept for so many days. In turn:
 --   Nothing    what waits is published, and nothing is put beside it

@@ -1,9 +1,9 @@
 use Rattle.std.proofs.Common.{List, sym, subst}
 use Rattle.chat_change.specs.declared.change.Change.{Change}
-use Rattle.bnc_work.specs.Putting.{MayBePut}
-use Rattle.bnc_work.proofs.worker.Worker.put_floors.Goals as goal
+use Rattle.worker_node.specs.Putting.{MayBePut}
+use Rattle.worker_node.proofs.putting.put_due_floors.Goals as goal
 
-pub put-requires : goal.put-requires
-put-requires g c =
-    let view = c.args.self.now.context.view in
+pub put-done-requires : goal.put-done-requires
+put-done-requires g c =
+    let view = c.args.view.now in
     subst (λ (t : List Change). ∥ MayBePut view.moment view.retain_days t ∥₁) (sym c.as_slice.ensures.value) c.in-Ok.ensures

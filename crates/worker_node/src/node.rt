@@ -3,7 +3,7 @@ ghost use Rattle.std.specs.Prelude.{◌≡◌, ◌⊎◌, List, ℕ, IfOk, OnErr
 ghost use Rattle.chat_change.specs.declared.change.Change.{Change as Piece};
 ghost use Rattle.shared_node.specs.Lists.{changes_in};
 ghost use Rattle.peer_connection.specs.Taking.{IsTakenFromPeer};
-ghost use Rattle.bnc_work.specs.Putting.{MayBePut};
+ghost use Rattle.worker_node.specs.Putting.{MayBePut};
 
 use bnc_ports::{Connection, Gate, Port};
 use byte_text::NoMemory;
@@ -16,7 +16,7 @@ use worker_io::{Context, NodeView};
 
 /// A worker's way into its node. It may wait. What comes into the node by it is put by right, or was sent by a peer that had
 /// greeted: there is no other call that brings changes.
-pub(crate) trait Node: Wait + Drop {
+pub trait Node: Wait + Drop {
     /// What it has taken so far, as a [`Taker`](gossip_delta::Taker) says it.
     ghost holds: { Self → ℕ → List Piece → Type 0 };
 
@@ -50,9 +50,9 @@ pub(crate) trait Node: Wait + Drop {
 
 /// A node that many workers share, and the gate that is asked before each of their answers.
 #[derive(Drop)]
-pub(crate) struct GatedNode<'a, J: Naming, R: Wait + Drop, W: Wait, G: Gate> {
-    pub(crate) taker: NodeTaker<'a, J, R, W>,
-    pub(crate) gate: &'a G,
+pub struct GatedNode<'a, J: Naming, R: Wait + Drop, W: Wait, G: Gate> {
+    pub taker: NodeTaker<'a, J, R, W>,
+    pub gate: &'a G,
 }
 
 impl<'a, J: Naming, R: Wait + Drop, W: Wait, G: Gate> Wait for GatedNode<'a, J, R, W, G> {}

@@ -4,8 +4,8 @@ use Rattle.chat_change.specs.declared.change.Change.{Change}
 use Rattle.chat_history.specs.History.{norm}
 use Rattle.chat_history.specs.Retention as retention
 use Rattle.passed_lines.specs.Passing.{IsPutBy}
-use Rattle.work_clients.specs.Marking.{IsMarkedBy}
-use Rattle.bnc_work.specs.Putting.{MayBePut, OfClient, OfServer, Floors}
+use Rattle.client_connection.specs.Marking.{IsMarkedBy}
+use Rattle.worker_node.specs.Putting.{MayBePut, OfClient, OfServer, Floors}
 
 -- by a client
 pub by_client : {now days : ℕ} {change : Change} {changes : List Change} → changes ≡ change ∷ [] → ∥ IsMarkedBy change ∥₁ → ∥ MayBePut now days changes ∥₁

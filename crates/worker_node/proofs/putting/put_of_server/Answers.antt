@@ -1,5 +1,5 @@
-use Rattle.bnc_work.proofs.PuttingLemmas.{by_server}
-use Rattle.bnc_work.proofs.worker.Worker.put_of_server.Goals as goal
+use Rattle.worker_node.proofs.PuttingLemmas.{by_server}
+use Rattle.worker_node.proofs.putting.put_of_server.Goals as goal
 
 pub put-requires : goal.put-requires
 put-requires g c =

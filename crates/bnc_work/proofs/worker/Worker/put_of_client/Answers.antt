@@ -1,5 +1,0 @@
-use Rattle.bnc_work.proofs.PuttingLemmas.{by_client}
-use Rattle.bnc_work.proofs.worker.Worker.put_of_client.Goals as goal
-
-pub put-requires : goal.put-requires
-put-requires g c = by_client c.from_ref.ensures.value c.args.put.is_put

@@ -1,0 +1,16 @@
+//! The node as a worker has it: what the worker reads by, and what it may put there.
+//!
+//! A worker puts by right (`specs/Putting.antt`): a marker that a registered session of a client puts
+//! ([`put_of_client`]), what the session with a network's server puts ([`put_of_server`]), floors that are due by the worker's
+//! clock ([`put_due_floors`]), or nothing, so that what waits is published ([`publish_waiting`]). Beside that the node takes
+//! only what a peer sent that had greeted this node. The right is the condition of [`Node::put`], the one call by which a worker
+//! puts.
+#![tactic(auto)]
+
+mod marks;
+mod node;
+mod putting;
+
+pub use marks::{MarkAhead, marks_ahead};
+pub use node::{GatedNode, Node};
+pub use putting::{DueFloors, publish_waiting, put_due_floors, put_of_client, put_of_server};
