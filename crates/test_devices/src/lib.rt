@@ -1,11 +1,9 @@
-//! Readers and writers for tests: they move a few bytes at a time, are interrupted, fail at some call, and note each
-//! call in a log that they share. `test_script` and `test_lines` run calls over them; [`Sink`] comes first.
+//! Readers and writers for tests: they move a few bytes at a time, are interrupted, and fail at some call. `test_lines`,
+//! `test_sessions` and `test_sockets` run calls over them; [`Sink`] comes first.
 #![tactic(auto)]
 
-mod log;
 mod sink;
 mod source;
 
-pub use log::{DeviceCall, Log};
 pub use sink::Sink;
 pub use source::Source;

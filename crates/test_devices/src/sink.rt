@@ -1,24 +1,22 @@
 //! A writer that keeps what it takes.
-use crate::log::{DeviceCall, Log};
 use std::alloc::Global;
 use std::io;
 use std::io::{ErrorKind, Write};
 
 /// A writer that keeps the bytes that it takes. At first it takes all that it is given, and never fails.
 #[derive(Drop)]
-pub struct Sink<'a> {
+pub struct Sink {
     bytes: Vec<u8>,
     most: usize,
     writes_left: usize,
     flushes_left: usize,
     is_interrupted: bool,
     interrupts_next: bool,
-    log: Option<&'a Log>,
 }
 
-impl<'a> Sink<'a> {
+impl Sink {
     /// A writer that has no bytes yet.
-    pub fn new(alloc: Global) -> Sink<'a> {
+    pub fn new(alloc: Global) -> Sink {
         Sink {
             bytes: Vec::new(alloc),
             most: usize::MAX,
@@ -26,17 +24,16 @@ impl<'a> Sink<'a> {
             flushes_left: usize::MAX,
             is_interrupted: false,
             interrupts_next: false,
-            log: None,
         }
     }
 
     /// It takes so many bytes a write at most.
-    pub fn at_most(self, most: usize) -> Sink<'a> {
+    pub fn at_most(self, most: usize) -> Sink {
         Sink { most, ..self }
     }
 
     /// Its first write is interrupted, and from then on every second one.
-    pub fn interrupted(self) -> Sink<'a> {
+    pub fn interrupted(self) -> Sink {
         Sink {
             is_interrupted: true,
             interrupts_next: true,
@@ -45,7 +42,7 @@ impl<'a> Sink<'a> {
     }
 
     /// It fails at each write once it has made so many (`ErrorKind::BrokenPipe`). Interruptions do not count.
-    pub fn failing_after(self, writes: usize) -> Sink<'a> {
+    pub fn failing_after(self, writes: usize) -> Sink {
         Sink {
             writes_left: writes,
             ..self
@@ -53,17 +50,9 @@ impl<'a> Sink<'a> {
     }
 
     /// It fails at each flush once it has made so many (`ErrorKind::BrokenPipe`).
-    pub fn failing_after_flushes(self, flushes: usize) -> Sink<'a> {
+    pub fn failing_after_flushes(self, flushes: usize) -> Sink {
         Sink {
             flushes_left: flushes,
-            ..self
-        }
-    }
-
-    /// It notes its writes and flushes in the log.
-    pub fn logged(self, log: &'a Log) -> Sink<'a> {
-        Sink {
-            log: Some(log),
             ..self
         }
     }
@@ -72,16 +61,9 @@ impl<'a> Sink<'a> {
     pub fn bytes(&self) -> &[u8] {
         self.bytes.as_slice()
     }
-
-    fn note(&self, call: DeviceCall) -> io::Result<()> {
-        match self.log {
-            Some(log) => log.note(call),
-            None => Ok(()),
-        }
-    }
 }
 
-impl<'a> Write for Sink<'a> {
+impl Write for Sink {
     fn write(&mut self, buf: &[u8]) -> io::Result<usize> {
         if self.interrupts_next {
             self.interrupts_next = false;
@@ -89,11 +71,9 @@ impl<'a> Write for Sink<'a> {
         }
         self.interrupts_next = self.is_interrupted;
         if self.writes_left == 0 {
-            self.note(DeviceCall::FailedWrite)?;
             return Err(io::Error::from(ErrorKind::BrokenPipe));
         }
         let n = buf.len().min(self.most);
-        self.note(DeviceCall::Write(n))?;
         match self.bytes.extend_from_slice(&buf[..n]) {
             Ok(()) => {
                 self.writes_left -= 1;
@@ -105,10 +85,8 @@ impl<'a> Write for Sink<'a> {
 
     fn flush(&mut self) -> io::Result<()> {
         if self.flushes_left == 0 {
-            self.note(DeviceCall::FailedFlush)?;
             return Err(io::Error::from(ErrorKind::BrokenPipe));
         }
-        self.note(DeviceCall::Flush)?;
         self.flushes_left -= 1;
         Ok(())
     }

@@ -1,5 +1,4 @@
 //! A reader of given bytes.
-use crate::log::{DeviceCall, Log};
 use std::io;
 use std::io::{ErrorKind, Read};
 
@@ -11,7 +10,6 @@ pub struct Source<'a> {
     reads_left: usize,
     is_interrupted: bool,
     interrupts_next: bool,
-    log: Option<&'a Log>,
 }
 
 impl<'a> Source<'a> {
@@ -23,7 +21,6 @@ impl<'a> Source<'a> {
             reads_left: usize::MAX,
             is_interrupted: false,
             interrupts_next: false,
-            log: None,
         }
     }
 
@@ -51,21 +48,6 @@ impl<'a> Source<'a> {
             ..self
         }
     }
-
-    /// It notes its reads in the log.
-    pub fn logged(self, log: &'a Log) -> Source<'a> {
-        Source {
-            log: Some(log),
-            ..self
-        }
-    }
-
-    fn note(&self, call: DeviceCall) -> io::Result<()> {
-        match self.log {
-            Some(log) => log.note(call),
-            None => Ok(()),
-        }
-    }
 }
 
 impl<'a> Read for Source<'a> {
@@ -76,12 +58,10 @@ impl<'a> Read for Source<'a> {
         }
         self.interrupts_next = self.is_interrupted;
         if self.reads_left == 0 {
-            self.note(DeviceCall::FailedRead)?;
             return Err(io::Error::from(ErrorKind::BrokenPipe));
         }
         let all = self.rest;
         let n = all.len().min(self.most).min(buf.len());
-        self.note(DeviceCall::Read(n))?;
         buf[..n].copy_from_slice(&all[..n]);
         self.rest = &all[n..];
         self.reads_left -= 1;

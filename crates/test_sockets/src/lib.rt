@@ -1,20 +1,35 @@
-//! What has to be shown in one process over sockets of this machine: how a node ends, and that the ports of two workers
-//! (`bnc_sockets`) pass on connections, bytes, mail and ends, and hand in the system's clocks.
+//! What has to be shown in one process. Rows of what stands below the workers: places, clients at their stands and halls
+//! (`attach`), timers and lines that threads share (`worker_io`), and bytes that are searched and written (`byte_text`), with
+//! the devices on which other tests stand (`test_devices`). And over sockets of this machine: how a node ends (`bnc_node`), and
+//! that the ports of two workers (`bnc_sockets`) pass on connections, bytes, mail and ends.
 //!
-//! It stands on `bnc_node` and `bnc_sockets`, whose sockets no contract reaches. What the built program shows from outside
-//! is tested there. Read `two_ports` first.
+//! The contracts of these crates say what most calls do. Here are the rows that no clause promises: that there is memory at
+//! the greatest sizes, that the lowest free place is given, also after it was freed in another thread, what sockets do, and the
+//! words of faults. What the built program shows from outside is tested there. Read `limits` and `two_ports` first.
 #![tactic(auto)]
 
 #[cfg(test)]
-mod clocks;
+mod byte_texts;
+#[cfg(test)]
+mod clients;
+#[cfg(test)]
+mod devices;
 #[cfg(test)]
 mod ends;
 #[cfg(test)]
+mod limits;
+#[cfg(test)]
+mod lines;
+#[cfg(test)]
+mod memory;
+#[cfg(test)]
 mod node;
 #[cfg(test)]
-mod peer_line;
+mod places;
 #[cfg(test)]
 mod ports;
+#[cfg(test)]
+mod timers;
 #[cfg(test)]
 mod two_ports;
 #[cfg(test)]

@@ -1,12 +1,19 @@
 //! Two workers: a line between them, mail, and their end.
 use crate::node::{Machine, listener};
-use crate::peer_line::{address, close, open, receive, send};
 use crate::ports::{TwoPorts, next, two_ports};
-use bnc_ports::{Connection, Dial, Halt, Happening, Port};
+use bnc_ports::{Carries, Connection, Dial, Halt, Happening, Kind, Port};
 use bnc_sockets::{SocketConnection, SocketPort};
 use bnc_work::Mail;
 use mio::net::TcpStream;
 use std::net::{SocketAddr, TcpListener};
+
+/// Connections over which anything may be told.
+#[derive(Clone, Copy)]
+struct ToPeer;
+
+impl Kind for ToPeer {
+    ghost may_be_told = { λ _ _. Unit {0} };
+}
 
 // The connection to the peer, which is told next to be there.
 fn dialed<R: Machine>(rt: &R, port: &mut SocketPort<R, Mail>) -> SocketConnection {
@@ -14,7 +21,7 @@ fn dialed<R: Machine>(rt: &R, port: &mut SocketPort<R, Mail>) -> SocketConnectio
         Happening::Opened {
             number,
             what: Dial::Peer(0),
-        } => open(port, number).expect(rt, "the connection"),
+        } => Carries::<ToPeer>::open(port, number).expect(rt, "the connection"),
         _ => rt.panic("the connection was not made"),
     }
 }
@@ -22,7 +29,10 @@ fn dialed<R: Machine>(rt: &R, port: &mut SocketPort<R, Mail>) -> SocketConnectio
 // The connection of the peer that came.
 fn came<R: Machine>(rt: &R, port: &mut SocketPort<R, Mail>) -> SocketConnection {
     match next(rt, port) {
-        Happening::Peer { number } => open(port, number).expect(rt, "the connection"),
+        Happening::Peer { number } => Carries::<ToPeer>::open(port, number).expect(
+            rt,
+            "the connection",
+        ),
         _ => rt.panic("no peer came"),
     }
 }
@@ -67,14 +77,14 @@ fn connected<R: Machine>(
     ports: &mut TwoPorts<R>,
 ) -> (SocketConnection, SocketConnection) {
     let line = ports.first.dial(Dial::Peer(0)).expect(rt, "a line");
-    assert!(rt; open(&mut ports.first, line).is_none());
+    assert!(rt; Carries::<ToPeer>::open(&mut ports.first, line).is_none());
     let (stream, from) = accept(rt, listener);
     ports
         .intake
         .hand_peer(rt, stream, from)
         .expect(rt, "the intake");
     let far = came(rt, &mut ports.second);
-    assert!(rt; address(&ports.second, &far) == Some(from));
+    assert!(rt; Carries::<ToPeer>::address(&ports.second, &far) == Some(from));
     let near = dialed(rt, &mut ports.first);
     assert!(rt; near.number() == line);
     (near, far)
@@ -92,18 +102,22 @@ fn bytes_mail_and_the_end_reach_the_other_worker(rt: HostRuntime) {
     } = ports;
 
     let mut buffer = [0u8; 32];
-    assert!(rt; receive(&mut second, &mut far, &mut buffer) == Err(Halt::Blocked));
-    assert!(rt; send(&mut first, &mut near, b"PING x\r\n") == Ok(8));
+    assert!(rt;
+        Carries::<ToPeer>::receive(&mut second, &mut far, &mut buffer) == Err(Halt::Blocked)
+    );
+    assert!(rt; Carries::<ToPeer>::send(&mut first, &mut near, b"PING x\r\n") == Ok(8));
     assert!(rt; readable(&rt, &mut second) == far.number());
-    assert!(rt; receive(&mut second, &mut far, &mut buffer) == Ok(8));
+    assert!(rt; Carries::<ToPeer>::receive(&mut second, &mut far, &mut buffer) == Ok(8));
     assert!(rt; buffer.starts_with(b"PING x\r\n"));
 
     assert!(rt; second.workers() == 2 && second.send_mail(0, Mail::Published).is_ok());
     assert!(rt; is_published(&rt, &mut first));
 
-    close(&mut second, far);
+    Carries::<ToPeer>::close(&mut second, far);
     assert!(rt; readable(&rt, &mut first) == near.number());
-    assert!(rt; receive(&mut first, &mut near, &mut buffer) == Err(Halt::Closed));
+    assert!(rt;
+        Carries::<ToPeer>::receive(&mut first, &mut near, &mut buffer) == Err(Halt::Closed)
+    );
 
     drop(second);
     assert!(rt; is_ended(&rt, &mut first));
@@ -120,7 +134,7 @@ fn bytes_are_told_between_mail(rt: HostRuntime) {
     }
     assert!(rt; ports.second.backlog(0) == 1000 && ports.second.backlog(1) == 0);
     assert!(rt; is_published(&rt, &mut ports.first));
-    assert!(rt; send(&mut ports.second, &mut far, b"PING x\r\n") == Ok(8));
+    assert!(rt; Carries::<ToPeer>::send(&mut ports.second, &mut far, b"PING x\r\n") == Ok(8));
     assert!(rt; are_bytes_between(&rt, &mut ports.first, 66));
     assert!(rt; ports.second.backlog(0) >= 933);
 }
@@ -131,9 +145,9 @@ fn a_connection_is_handed_out_once(rt: HostRuntime) {
     let (listener, address) = listener(&rt);
     let mut ports = two_ports(&rt, address);
     let (mut near, _far) = connected(&rt, &listener, &mut ports);
-    assert!(rt; open(&mut ports.first, near.number()).is_none());
+    assert!(rt; Carries::<ToPeer>::open(&mut ports.first, near.number()).is_none());
     ports.first.give_up(near.number());
-    assert!(rt; send(&mut ports.first, &mut near, b"PING x\r\n") == Ok(8));
+    assert!(rt; Carries::<ToPeer>::send(&mut ports.first, &mut near, b"PING x\r\n") == Ok(8));
 }
 
 // Whether the peer is told to be refused.
