@@ -1,12 +1,11 @@
-//! The forms of cases. A session's case is
+//! The form of cases:
 //!
 //!     == setting: name of the case
 //!     lines of the script
 //!     --
 //!     what it is to come to
 //!
-//! In a script a NUL is spelled `␀`, and a CR `␍`. `client`, `questions`, `upstream` and `config` say what else stands in
-//! theirs.
+//! A NUL is spelled `␀`, and a CR `␍`. `client`, `upstream` and `replays` say what else stands in theirs.
 use std::alloc::{AllocError, Global};
 
 /// A session's setting, what comes to it, and what that is to come to.
@@ -29,7 +28,7 @@ pub fn case_in(part: &str) -> Option<Case<'_>> {
     })
 }
 
-/// What a script spells.
+/// What a text spells.
 pub fn spelled(alloc: Global, script: &str) -> Result<String, AllocError> {
     let with_nul = script.replace(alloc, "␀", "\0")?;
     with_nul.replace(alloc, "␍", "\r")

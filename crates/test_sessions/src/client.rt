@@ -1,26 +1,29 @@
 //! Sessions of clients, played line by line. The setting of a case is of two words:
 //!
-//!     == new|wide|member|bare up|down|redact|redact-down|channel|renamed|nowhere: name of the case
+//!     == new|wide|member|bare|last up|down|redact|redact-down|channel|renamed|nowhere: name of the case
 //!     lines of the client
 //!     --
 //!     lines that the client gets, and `put`, `ask`, `up` and `close` with what they carry
 //!
 //! A session is new, with pages of 100 messages or, where it is `wide`, of 1,000, or registered with all capabilities
-//! (`member`) or none (`bare`). Its network is up or down; its server
-//! may take REDACT, it may be in the channel #a, its nick may be `bo` in place of `al`, or the directory may have no account
-//! at all.
+//! (`member`) or none (`bare`); `last` is a member whose next batch has the greatest number. Its network is up or down; its
+//! server may take REDACT, it may be in the channel #a, its nick may be `bo` in place of `al`, or the directory may have no
+//! account at all.
 //!
 //! A line that begins with `%` is none of the client's. It names another such standing from then on; or it is `%too-long`
 //! for a line that was too long to be taken in, `%batch`, `%plain` or `%no-query` for what an answer was, `%reference` to
-//! tell the number of the next batch, or `%no-entry`: from then on no message can be looked up.
+//! tell the number of the next batch, or `%no-entry`: from then on no message can be looked up. `%ask line` tells what a question
+//! is answered of the message m1, and of which kind the answer was.
 use crate::facts::{config_of, facts_of, state_of};
 use crate::telling::{tell_row, without_ending};
 use anyhow::Error;
 use byte_text::Text;
+use chat_batch::{Facts, answer};
 use chat_change::{Buffer, Change, MsgId};
 use chat_state::{NoEntry, Peek, State};
 use client_session::{Answered, Directory, Effect, Entry, NoMemory, Session, StepFault};
 use irc_caps::CapSet;
+use irc_line::{TagLimit, read_line};
 use std::alloc::{AllocError, Global};
 use std::io::Write;
 
@@ -89,14 +92,23 @@ fn directory_of(alloc: Global, word: &str) -> Result<Directory, Error> {
     Ok(directory)
 }
 
+// A session of a member whose next batch has the greatest number.
+fn last_session(alloc: Global) -> Result<Session, Error> {
+    Ok(Session::registered(Facts {
+        reference: u32::MAX,
+        ..facts_of(alloc, CapSet::all())?
+    }))
+}
+
 fn session_of(alloc: Global, word: &str) -> Result<Session, Error> {
     let caps = match word {
         "member" => CapSet::all(),
         "bare" => CapSet::none(),
         "wide" => return Ok(Session::new(alloc, b"~", 1000)?),
+        "last" => return last_session(alloc),
         _ => return Ok(Session::new(alloc, b"~", 100)?),
     };
-    Ok(Session::registered(facts_of(alloc, b"demo", b"~", caps)?))
+    Ok(Session::registered(facts_of(alloc, caps)?))
 }
 
 fn player_of(alloc: Global, setting: &str) -> Result<Player, Error> {
@@ -193,6 +205,18 @@ impl Player {
         Ok(())
     }
 
+    // Tells what a question is answered, and of which kind the answer was.
+    fn ask(&mut self, alloc: Global, question: &str, out: &mut Vec<u8>) -> Result<(), Error> {
+        let Some(facts) = self.session.facts() else {
+            return Ok(tell_row(out, b"no facts", b"")?);
+        };
+        let line = read_line(question.as_bytes(), TagLimit::Client)?;
+        let answered = answer(alloc, &self.state, facts, &line, out)?;
+        self.session.answered(answered);
+        write!(out, "{answered:?}\n")?;
+        Ok(())
+    }
+
     // Does what a line that begins with `%` says, without that sign.
     fn turn(&mut self, alloc: Global, word: &str, out: &mut Vec<u8>) -> Result<(), Error> {
         match word {
@@ -202,7 +226,10 @@ impl Player {
             "batch" => self.session.answered(Answered::Batch),
             "plain" => self.session.answered(Answered::Plain),
             "no-query" => self.session.answered(Answered::NotAQuery),
-            _ => self.directory = directory_of(alloc, word)?,
+            _ => match word.strip_prefix("ask ") {
+                Some(question) => self.ask(alloc, question, out)?,
+                None => self.directory = directory_of(alloc, word)?,
+            },
         }
         Ok(())
     }

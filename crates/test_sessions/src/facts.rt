@@ -9,14 +9,9 @@ use irc_caps::CapSet;
 use node_config::{Config, read_config};
 use std::alloc::{AllocError, Global};
 
-/// The facts of a session of `al` on the network `net`, which has asked nothing yet.
-pub fn facts_of(
-    alloc: Global,
-    account: &[u8],
-    cluster: &[u8],
-    caps: CapSet,
-) -> Result<Facts, NoMemory> {
-    Facts::new(alloc, account, b"net", b"al", caps, cluster, 100)
+/// The facts of a session of `al` on the network `net` of `demo`, which has asked nothing yet.
+pub fn facts_of(alloc: Global, caps: CapSet) -> Result<Facts, NoMemory> {
+    Facts::new(alloc, b"demo", b"net", b"al", caps, b"~", 100)
 }
 
 /// The moment 1000.
@@ -24,8 +19,8 @@ pub fn moment() -> Result<Moment, AllocError> {
     Moment::from_ms(1000).ok_or(AllocError)
 }
 
-/// The state takes the change that a line spells.
-pub fn absorb(alloc: Global, state: &mut State, line: &str) -> Result<(), Error> {
+// The state takes the change that a line spells.
+fn absorb(alloc: Global, state: &mut State, line: &str) -> Result<(), Error> {
     let change = read_change(alloc, line.as_bytes())?;
     let _ = state.absorb(change)?;
     Ok(())

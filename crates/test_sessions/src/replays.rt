@@ -1,0 +1,51 @@
+//! Scripts over devices that fail. The setting of a case has two words:
+//!
+//!     == reads|writes|whole-writes|flushes most: name of the case
+//!     lines of the script
+//!     --
+//!     how often that device works, how many bytes are written then, and how the script ends
+//!
+//! The reader gives so many bytes a read at most, and the writer takes one a write, but all of it where its `whole-writes`
+//! fail. The device fails at once, then after one such call, after two, and so on, until the script is answered. `tables.py`
+//! writes this file.
+use anyhow::Error;
+use bnc_server::{ReplayFault, replay};
+use std::alloc::Global;
+use std::io::Write;
+use test_devices::{Sink, Source};
+
+/// How a script ends, and how many bytes are written by then.
+fn ended(
+    alloc: Global,
+    reader: Source<'_>,
+    device: &str,
+    count: usize,
+) -> (Result<(), ReplayFault>, usize) {
+    let (mut reader, mut writer) = (reader, Sink::new(alloc));
+    match device {
+        "reads" => reader = reader.failing_after(count),
+        "writes" => writer = writer.at_most(1).failing_after(count),
+        "whole-writes" => writer = writer.failing_after(count),
+        _ => writer = writer.failing_after_flushes(count),
+    }
+    let answered = replay(alloc, &mut reader, &mut writer, b"demo", b"net", b"al");
+    (answered, writer.bytes().len())
+}
+
+/// What a script comes to with that device failing after each number of calls.
+pub fn play(alloc: Global, setting: &str, script: &str) -> Result<Vec<u8>, Error> {
+    let (device, most) = setting.split_once(" ").unwrap_or((setting, ""));
+    let most = most.parse::<usize>()?;
+    let script = format!(in alloc; "{script}\n")?;
+    let mut out = Vec::new(alloc);
+    for count in 0..usize::MAX {
+        let reader = Source::new(script.as_bytes()).at_most(most);
+        let (answered, bytes) = ended(alloc, reader, device, count);
+        let Err(fault) = answered else {
+            write!(out, "{count} {bytes} answered\n")?;
+            break;
+        };
+        write!(out, "{count} {bytes} {fault}\n")?;
+    }
+    Ok(out)
+}
