@@ -344,7 +344,8 @@ DELTA_LIMIT = 256
 
 
 class Node:
-    """A node that is in its first incarnation, and each of whose changes is a marker of a buffer of its own."""
+    """A node in a life, and each of whose changes is a marker of a buffer of its own. What it hears comes to a word, and to what it
+    sends."""
 
     def __init__(self, me, peer, changes):
         self.me, self.peer, self.changes = me, peer, list(changes)
@@ -354,7 +355,7 @@ class Node:
         self.missing, self.end = 0, None
 
     def greeting(self):
-        return [WORD, f"H 3 {self.me} 1"]
+        return [WORD, f"H 3 {self.me}"]
 
     def next_packet(self):
         if not self.is_known or not self.is_due or self.under_way is not None:
@@ -364,7 +365,7 @@ class Node:
         if not newer:
             return []
         self.under_way = self.acked + len(newer)
-        return [f"D {self.me} 1 {self.peer} 1 {self.acked} {self.under_way} {len(newer)}"] + newer
+        return [f"D {self.me} {self.peer} {self.acked} {self.under_way} {len(newer)}"] + newer
 
     def acknowledge(self, upto):
         self.acked, self.is_due = max(self.acked, upto), True
@@ -376,48 +377,55 @@ class Node:
             self.changes.append(change)
         self.missing -= 1
         if self.missing:
-            return []
+            return "", []
         self.is_due = True
-        return [f"A {self.me} 1 {self.peer} 1 {self.end}"]
+        return "taken", [f"A {self.me} {self.peer} {self.end}"]
 
     def hear(self, line, greets):
-        words, sent = line.split(" "), []
+        words, word, sent = line.split(" "), "", []
         if words[0] == "H":
-            sent = self.greeting() if greets else []
+            word, sent = "known", self.greeting() if greets else []
             self.is_known = self.is_due = True
         elif words[0] == "D":
             self.end, self.missing = words[6], int(words[7])
         elif words[0] == "C":
-            sent = self.take(line)
+            word, sent = self.take(line)
         elif words[0] == "A":
+            word = "known"
             self.acknowledge(int(words[5]))
-        return sent + self.next_packet()
+        return word, sent + self.next_packet()
 
 
-def exchanged(opener, acceptor):
-    """The lines that each of the two sends, until both are silent."""
-    to_acceptor, to_opener = opener.greeting(), []
-    while to_acceptor:
-        yield from ("1> " + line for line in to_acceptor)
-        to_opener = [reply for line in to_acceptor for reply in acceptor.hear(line, True)]
-        yield from ("2> " + line for line in to_opener)
-        to_acceptor = [reply for line in to_opener for reply in opener.hear(line, False)]
+def exchanged(node, other, opens):
+    """What a node hears from the other one until both are silent, line by line, each with what comes of it. One of them opens the
+    connection."""
+    to_other = node.greeting() if opens else []
+    to_node = [] if opens else other.greeting()
+    yield ("open", "", to_other) if opens else ("accept", "", [])
+    while to_other or to_node:
+        for line in to_node:
+            word, sent = node.hear(line, not opens)
+            yield f"< {line}", word, sent
+            to_other += sent
+        to_node = [reply for line in to_other for reply in other.hear(line, opens)[1]]
+        to_other = []
+    yield "?", "", []
 
 
 def exchanges_table():
     for first, second in ((0, 0), (1, 0), (300, 0), (300, 10)):
         ours = [f"C MARK demo net #a-{i} 5" for i in range(first)]
         theirs = [f"C MARK demo net #b-{i} 5" for i in range(second)]
-        opener, acceptor = Node("n1", "n2", ours), Node("n2", "n1", theirs)
-        yield f"== {first} and {second} changes".encode()
-        yield from (f"1 {change}".encode() for change in ours)
-        yield from (f"2 {change}".encode() for change in theirs)
-        if not ours + theirs:
-            yield b"none"
-        yield b"--"
-        yield from (line.encode() for line in exchanged(opener, acceptor))
-        assert sorted(opener.changes) == sorted(acceptor.changes) == sorted(ours + theirs)
-        for node in (opener, acceptor):
+        for opens, held, others in ((True, ours, theirs), (False, theirs, ours)):
+            node, other = Node("n1 7", "n2 1", held), Node("n2 1", "n1 7", others)
+            turns = list(exchanged(node, other, opens))
+            yield f"== {len(held)} changes of the node that {'opens' if opens else 'accepts'}, and {len(others)}".encode()
+            yield from (f". {change}".encode() for change in held)
+            yield from (line.encode() for line, _, _ in turns)
+            yield b"--"
+            for _, word, sent in turns:
+                yield from (line.encode() for line in ([word] if word else []) + [f"> {it}" for it in sent])
+            assert sorted(node.changes) == sorted(other.changes) == sorted(ours + theirs)
             yield f"front {len(node.changes)}".encode()
 
 

@@ -8,21 +8,19 @@
 //!
 //! Where there is no `--` the script itself is what is to come of it. The file's name says which player plays it: `limits`,
 //! `spellings` and `gathers` have rows that `tell_row` of `lines` tells, `changed` those of `tell_changed`, and `written`
-//! those of `tell_written`. `exchanges` has two nodes that are connected (`exchange`), `links_refused` calls that are made
-//! again where they are refused memory (`again`), and any other file a node at one end of a connection (`script`).
-//! `tables.py` writes `limits`, `changed`, `gathers` and `exchanges`; `tests/suites/calls.py` refuses each request of
-//! `links_refused`. Read `tell` first.
+//! those of `tell_written`. `links_refused` has calls that are made again where they are refused memory (`again`), and any
+//! other file a node at one end of a connection (`script`); in `exchanges` it hears what a plain node says at the other end,
+//! until both are silent. `tables.py` writes `limits`, `changed`, `gathers` and `exchanges`; `tests/suites/calls.py` refuses
+//! each request of `links_refused`. Read `tell` first.
 #![tactic(auto)]
 
 mod again;
-mod exchange;
 mod lines;
 mod node;
 mod script;
 
 use again::tell_again;
 use anyhow::Error;
-use exchange::tell_exchange;
 use lines::{tell_changed, tell_rows, tell_written};
 use script::tell_script;
 use std::alloc::Global;
@@ -53,7 +51,6 @@ fn tell(alloc: Global, path: &str, case: Case<'_>, out: &mut Vec<u8>) -> Result<
         "gathers" => tell_rows(alloc, case.script, true, out),
         "changed" => tell_changed(alloc, case.name.as_bytes(), case.script, out),
         "written" => tell_written(alloc, case.script, out),
-        "exchanges" => tell_exchange(alloc, case.script, out),
         "links_refused" => tell_again(alloc, case.script, out),
         _ => tell_script(alloc, case.script, out),
     }

@@ -9,12 +9,20 @@ use gossip_link::{
 use peer_session::{Arrived, Heard, Outcome, PeerSession};
 use std::alloc::Global;
 
-/// A node, its link with a peer, and its connection with that.
+/// The peers of the terms. n3 is told version 1.
+const PEERS: [(&[u8], Version); 3] = [
+    (b"n1", Version::OWN),
+    (b"n2", Version::OWN),
+    (b"n3", Version::One),
+];
+
+/// The place of n2 among them.
+const PLACE: usize = 1;
+
+/// The node n1 in its incarnation 7, its link with n2, and its connection with that.
 #[derive(Drop)]
 pub struct Node {
     terms: Terms,
-    // the place of the peer in the terms
-    place: usize,
     link: Link,
     state: State,
     session: PeerSession,
@@ -32,25 +40,16 @@ fn peer_of(alloc: Global, name: &[u8], version: Version) -> Result<PeerTerms, Li
     Ok(PeerTerms { name, version })
 }
 
-fn add_peer(
-    alloc: Global,
-    peers: &mut Vec<PeerTerms>,
-    name: &[u8],
-    version: Version,
-) -> Result<(), Error> {
-    Ok(peers.push(peer_of(alloc, name, version)?)?)
-}
-
-// Three peers. n3 is told version 1.
 fn add_peers(alloc: Global, peers: &mut Vec<PeerTerms>) -> Result<(), Error> {
-    add_peer(alloc, peers, b"n1", Version::OWN)?;
-    add_peer(alloc, peers, b"n2", Version::OWN)?;
-    add_peer(alloc, peers, b"n3", Version::One)
+    for (name, version) in PEERS {
+        peers.push(peer_of(alloc, name, version)?)?;
+    }
+    Ok(())
 }
 
-// The terms of a node with three peers, itself among them.
-fn terms_of(alloc: Global, me: &[u8], incarnation: u64) -> Result<Terms, Error> {
-    let me = life_of(alloc, me, incarnation)?;
+// The terms of the node with three peers, itself among them.
+fn terms_of(alloc: Global) -> Result<Terms, Error> {
+    let me = life_of(alloc, b"n1", 7)?;
     let word = SharedWord::new(alloc, b"green")?;
     let mut peers = Vec::new(alloc);
     add_peers(alloc, &mut peers)?;
@@ -97,20 +96,12 @@ fn tell_packet(packet: &Option<Packet>, out: &mut Vec<u8>) -> Result<(), Error> 
 }
 
 impl Node {
-    /// A node of that name in that incarnation, and the place of its peer among n1, n2 and n3. It holds nothing, and has no
-    /// connection yet.
-    pub fn new(
-        alloc: Global,
-        me: &[u8],
-        incarnation: u64,
-        peer: &[u8],
-        place: usize,
-    ) -> Result<Node, Error> {
-        let terms = terms_of(alloc, me, incarnation)?;
-        let link = link_of(alloc, me, incarnation, peer)?;
+    /// A node that holds nothing, and has no connection yet.
+    pub fn new(alloc: Global) -> Result<Node, Error> {
+        let terms = terms_of(alloc)?;
+        let link = link_of(alloc, b"n1", 7, b"n2")?;
         Ok(Node {
             terms,
-            place,
             link,
             state: State::new(alloc),
             session: PeerSession::new(Side::Acceptor),
@@ -164,7 +155,7 @@ impl Node {
         arrived: &Arrived,
         out: &mut Vec<u8>,
     ) -> Result<&'static [u8], Error> {
-        if place != self.place {
+        if place != PLACE {
             return Ok(b"another peer");
         }
         self.is_known = true;

@@ -43,7 +43,7 @@ pub fn tell_sent(sign: &[u8], sent: &[u8], out: &mut Vec<u8>) -> Result<(), Allo
 }
 
 /// Tells how many changes were counted, and when the time is to be told.
-pub fn tell_node(node: &Node, out: &mut Vec<u8>) -> Result<(), Error> {
+fn tell_node(node: &Node, out: &mut Vec<u8>) -> Result<(), Error> {
     write!(out, "front {}", node.front())?;
     if let Some(at) = node.deadline() {
         write!(out, ", until {}", at)?;
@@ -131,6 +131,6 @@ fn tell_turns(
 
 /// Tells what the lines of a script come to, one after the other.
 pub fn tell_script(alloc: Global, script: &str, out: &mut Vec<u8>) -> Result<(), Error> {
-    let mut node = Node::new(alloc, b"n1", 7, b"n2", 1)?;
+    let mut node = Node::new(alloc)?;
     tell_turns(alloc, &mut node, script, out)
 }
