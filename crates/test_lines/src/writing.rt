@@ -9,7 +9,7 @@ use std::io::Write;
 use test_devices::Sink;
 
 /// A writer that takes a byte a write, is interrupted, and fails once it has so many bytes.
-pub fn failing_sink(alloc: Global, bytes: usize) -> Sink<'static> {
+pub fn failing_sink(alloc: Global, bytes: usize) -> Sink {
     Sink::new(alloc)
         .at_most(1)
         .interrupted()

@@ -6,10 +6,11 @@
 //! messages lie in COUNT buffers, once, and lets half of each go; `lines` cuts and reads 1,000 lines that come in pieces of
 //! HELD bytes (`streams`). `bench/plain/state.rs` and `bench/plain/lines.rs` do the same in plain Rust.
 use crate::streams::read_lines;
+use crate::texts::number_of;
 use chat_batch::{Facts, answer};
 use chat_change::{Account, Buffer, Change, Moment};
 use chat_state::State;
-use gossip_delta::read_change_in;
+use gossip_delta::{delta_since, read_change_in};
 use irc_caps::CapSet;
 use irc_line::{TagLimit, read_line};
 use std::alloc::Global;
@@ -26,7 +27,7 @@ const BODY: &str = "a body of forty bytes, as many lines are";
 const FIRST_SERIAL: u64 = 1_000_000_000_000;
 
 /// The most changes of a delta.
-const DELTA_LIMIT: usize = 256;
+const DELTA_LIMIT: u64 = 256;
 
 /// How many messages a page has.
 const PAGE: u64 = 100;
@@ -109,20 +110,6 @@ fn fill(
     Some(())
 }
 
-/// The session of `al`, which holds every capability.
-fn facts(alloc: Global) -> Option<Facts> {
-    Facts::new(
-        alloc,
-        b"demo",
-        b"net",
-        b"al",
-        CapSet::all(),
-        b"bnc.example",
-        100,
-    )
-    .ok()
-}
-
 /// A question on the latest messages, or on those before one that lies anywhere, with a whole page before it.
 fn question(alloc: Global, task: Task<'_>, number: u64) -> Option<String> {
     if task.what == "latest" {
@@ -160,22 +147,13 @@ fn answer_all(alloc: Global, state: &State, facts: &Facts, task: Task<'_>) -> Op
     Some(total)
 }
 
-/// Makes a delta of the last messages, and counts its changes.
-fn delta_count(alloc: Global, state: &State, from: u64) -> Option<u64> {
-    let pieces = state.newer(alloc, from, DELTA_LIMIT + 1).ok()?;
-    let mut changes = Vec::new(alloc);
-    for piece in &pieces {
-        changes.push(piece.change.to_change().ok()?).ok()?;
-    }
-    Some(changes.len() as u64)
-}
-
-/// Makes deltas, and counts their changes.
+/// Makes deltas of the last messages, and counts their changes.
 fn make_deltas(alloc: Global, state: &State, task: Task<'_>) -> Option<u64> {
-    let from = task.held.saturating_sub(DELTA_LIMIT as u64);
+    let from = task.held.saturating_sub(DELTA_LIMIT);
     let mut total = 0u64;
     for _ in 0..task.count {
-        total = total.wrapping_add(delta_count(alloc, state, from)?);
+        let delta = delta_since(alloc, state, from).ok()?;
+        total = total.wrapping_add(delta.changes().len() as u64);
     }
     Some(total)
 }
@@ -235,8 +213,19 @@ fn measured_over(
     task: Task<'_>,
 ) -> Option<(Duration, u64)> {
     fill(rt.alloc(), state, buffers, task.held, task.what == "mixed")?;
-    let facts = facts(rt.alloc())?;
     let posts = further_posts(rt.alloc(), buffers, task)?;
+    // (the session holds every capability)
+    let held = CapSet::all();
+    let facts = Facts::new(
+        rt.alloc(),
+        b"demo",
+        b"net",
+        b"al",
+        held,
+        b"bnc.example",
+        100,
+    )
+    .ok()?;
     timed(rt, state, &facts, posts, task)
 }
 
@@ -254,19 +243,16 @@ fn measured(rt: &HostRuntime, task: Task<'_>) -> Option<(Duration, u64)> {
     measured_on(rt, &buffers_of(rt.alloc(), count)?, task)
 }
 
-fn number(words: &[String], at: usize) -> u64 {
-    match words.get(at) {
-        Some(word) => word.as_str().parse().unwrap_or(0),
-        None => 0,
-    }
-}
-
 /// Measures what the words say behind `speed`, or prints how they are to be.
 pub fn print_measure(rt: &HostRuntime, words: &[String]) -> io::Result<()> {
-    let Some(what) = words.get(2) else {
+    let [_, _, what, held, count] = words else {
         return println!(rt; "{USAGE}");
     };
-    let (what, held, count) = (what.as_str(), number(words, 3), number(words, 4));
+    let (what, held, count) = (
+        what.as_str(),
+        number_of(held.as_str()),
+        number_of(count.as_str()),
+    );
     let Some((took, total)) = measured(rt, Task { what, held, count }) else {
         return println!(rt; "{USAGE}");
     };

@@ -38,7 +38,8 @@
 //!     fail                the port fails
 //!     stop                the clocks can't be read any more
 //!
-//! Where an act begins with `20-89` it happens to each of these connections, one after another.
+//! Where an act begins with `20-89` it happens to each of these connections, one after another. The address of connection 0
+//! isn't known.
 //!
 //! What comes of an act stands behind it, four spaces in. First comes, in its order, which place a client got, what the
 //! operator was told, which connections were begun, and what was told to the other worker; then, connection by connection,

@@ -14,6 +14,8 @@ use crate::turn::{Sign, Turn, play_turn};
 use bnc_ports::{Carries, Clocks, Connection, Dial, Event, Halt, Happening, Kind, Port, PortFault};
 use bnc_work::Mail;
 use std::alloc::{AllocError, Global};
+use std::io;
+use std::io::Write;
 use std::net::SocketAddr;
 use std::sync::Wait;
 
@@ -44,49 +46,19 @@ fn tell_line(told: &mut Vec<u8>, margin: &str, text: &str) -> Result<(), AllocEr
     told.extend_from_slice(b"\n")
 }
 
-// Tells which place a client got that came by a connection.
-fn tell_place(
-    alloc: Global,
-    told: &mut Vec<u8>,
-    number: usize,
-    place: usize,
-) -> Result<(), AllocError> {
-    let text = format!(in alloc; "{number} place {place}")?;
-    tell_line(told, "    ", text.as_str())
-}
-
-// Tells that a connection was begun.
-fn tell_dial(
-    alloc: Global,
-    told: &mut Vec<u8>,
-    number: usize,
-    what: Dial,
-) -> Result<(), AllocError> {
-    let (kind, place) = match what {
+// The word for whom a connection is begun to, and their place.
+fn dialed(what: Dial) -> (&'static str, usize) {
+    match what {
         Dial::Network(network) => ("network", network),
         Dial::Peer(peer) => ("peer", peer),
-    };
-    let text = format!(in alloc; "{number} dials {kind} {place}")?;
-    tell_line(told, "    ", text.as_str())
+    }
 }
 
 // Tells what was told to another worker.
-fn tell_post(
-    alloc: Global,
-    told: &mut Vec<u8>,
-    worker: usize,
-    mail: &Mail,
-) -> Result<(), AllocError> {
-    let text = format!(in alloc; "    to worker {worker}: ")?;
-    told.extend_from_slice(text.as_bytes())?;
+fn tell_post(alloc: Global, told: &mut Vec<u8>, worker: usize, mail: &Mail) -> io::Result<()> {
+    write!(told, "    to worker {worker}: ")?;
     tell_mail(alloc, told, mail)?;
-    told.extend_from_slice(b"\n")
-}
-
-// Tells what the operator was told.
-fn tell_event(alloc: Global, told: &mut Vec<u8>, event: &Event<'_>) -> Result<(), AllocError> {
-    let text = format!(in alloc; "told {event}")?;
-    tell_line(told, "    ", text.as_str())
+    Ok(told.extend_from_slice(b"\n")?)
 }
 
 // What comes next by a sign of a connection.
@@ -231,14 +203,15 @@ impl<R: Wait + Drop> MemoryPort<R> {
         };
         let place = stand.place();
         self.entrance.let_in(self.alloc, stand, bound)?;
-        tell_place(self.alloc, &mut self.told, number, place).ok()?;
+        write!(self.told, "    {number} place {place}\n").ok()?;
         self.bring_stray(number)
     }
 
     // Begins a connection.
     fn begin(&mut self, what: Dial) -> Option<usize> {
         let number = self.lines.begin(what)?;
-        tell_dial(self.alloc, &mut self.told, number, what).ok()?;
+        let (kind, place) = dialed(what);
+        write!(self.told, "    {number} dials {kind} {place}\n").ok()?;
         Some(number)
     }
 }
@@ -263,7 +236,7 @@ impl<R: Wait + Drop> Port for &mut MemoryPort<R> {
     fn target(&self, what: Dial) -> Option<SocketAddr> {
         let address = match what {
             Dial::Network(_) => "10.0.0.1:6667",
-            Dial::Peer(_) => "10.0.0.2:7001",
+            Dial::Peer(_) => "[::1]:7001",
         };
         address.parse::<SocketAddr>().ok()
     }
@@ -288,7 +261,7 @@ impl<R: Wait + Drop> Port for &mut MemoryPort<R> {
     }
 
     fn report(&mut self, event: &Event<'_>) {
-        let _ = tell_event(self.alloc, &mut self.told, event);
+        let _ = write!(self.told, "    told {event}\n");
     }
 }
 
@@ -333,7 +306,7 @@ impl<K: Kind, R: Wait + Drop> Carries<K> for &mut MemoryPort<R> {
     }
 
     fn address(&self, connection: &MemoryConnection) -> Option<SocketAddr> {
-        let port = connection.number().checked_add(5000)?;
+        let port = connection.number().checked_sub(1)?.checked_add(5001)?;
         let text = format!(in self.alloc; "127.0.0.1:{port}").ok()?;
         text.as_str().parse::<SocketAddr>().ok()
     }

@@ -4,8 +4,9 @@ use attach::RingClient;
 use bnc_ports::Lobby;
 use bnc_work::WorkerConfig;
 use byte_text::Text;
-use chat_change::{Buffer, Change, Kind, Message, Moment, MsgId, Record};
+use chat_change::Change;
 use client_directory::{Account, Directory, Entry, Network};
+use gossip_delta::read_change;
 use gossip_link::{Life, NodeName, PeerTerms, SharedWord, Terms, Version};
 use std::alloc::Global;
 use upstream_session::{Channels, Config};
@@ -54,7 +55,14 @@ fn user_of(alloc: Global, nick: &str) -> Option<(Text, Text)> {
     Some((nick, text(alloc, "alan")?))
 }
 
-fn config_of(alloc: Global, account: &str, network: &str, nick: &str) -> Option<Config> {
+/// The names of the account and of the network, of that network or of the first where there is none.
+pub fn names_at(network: usize) -> (&'static str, &'static str) {
+    NETWORKS.get(network).copied().unwrap_or(NETWORKS[0])
+}
+
+/// The configuration of that network, or of the first where there is none, with that nick.
+pub fn config_at(alloc: Global, network: usize, nick: &str) -> Option<Config> {
+    let (account, network) = names_at(network);
     let (nick, user) = user_of(alloc, nick)?;
     Some(Config {
         account: text(alloc, account)?,
@@ -65,23 +73,10 @@ fn config_of(alloc: Global, account: &str, network: &str, nick: &str) -> Option<
     })
 }
 
-/// The names of the account and of the network, of that network or of the first where there is none.
-pub fn names_at(network: usize) -> (&'static str, &'static str) {
-    NETWORKS.get(network).copied().unwrap_or(NETWORKS[0])
-}
-
-/// The configuration of that network, or of the first where there is none, with that nick.
-pub fn config_at(alloc: Global, network: usize, nick: &str) -> Option<Config> {
-    let (account, network) = names_at(network);
-    config_of(alloc, account, network, nick)
-}
-
 fn configs_of(alloc: Global, count: usize) -> Option<Vec<Config>> {
     let mut configs = Vec::new(alloc);
-    for (account, network) in NETWORKS.iter().take(count) {
-        configs
-            .push(config_of(alloc, account, network, "al")?)
-            .ok()?;
+    for network in 0..count.min(NETWORKS.len()) {
+        configs.push(config_at(alloc, network, "al")?).ok()?;
     }
     Some(configs)
 }
@@ -158,25 +153,11 @@ pub fn worker_config_of(
     })
 }
 
-// The name of a post.
-fn id_of(alloc: Global, number: u64) -> Option<MsgId> {
-    let name = format!(in alloc; "m{number}").ok()?;
-    MsgId::new(alloc, name.as_bytes()).ok()
-}
-
 // The post of `#a` of that number, at so many seconds.
 fn post(alloc: Global, number: u64) -> Option<Change> {
-    let message = Message {
-        kind: Kind::Privmsg,
-        source: b"bob!b@h",
-        target: b"#a",
-        body: b"hi",
-    };
-    let at = Moment::from_ms(number.saturating_mul(1000))?;
-    let id = id_of(alloc, number)?;
-    let buffer = Buffer::new(alloc, b"demo", b"net", b"#a").ok()?;
-    let record = Record::new(alloc, buffer, id, at, message).ok()?;
-    Some(Change::Post(record))
+    let ms = number.saturating_mul(1000);
+    let line = format!(in alloc; "C POST demo net #a m{number} {ms} P #a bob!b@h :hi").ok()?;
+    read_change(alloc, line.as_bytes()).ok()
 }
 
 /// So many posts of `#a`: m0, m1 and so on, a second apart from the beginning of 1970.
