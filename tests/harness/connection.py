@@ -82,10 +82,10 @@ def connect(fixture, address, room=None):
 class Listener:
     """A port of this machine where others connect."""
 
-    def __init__(self, fixture):
+    def __init__(self, fixture, host="127.0.0.1"):
         self.fixture = fixture
         self.socket = socket.socket()
-        self.socket.bind(("127.0.0.1", 0))
+        self.socket.bind((host, 0))
         self.socket.listen(16)
         self.address = self.socket.getsockname()
         fixture.at_end(self.socket.close)

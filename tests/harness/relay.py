@@ -3,10 +3,11 @@ byte, since TCP doesn't either: what a connection brings is a prefix of what was
 
 import random
 import re
-import select
 import socket
 import threading
 import time
+
+from harness.readable import readable
 
 # A packet's head, whose last number says how many lines follow (docs/PROTOCOL.md, "Lines").
 HEAD = re.compile(rb"D \S+ \d+ \S+ \d+ \d+ \d+ (\d+)\r\n")
@@ -109,7 +110,7 @@ class Relay:
         while True:
             sources = [self.listener, *(way.source for line in self.lines for way in line.ways)]
             try:
-                select.select(sources, [], [], 0.003)
+                readable(sources, 0.003)
             except (OSError, ValueError):
                 pass
             with self.lock:
@@ -121,7 +122,7 @@ class Relay:
                 self.move_late()
 
     def accept(self):
-        if not select.select([self.listener], [], [], 0)[0]:
+        if not readable([self.listener]):
             return
         near = self.listener.accept()[0]
         try:
@@ -154,7 +155,7 @@ class Relay:
             self.spoil(line)
 
     def receive(self, way):
-        while select.select([way.source], [], [], 0)[0]:
+        while readable([way.source]):
             if not way.receive():
                 return False
         return True

@@ -2,7 +2,6 @@
 "What it logs" and "Servers"; docs/PROTOCOL.md, "Lives and numbers"). What can be done later is done."""
 
 import mmap
-import select
 import struct
 import time
 
@@ -10,6 +9,7 @@ from harness.clocks import Clocks
 from harness.failure import Failed, expect
 from harness.node import Node
 from harness.peer import Peer
+from harness.readable import readable
 from harness.registry import test
 from harness.server import Server
 
@@ -55,7 +55,7 @@ def outcome(refusals, peer, refused):
     while time.monotonic() < over:
         if over == end and refusals.count() == refused:
             over = time.monotonic() + OVER
-        if not select.select([peer.socket], [], [], 0.01)[0]:
+        if not readable([peer.socket], 0.01):
             continue
         came = peer.receive()
         if not came:
@@ -193,3 +193,20 @@ def a_message_for_which_there_is_no_memory_ends_the_session(fixture):
     session.hear_end()
     node.wait_for("upstream down: demo/net: no memory")
     client.ping()
+
+
+@test
+def connections_that_are_closed_for_want_of_memory_are_counted(fixture):
+    """The operator is told how many there were, a minute later."""
+    server, refusals = Server(fixture), Refusals(fixture)
+    node = Node(fixture, servers=[server.address], workers=1, front=refusals.front).begin()
+    server.register()
+    for number in range(3):
+        refusals.set(0, MANY - 1)
+        client = node.client(f"client {number}")
+        client.hear_end()
+        refusals.end()
+    refusals.clocks.skip(60)
+    line = "out of memory: 3 connections were closed within a minute"
+    fixture.until(f"'{line}' is told", lambda: line in [it.partition(" ")[2] for it in node.log()] or node.is_over())
+    node.client("one that comes later").register()

@@ -11,6 +11,7 @@ from harness.server import Server
 
 NAMES = "batch draft/chathistory draft/message-redaction draft/read-marker echo-message message-tags server-time"
 TOO_LONG = ":bnc.example 417 al :Input line was too long"
+NOBODY = ("127.0.0.1", 1)
 
 
 def node_and_server(fixture, channels=(), **limits):
@@ -129,6 +130,35 @@ def a_wrong_secret_lets_nobody_in(fixture):
 @test
 def the_beginning_of_a_secret_lets_nobody_in(fixture):
     refused(fixture, "PASS s3cre", "NICK al", "USER demo/net 0 * :Al")
+
+
+@test
+def a_secret_with_another_letter_or_more_lets_nobody_in(fixture):
+    for word in ("s3creT", "s3cret2", ":"):
+        refused(fixture, f"PASS {word}", "NICK al", "USER demo/net 0 * :Al")
+
+
+class LongSecret(Node):
+    """A node whose account has a secret as long as a line of PASS has room for."""
+
+    secret = "".join(f"{number:05}" for number in range(101))
+
+
+@test
+def a_long_secret_is_compared_to_its_end(fixture):
+    """One of 505 bytes: another byte anywhere, or one that is missing, lets nobody in."""
+    node = LongSecret(fixture, servers=[NOBODY]).begin()
+    secret = node.secret
+    expect("the bytes of a secret", 505, len(secret))
+    others = [secret[:at] + "x" + secret[at + 1:] for at in (0, 1, 252, 503, 504)]
+    clients = []
+    for word in (*others, secret[1:], secret[:-1], secret[:1], "x" * 505, secret):
+        clients.append(node.client(f"a client that says {word}"))
+        clients[-1].say(f"PASS {word}", "NICK al", "USER demo/net 0 * :Al")
+    for client in clients[:-1]:
+        client.hear(":bnc.example 464 * :Password incorrect", "ERROR :Closing link")
+        client.hear_end()
+    clients[-1].hear(*greeting())
 
 
 @test

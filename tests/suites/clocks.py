@@ -1,8 +1,9 @@
 """What is due later, and clocks that are set, over the clocks of the system (docs/OPERATING.md, "What a clock can do" and "What it
 logs"; docs/PROTOCOL.md, "A connection"). A library before the C library has the node's clocks go ahead."""
 
+import datetime
 import os
-import select
+import re
 import time
 
 from harness.client import greeting, page
@@ -11,6 +12,7 @@ from harness.connection import Listener, spelled
 from harness.failure import Failed, expect
 from harness.node import Node
 from harness.peer import Peer
+from harness.readable import readable
 from harness.registry import test
 from harness.scripts import TESTS
 from harness.server import Server
@@ -23,13 +25,13 @@ MINUTES = 60
 
 def has_come(listener):
     """Whether somebody waits to be taken in."""
-    return bool(select.select([listener.socket], [], [], 0)[0])
+    return bool(readable([listener.socket]))
 
 
 def is_silent(connection):
     """Nothing came, and the connection is open."""
     expect(f"what came to {connection.name}", b"", connection.held)
-    if select.select([connection.socket], [], [], 0)[0]:
+    if readable([connection.socket]):
         raise Failed(f"{connection.name}: expected nothing, came {connection.receive()!r}")
 
 
@@ -51,6 +53,42 @@ def a_client_has_60_seconds_to_register(fixture):
     waits.hear_end()
     node.wait_for(f"client refused: {spelled(waits.address)}: ")
     registered.ping()
+
+
+@test
+def sixty_seconds_are_those_of_the_monotonic_clock(fixture):
+    """With 59 of them gone at once, a stranger has one second more: not a millisecond less, and not much more."""
+    clocks = Clocks(fixture)
+    node = Node(fixture, servers=[NOBODY], front=clocks.front).begin()
+    for number in range(3):
+        begun = time.monotonic()
+        stranger = node.client(f"stranger {number}")
+        stranger.ping()
+        clocks.go(59)
+        stranger.hear_end()
+        took = time.monotonic() - begun
+        # (a millisecond is cut off)
+        if not 0.999 <= took < 3:
+            raise Failed(f"stranger {number} had 59 seconds and {took:.4f} more")
+
+
+@test
+def a_message_has_the_time_of_the_wall_clock(fixture):
+    """To the millisecond, however that is set."""
+    clocks, server = Clocks(fixture), Server(fixture)
+    node = Node(fixture, servers=[server.address], front=clocks.front).begin()
+    session = server.register()
+    client = node.client().register("server-time")
+    for ahead in (0, 0.75, DAY, -2 * DAY, 0.25):
+        clocks.set_ahead(ahead)
+        for number in range(20):
+            before = clocks.now()
+            session.say(f":bob!b@h PRIVMSG #a :{number}")
+            told = re.fullmatch(rf"@time=([^;]+)Z :bob!b@h PRIVMSG #a :{number}", client.line())
+            after = clocks.now()
+            moment = datetime.datetime.fromisoformat(told[1]).replace(tzinfo=datetime.timezone.utc).timestamp() if told else 0
+            if not before <= round(moment * 1000) <= after:
+                raise Failed(f"a message between {before} and {after} has the time {told and told[1]}")
 
 
 @test

@@ -1,44 +1,15 @@
-"""Which configurations are refused, and in which words (docs/OPERATING.md, "Start and stop").
-
-The files of tests/configurations are of two kinds. `wholes` has the name of a file in each row, and what is to be told of it.
-The others have cases, each of which changes the file `example`, text for text, and says what is to be told then:
-
-    == name of the case
-    - text of the example
-    + what stands there instead, which may be several such lines
-    = line that is to be told
-
-A configuration that is right is told as `read`, with values that can't be seen from outside and are passed over here."""
+"""Which configurations are refused, and in which words (docs/OPERATING.md, "Start and stop"). `values` shows what is read of one
+that is right."""
 
 import os
 import re
 
+from harness.configurations import told
 from harness.registry import add
-from harness.scripts import TESTS, parts
+from harness.scripts import TESTS
 
-FOLDER = os.path.join(TESTS, "configurations")
-FILES = ("read", "keys", "types", "ranges", "names", "lists", "orders")
 # Where the example listens, and an address that no machine has (RFC 5737).
 LISTEN, NOWHERE = b"127.0.0.1:6667", b"192.0.2.1:6667"
-
-
-def contents(name):
-    with open(os.path.join(FOLDER, name), "rb") as file:
-        return file.read()
-
-
-def marked(lines, mark):
-    return [line[len(mark):] for line in lines if line.startswith(mark)]
-
-
-def changed(name, example, case):
-    """The example with each change of a case."""
-    for change in (b"\n" + case).split(b"\n- ")[1:]:
-        lines = change.split(b"\n")
-        if lines[0] not in example:
-            raise ValueError(f"{name}: the example has no text {lines[0]}")
-        example = example.replace(lines[0], b"\n".join(marked(lines[1:], b"+ ")), 1)
-    return example
 
 
 def refused(text, words):
@@ -63,24 +34,13 @@ def accepted(text):
     return call
 
 
-def add_case(name, text, told):
-    """Adds the test that one line asks for, if it can be shown from outside."""
-    kind, _, words = told.partition(b" ")
-    if kind in (b"BadKey", b"BadValue", b"BadText"):
-        add(name, refused(text, words))
-    elif told == b"read" and LISTEN in text:
-        add(name, accepted(text))
-
-
 def add_cases():
-    example = contents("example")
-    for row in contents("wholes").splitlines():
-        file, _, told = row.partition(b" ")
-        add_case(f"configurations/wholes: {file.decode()}", contents(file.decode()), told)
-    for file in FILES:
-        for name, case in parts(os.path.join(FOLDER, file)):
-            for told in marked(case.split(b"\n"), b"= "):
-                add_case(f"configurations/{file}: {name}", changed(name, example, case), told)
+    for name, text, line in told():
+        kind, _, words = line.partition(b" ")
+        if kind in (b"BadKey", b"BadValue", b"BadText"):
+            add(f"configurations/{name}", refused(text, words))
+        elif line == b"read" and LISTEN in text:
+            add(f"configurations/{name}", accepted(text))
 
 
 def add_examples():

@@ -135,6 +135,18 @@ def answers_come_before_more_is_read(fixture):
     expect("what follows", b"", output)
 
 
+@test
+def the_answers_of_one_read_come_before_more_is_read(fixture):
+    """Two lines that come at once are both answered while a third isn't whole."""
+    notice = b":bnc.example NOTICE al :Not connected to net\r\n"
+    process = fixture.start("replay", "demo", "net", "al", stdin=subprocess.PIPE, stdout=subprocess.PIPE)
+    os.write(process.stdin.fileno(), b"x\ny\nz")
+    for _ in range(2):
+        expect("an answer", notice, next_line(fixture, process.stdout))
+    output, _ = fixture.wait(process, b"\n")
+    expect("what follows", notice, output)
+
+
 def next_line(fixture, stream):
     """The next line of a pipe, byte by byte, so that no more is taken."""
     os.set_blocking(stream.fileno(), False)

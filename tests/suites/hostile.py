@@ -3,7 +3,6 @@ of docs/PROTOCOL.md or a refusal by name, and the next line is served. What is e
 
 import os
 import re
-import shutil
 import socket
 import subprocess
 
@@ -92,7 +91,6 @@ def sessions_are_served(file, cases, judge):
     nothing comes to `!`."""
 
     def call(fixture):
-        shutil.copy(os.path.join(fixture.crates, "test_sessions", "data", "example"), fixture.folder)
         tried = list(cases())
         text = "".join(f"== {setting}: {number}\n{script}\n--\n!" for number, (setting, script) in enumerate(tried))
         fixture.write(file, text.encode())

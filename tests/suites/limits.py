@@ -265,6 +265,18 @@ def pages_of_the_greatest_maximum(fixture):
 
 
 @test
+def a_page_of_the_least_maximum(fixture):
+    """A hundred of 1,200 messages, for a client that asks for more."""
+    node, server, session = begun(fixture, maximum=100)
+    client = node.client().register(NAMES)
+    messages = [f"@msgid=m{n};time=2026-11-23T00:{n // 60:02}:{n % 60:02}.000Z :bob!b@h PRIVMSG #a :hi" for n in range(1200)]
+    session.say(*messages)
+    client.hear(*messages)
+    client.say("CHATHISTORY LATEST #a * 5000")
+    client.hear(*page(1, "#a", *messages[1100:]))
+
+
+@test
 def two_thousand_messages_with_questions_in_between(fixture):
     """Each page is right at its moment: it is of the messages that the client had heard by then."""
     node, server, session = begun(fixture, workers=2)

@@ -2,7 +2,6 @@
 (docs/OPERATING.md, the table of statuses). The C library that refuses them is harness/refuse.c."""
 
 import os
-import select
 import subprocess
 import time
 
@@ -10,6 +9,7 @@ from harness import processes
 from harness.client import Client, greeting, page
 from harness.failure import Failed
 from harness.node import Node
+from harness.readable import readable
 from harness.refusals import Refusals
 from harness.registry import add
 from harness.scripts import case_of
@@ -111,7 +111,7 @@ def until_it_listens(fixture, process):
     told, pipe = b"", process.stderr.fileno()
     end = time.monotonic() + fixture.patience()
     while True:
-        ready, _, _ = select.select([pipe], [], [], max(0.0, end - time.monotonic()))
+        ready = readable([pipe], end - time.monotonic())
         more = os.read(pipe, 65536) if ready else b""
         if not more:
             break

@@ -1,7 +1,6 @@
 """Sockets that take little, are interrupted, are read late, or aren't there (docs/OPERATING.md, "Clients that are slow, or gone",
 "What it logs" and "Size"). What comes over them is whole."""
 
-import select
 import time
 
 from harness.client import greeting, page
@@ -9,6 +8,7 @@ from harness.connection import connect, spelled
 from harness.failure import Failed, expect
 from harness.node import Node
 from harness.peer import Peer
+from harness.readable import readable
 from harness.registry import add, test
 from harness.server import Server
 
@@ -134,10 +134,10 @@ def without_descriptors_nobody_spins_and_everybody_is_served_in_the_end(fixture)
     guests = [node.client(f"guest {number}") for number in range(GUESTS)]
     for guest in guests:
         guest.say("PASS s3cret", "NICK al", "USER demo/net 0 * :Al", "PING in")
-    node.wait_for("accept failed")
+    node.wait_for("accept failed: tried again in a second")
     fixture.until("some are in", lambda: sum("client in: " in line for line in node.log()) >= 5)
     time.sleep(0.3)
-    inside = [guest for guest in guests if select.select([guest.socket], [], [], 0)[0]]
+    inside = [guest for guest in guests if readable([guest.socket])]
     if not 5 <= len(inside) < DESCRIPTORS:
         raise Failed(f"{len(inside)} guests are in")
     for guest in inside:
@@ -158,11 +158,11 @@ def without_descriptors_nobody_spins_and_everybody_is_served_in_the_end(fixture)
         for guest in inside:
             guest.close()
         begun = time.monotonic()
-        fixture.until("the next are in", lambda: not outside or select.select([it.socket for it in outside], [], [], 0)[0])
+        fixture.until("the next are in", lambda: not outside or readable([it.socket for it in outside]))
         if time.monotonic() - begun > 3:
             raise Failed(f"who waited was let in after {time.monotonic() - begun:.1f} seconds")
         time.sleep(0.3)
-        inside = [guest for guest in outside if select.select([guest.socket], [], [], 0)[0]]
+        inside = [guest for guest in outside if readable([guest.socket])]
         outside = [guest for guest in outside if guest not in inside]
         for guest in inside:
             guest.hear(*greeting(), ":bnc.example PONG bnc.example :in")

@@ -6,6 +6,7 @@ import threading
 import time
 
 from harness.client import greeting
+from harness.clocks import Clocks
 from harness.connection import Connection, connect, spelled
 from harness.failure import Failed, expect
 from harness.node import Node
@@ -120,3 +121,31 @@ def a_peer_says_hello_while_strangers_stay_at_its_door(fixture):
             strangers[number - 10].hear_end()
     Peer.dial(node).greet()
     node.wait_for("peer greeted: n0")
+
+
+@test
+def those_beyond_ten_within_a_minute_are_told_by_their_number(fixture):
+    """The first ten of a minute are told one by one, at each door."""
+    clocks = Clocks(fixture)
+    node = Node(fixture, workers=1, peers=[("n0", NOBODY)], front=clocks.front).begin()
+    wanted = []
+    for kind, address, line, why in (
+        ("peer", node.peers, "W other", "it sent another word than the shared one"),
+        ("client", node.clients, "QUIT", "it ended as the protocol says"),
+    ):
+        for number in range(13):
+            stranger = Connection(fixture, connect(fixture, address), f"{kind} {number}")
+            stranger.say(line)
+            if kind == "client":
+                stranger.hear("ERROR :Closing link")
+            stranger.hear_end()
+            if number < 10:
+                wanted.append(f"{kind} refused: {spelled(stranger.socket.getsockname())}: {why}")
+        wanted.append(f"{kind}s refused: 3 more within a minute")
+    clocks.skip(60)
+
+    def are_told():
+        told = [line.partition(" ")[2] for line in node.log() if " refused: " in line]
+        return sorted(told) == sorted(wanted) or node.is_over()
+
+    fixture.until("ten of each kind are told, and how many more there were", are_told)

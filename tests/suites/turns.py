@@ -1,6 +1,5 @@
 """Everybody has a turn, whatever the load (docs/OPERATING.md, "Size")."""
 
-import select
 import socket
 import statistics
 import subprocess
@@ -9,6 +8,7 @@ import time
 
 from harness.failure import Failed
 from harness.node import Node
+from harness.readable import readable
 from harness.registry import test
 from harness.server import Server
 
@@ -49,7 +49,7 @@ class Ear:
 
     def read(self):
         it = self.connection.socket
-        if not select.select([it], [], [], self.connection.fixture.patience())[0]:
+        if not readable([it], self.connection.fixture.patience()):
             raise Failed(f"{self.connection.name}: nothing more comes, after {self.lines} lines")
         more = it.recv(1 << 20, socket.MSG_DONTWAIT)
         if not more:
