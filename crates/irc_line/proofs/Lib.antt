@@ -4,6 +4,7 @@ mod FaultsLemmas
 mod ReadLemmas
 mod StreamLemmas
 mod SearchLemmas
+mod FoundLemmas
 mod CallsLemmas
 mod TextLemmas
 mod LinesLemmas

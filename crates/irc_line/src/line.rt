@@ -7,6 +7,7 @@ ghost use Rattle.irc_line.specs.Read.{read, text_in};
 ghost use Rattle.irc_line.specs.Line.{Reading, most_parameters, tag_limit, space, colon, begins_with, is_bad, is_letter, is_digit, is_command, SkipsSpaces, SplitsWord, SplitsTags, SplitsSource, HasParameters, IsRefused, Reads};
 
 use byte_text::find_byte;
+use memchr::memchr3;
 use std::marker::Model;
 use thiserror::Error;
 
@@ -159,7 +160,7 @@ fn split_source(bytes: &[u8]) -> (Option<&[u8]>, &[u8])
 fn has_bad_byte(bytes: &[u8]) -> bool
     ensures { result ≡ list_any is_bad bytes.now }
 {
-    bytes.iter().any(|b| *b == 0 || *b == b'\n' || *b == b'\r')
+    memchr3(0, b'\n', b'\r', bytes).is_some()
 }
 
 fn is_letter(b: u8) -> bool
