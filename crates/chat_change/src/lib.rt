@@ -42,7 +42,7 @@ pub use extent::Extent;
 pub use faults::ChangeFault;
 pub use irc_time::Moment;
 pub use key::Key;
-pub use lawful::{has_buffer, lawful_buffer, lawful_id};
+pub use lawful::{has_buffer, lawful_buffer, lawful_id, lawful_record};
 pub use message::{Kind, LINE_LIMIT, Message, is_message};
 pub use msg_id::MsgId;
 pub use order::goes_before;

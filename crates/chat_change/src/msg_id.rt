@@ -48,7 +48,8 @@ impl MsgId {
         }
     }
 
-    fn from_lawful(alloc: Global, text: &[u8]) -> Result<MsgId, AllocError>
+    // Of bytes that are an id.
+    pub(crate) fn from_lawful(alloc: Global, text: &[u8]) -> Result<MsgId, AllocError>
         requires { spec.is_id text.now ≡ true }
         ensures { IfOk result (λ id. id ≡ text.now) }
     {

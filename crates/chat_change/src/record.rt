@@ -135,7 +135,8 @@ impl Record {
         }
     }
 
-    fn from_lawful(
+    // Of a message and tags that are lawful.
+    pub(crate) fn from_lawful(
         alloc: Global,
         buffer: Buffer,
         id: MsgId,

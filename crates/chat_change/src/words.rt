@@ -4,6 +4,7 @@ ghost use Rattle.std.specs.List.{list_any, list_all};
 ghost use Rattle.chat_change.specs.Words as spec;
 
 use irc_tags::is_client_only_text;
+use memchr::memchr3;
 
 /// The most bytes that the name of an account or of a network has.
 pub const NAME_LIMIT: usize = 32;
@@ -69,7 +70,7 @@ fn is_name_byte(byte: u8) -> bool
 fn has_line_end(text: &[u8]) -> bool
     ensures { result ≡ list_any spec.ends_line text.now }
 {
-    text.iter().any(|byte| ends_line(*byte))
+    memchr3(0, b'\n', b'\r', text).is_some()
 }
 
 fn has_word_end(text: &[u8]) -> bool
