@@ -37,7 +37,8 @@ use Rattle.chat_buffers.specs.declared.held.Stamp.{Stamp}
 use Rattle.chat_buffers.proofs.HeldLemmas.{same_account_is, one_buffer}
 use Rattle.chat_buffers.proofs.LeadingLemmas.{IsLeading, leading_sorted, leading_taken}
 use Rattle.chat_buffers.proofs.SettleLemmas.{no_account, stays, gone_stays, other_extent, same_max, max_reached, message_left, stamp_left, floor_elsewhere, Accounts, Tree, seen, floor_around, tree_piece, get-tree, has_here, taken_store}
-use Rattle.chat_buffers.proofs.SoughtLemmas.{Entries, something}
+use Rattle.chat_buffers.specs.Ahead.{Entries}
+use Rattle.chat_buffers.proofs.SoughtLemmas.{something}
 
 same_account_itself : (a : List ℕ) → same_account a a ≡ true
 same_account_itself a = ap is_eq (tied_itself text_total a)

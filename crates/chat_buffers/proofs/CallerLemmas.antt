@@ -3,4 +3,5 @@ pub use Rattle.chat_buffers.proofs.StoreLemmas.{get-history, get-numbers_in, pla
 -- what is known of keys after a step
 pub use Rattle.chat_buffers.proofs.SettleLemmas.{not_same, entered_keyed, removed_keyed}
 -- a value that is kept passes
-pub use Rattle.chat_buffers.proofs.SoughtLemmas.{kept_passes}
+pub use Rattle.chat_buffers.proofs.SoughtLemmas.{kept_passes, past_closed}
+pub use Rattle.chat_buffers.proofs.CursorLemmas.{filter_all}

@@ -8,17 +8,17 @@ use Rattle.chat_change.specs.Extent.{Extent, OfAccount, OfBuffer}
 use Rattle.chat_change.specs.Record.{Record}
 use Rattle.chat_change.specs.Order.{buffer_cmp}
 use Rattle.chat_change.specs.declared.change.Change.{Change}
-use Rattle.chat_change.specs.declared.change.Change.TheVariants.{Post, Mark, AccountFloor}
+use Rattle.chat_change.specs.declared.change.Change.TheVariants.{Post, Mark}
 use Rattle.chat_change.specs.Key.{Key, FloorOf, MarkerOf, MessageOf, key_extent, floor_change}
 use Rattle.chat_history.specs.History as history
 use Rattle.chat_buffers.specs.declared.held_message.HeldMessage.{HeldMessage}
 use Rattle.chat_buffers.specs.declared.held_message.HeldMessage.TheVariants.{Kept}
-use Rattle.chat_buffers.specs.Stamps.{stamp_moment, stamp_number}
-use Rattle.chat_buffers.specs.Store.{Store, Numbered, change_at, IsKeyedStore}
+use Rattle.chat_buffers.specs.Stamps.{stamp_moment, stamp_number, floor_moment}
+use Rattle.chat_buffers.specs.Store.{Store, Numbered, change_at, own_floor_in, IsKeyedStore}
 use Rattle.chat_buffers.specs.Held.{held_piece, floor_piece, numbered, held_floor}
 use Rattle.chat_buffers.specs.declared.held.Held.{Held}
 use Rattle.chat_buffers.specs.declared.held.Stamp.{Stamp}
-use Rattle.chat_buffers.proofs.SettleLemmas.{Accounts, Tree, seen, floor_around, has_here, own_account}
+use Rattle.chat_buffers.proofs.SettleLemmas.{Accounts, Tree, seen, floor_around, has_here, own_said, account_said}
 
 abbrev change : Numbered → Change
 change p = p.change
@@ -45,13 +45,15 @@ module _ (ac : Accounts) (bs : Tree) (s : Store) (is : seen ac bs ≡ s) where
   pub message_here : (b : Buffer) (m : List ℕ) (h : Held) (o : Option HeldMessage) → tree.get buffer_cmp bs b ≡ Some h → finite.get h.messages m ≡ o → change_at s (MessageOf b m) ≡ option_map change (option_map (numbered b m (max (floor_around ac b) (held_floor h))) o)
   message_here b m h o e f = change_here b (MessageOf b m) (Some h) refl e ∙ ap (λ x. option_map change (option_map (numbered b m (max (floor_around ac b) (held_floor h))) x)) f
 
-  own_moment : (a : List ℕ) (o : Option ℕ) → unwrap_or (option_and_then history.floor_moment (option_map (AccountFloor a) o)) 0 ≡ unwrap_or o 0
-  own_moment a None = refl
-  own_moment a (Some t) = refl
+  -- the floor of a buffer's account, by the stamp that is said to be its
+  pub around_is : (b : Buffer) (a : List ℕ) (o : Option Stamp) → a ≡ b.account → finite.get s (FloorOf (OfAccount a)) ≡ option_map (floor_piece (OfAccount a)) o → own_floor_in s (OfAccount b.account) ≡ floor_moment o
+  around_is b a o same e = ap (λ x. own_floor_in s (OfAccount x)) (sym same) ∙ ap (λ x. unwrap_or (option_and_then history.floor_moment (option_map change x)) 0) e ∙ account_said a o
 
-  -- the moment that is said to be the floor of a buffer's account
-  pub around_is : (b : Buffer) (o : Option ℕ) → change_at s (FloorOf (OfAccount b.account)) ≡ option_map (AccountFloor b.account) o → floor_around ac b ≡ unwrap_or o 0
-  around_is b o e = sym (own_account ac bs s b.account is) ∙ ap (λ x. unwrap_or (option_and_then history.floor_moment x) 0) e ∙ own_moment b.account o
+  pub own_floor_here : (b : Buffer) (h : Held) → tree.get buffer_cmp bs b ≡ Some h → own_floor_in s (OfBuffer b) ≡ floor_moment h.floor
+  own_floor_here b h e = ap (λ x. unwrap_or (option_and_then history.floor_moment (option_map change x)) 0) (has_here ac bs s b (Some h) is e (FloorOf (OfBuffer b)) refl) ∙ own_said b h.floor
+
+  pub no_own_floor : (b : Buffer) → tree.get buffer_cmp bs b ≡ None → own_floor_in s (OfBuffer b) ≡ 0
+  no_own_floor b e = ap (λ x. unwrap_or (option_and_then history.floor_moment (option_map change x)) 0) (has_here ac bs s b None is e (FloorOf (OfBuffer b)) refl)
 
 same_message : (a b : Buffer) (m n : List ℕ) → MessageOf a m ≡ MessageOf b n → (a ≡ b) × (m ≡ n)
 same_message a b m n e = (cc e, cc e)

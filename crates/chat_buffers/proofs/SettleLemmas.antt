@@ -162,7 +162,7 @@ change p = p.change
 abbrev said : Option Numbered → ℕ
 said o = unwrap_or (option_and_then history.floor_moment (option_map change o)) 0
 
-own_said : (b : Buffer) (o : Option Stamp) → said (option_map (floor_piece (OfBuffer b)) o) ≡ floor_moment o
+pub own_said : (b : Buffer) (o : Option Stamp) → said (option_map (floor_piece (OfBuffer b)) o) ≡ floor_moment o
 own_said b None = refl
 own_said b (Some s) = refl
 

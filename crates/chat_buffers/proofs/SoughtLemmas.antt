@@ -1,13 +1,13 @@
 -- A walk over the buffers, to the first of which a record is sought.
-use Rattle.std.proofs.Common.{◌≡◌, refl, sym, ◌∙◌, ap, subst, ℕ, ◌≤◌, Bool, true, false, cond, ◌&&◌, nat_lt, List, [], ◌∷◌, Option, Some, None, ◌⊎◌, ⊎_elim, inl, inr, arith}
+use Rattle.std.proofs.Common.{◌≡◌, refl, sym, ◌∙◌, ap, subst, ℕ, ◌≤◌, Bool, true, false, cond, ◌&&◌, nat_lt, List, [], ◌∷◌, reverse, not, Option, Some, None, ◌⊎◌, ⊎_elim, inl, inr, arith}
 use Rattle.std.proofs.lemmas.Bool.{false≢true}
 use Rattle.std.proofs.lemmas.Option.{same_Some}
 use Rattle.std.proofs.lemmas.Cmp.{tied_itself}
 use Rattle.std.specs.declared.cmp.Ordering.{Ordering}
 use Rattle.std.specs.declared.cmp.Ordering.TheVariants.{Less, Equal, Greater}
-use Rattle.std.specs.Ordering.{ordering_then, nat_cmp, is_eq, is_gt}
+use Rattle.std.specs.Ordering.{ordering_then, nat_cmp, is_eq, is_lt, is_gt, flip_args}
 use Rattle.std.specs.Cmp.{Equal-is}
-use Rattle.std.specs.List.{filter, AllByRecursion}
+use Rattle.std.specs.List.{AllByRecursion}
 use Rattle.std.specs.List.Sorted.{IsStrictlySortedBy}
 use Rattle.std.specs.Map.{keys_of}
 use Rattle.std.specs.BTreeMap as tree
@@ -21,20 +21,24 @@ use Rattle.chat_change.specs.declared.change.Change.TheVariants.{Post, Redact, M
 use Rattle.chat_change.proofs.CallerLemmas.{buffer_total, buffer_exact, text_total, text_exact}
 use Rattle.chat_history.specs.Buffers.{is_of_network, buffer_where}
 use Rattle.chat_history.specs.Choice.{keep, Among, IsFirst}
+use Rattle.chat_history.specs.Cut.{is_after}
+use Rattle.chat_history.specs.declared.cut.Cut.TheVariants.{Top}
 use Rattle.chat_history.specs.History.{History, changes_of}
-use Rattle.chat_history.proofs.CallerLemmas.{le_self, first_alike, among-filter, among_passing, among-filter_map, among_made, got, get_entry}
+use Rattle.chat_history.specs.Visible.{by_spot, records_in}
+use Rattle.chat_history.proofs.CallerLemmas.{le_self, first_alike, among-filter_map, among_made, got, get_entry, less_upto}
 use Rattle.ordered_maps.specs.MapView.{held_by}
 use Rattle.ordered_maps.proofs.CallerLemmas.{get-held_by, entries-from_ordered}
 use Rattle.chat_buffers.specs.Messages.{Messages}
-use Rattle.chat_buffers.specs.Kept.{IsKept, IsFirstKept}
+use Rattle.chat_buffers.specs.Kept.{IsKept, IsFirstKept, AreKept}
 use Rattle.chat_buffers.specs.Store.{IsKeyedStore, history_in}
 use Rattle.chat_buffers.specs.Sought.{is_sought, is_past, sought_in, sought_past, all_past}
-use Rattle.chat_buffers.specs.Ahead.{HasSought, HasNoneSought, IsOfOneBuffer, is_behind}
+use Rattle.chat_buffers.specs.Ahead.{Entries, IsRising, IsAhead, HasSought, HasNoneSought, IsOfOneBuffer, is_behind}
 use Rattle.chat_buffers.specs.declared.sought.Sought.{Sought}
 use Rattle.chat_buffers.specs.declared.sought.Sought.TheVariants.{Outdated, OfNetwork}
 use Rattle.chat_buffers.specs.declared.held.Held.{Held}
 use Rattle.chat_buffers.proofs.SettleLemmas.{Accounts, Tree, seen}
-use Rattle.chat_buffers.proofs.KeptLemmas.{none_posted, posted_kept, kept_posted}
+use Rattle.chat_buffers.proofs.KeptLemmas.{keyed_history, none_posted, posted_kept, kept_posted}
+use Rattle.chat_buffers.proofs.CursorLemmas.{down_of, filter_all}
 
 -- ---- the first record tells whether one is sought
 
@@ -97,14 +101,6 @@ module _ (s : Sought) (last : Option Buffer) (h : History) where
 
 -- ---- what is left of a walk
 
-abbrev pub Entries : Type 0
-Entries = List (Buffer × Held)
-
--- each buffer is less than those after it
-abbrev pub IsRising : Entries → Type 0
-IsRising [] = Unit {0}
-IsRising (e ∷ es) = ((x : Buffer × Held) → Among x es → buffer_cmp e.0 x.0 ≡ Less) × IsRising es
-
 -- entries of the store that come after the last buffer, in their order, and all of which a record is sought
 pub record IsLeft (h : History) (s : Sought) (last : Option Buffer) (es : Entries) : Type 0 where
   pub rising : IsRising es
@@ -120,14 +116,6 @@ rising_from : (es : Entries) → IsStrictlySortedBy buffer_cmp (keys_of es) → 
 rising_from [] s = tt
 rising_from (e ∷ es) s = (less_than_all e.0 es (sorted_head buffer_cmp e.0 (keys_of es) s), rising_from es (sorted_tail buffer_cmp e.0 (keys_of es) s))
 
-rising_passing : (p : Buffer × Held → Bool) (es : Entries) → IsRising es → IsRising (filter p es)
-rising_passing p [] h = tt
-rising_passing p (e ∷ es) h =
-    elim (p e) as (λ b. IsRising (cond b (e ∷ filter p es) (filter p es))) [
-      | true ↦ (λ x m. h.0 x (among-filter p es x m).0, rising_passing p es h.1)
-      | false ↦ rising_passing p es h.1
-    ]
-
 same_held : (b d : Buffer) (h g : Held) → ◌≡◌ {A = Buffer × Held} (b, h) (d, g) → (b ≡ d) × (h ≡ g)
 same_held b d h g e = (ap (λ (x : Buffer × Held). x.0) e, ap (λ (x : Buffer × Held). x.1) e)
 
@@ -136,39 +124,77 @@ something None n = absurd (n refl)
 something (Some h) n = (h, refl)
 
 -- the buffers after the last one
-module _ (ac : Accounts) (bs : Tree) (keyed : IsKeyedStore (seen ac bs)) (ordered : tree.IsOrdered buffer_cmp bs) (s : Sought) (last : Option Buffer) (p : Buffer → Bool) (is : (b : Buffer) → p b ≡ is_past last b) where
-  abbrev from : Entries
-  from = filter (λ e. p e.0 && true) bs.entries
-
+module _ (ac : Accounts) (bs : Tree) (keyed : IsKeyedStore (seen ac bs)) (ordered : tree.IsOrdered buffer_cmp bs) where
   abbrev entries_are : finite.entries (held_by {R = buffer_cmp} bs) ≡ bs.entries
   entries_are = entries-from_ordered buffer_total bs.entries ordered
 
-  truth : (b : Bool) → (b && true) ≡ true → b ≡ true
-  truth true e = refl
-  truth false e = e
+  its_entry : (b : Buffer) (h : Held) → Among (b, h) bs.entries → tree.get buffer_cmp bs b ≡ Some h
+  its_entry b h m = sym (get-held_by buffer_total bs b) ∙ get_entry buffer_total buffer_exact (held_by bs) b h (subst (Among (b, h)) (sym entries_are) m)
 
-  its_entry : (b : Buffer) (h : Held) → Among (b, h) from → (tree.get buffer_cmp bs b ≡ Some h) × (is_past last b ≡ true)
-  its_entry b h m =
-      let both = among-filter (λ (e : Buffer × Held). p e.0 && true) bs.entries (b, h) m in (
-        sym (get-held_by buffer_total bs b) ∙ get_entry buffer_total buffer_exact (held_by bs) b h (subst (Among (b, h)) (sym entries_are) both.0),
-        sym (is b) ∙ truth (p b) both.1,
-      )
+  entry_of : (b : Buffer) (h : Held) → tree.get buffer_cmp bs b ≡ Some h → Among (b, h) bs.entries
+  entry_of b h here = subst (Among (b, h)) entries_are (got buffer_total buffer_exact (held_by bs) b h (get-held_by buffer_total bs b ∙ here))
 
-  entry_of : (b : Buffer) (h : Held) → tree.get buffer_cmp bs b ≡ Some h → is_past last b ≡ true → Among (b, h) from
-  entry_of b h here past =
-      among_passing (λ (e : Buffer × Held). p e.0 && true) bs.entries (b, h)
-      (subst (Among (b, h)) entries_are (got buffer_total buffer_exact (held_by bs) b h (get-held_by buffer_total bs b ∙ here)))
-      (ap (λ t. t && true) (is b ∙ past))
-
-  pub all_left : IsLeft (history_in (seen ac bs)) s last from
-  all_left = record {
-    rising = rising_passing (λ (e : Buffer × Held). p e.0 && true) bs.entries (rising_from bs.entries ordered);
-    past = λ b h m. (its_entry b h m).1;
-    posted = λ b h m r kept. kept_posted ac bs keyed b h (its_entry b h m).0 r kept;
-    all = λ r m t past.
+  pub all_ahead : IsAhead (history_in (seen ac bs)) None bs.entries
+  all_ahead = record {
+    keyed = keyed_history ac bs keyed;
+    rising = rising_from bs.entries ordered;
+    past = λ b h m. refl;
+    posted = λ b h m r kept. kept_posted ac bs keyed b h (its_entry b h m) r kept;
+    all = λ r m past.
         let here = something (tree.get buffer_cmp bs r.buffer) (λ none. none_posted ac bs keyed r none m) in
-        (here.0, entry_of r.buffer here.0 here.1 past, posted_kept ac bs keyed r.buffer here.0 here.1 r refl m);
+        (here.0, entry_of r.buffer here.0 here.1, posted_kept ac bs keyed r.buffer here.0 here.1 r refl m);
   }
+
+-- ---- a step past a buffer
+
+less : (o : Ordering) → is_lt o ≡ true → o ≡ Less
+less Less e = refl
+less Equal e = absurd (false≢true e)
+less Greater e = absurd (false≢true e)
+
+pub past_closed : (last : Option Buffer) (x y : Buffer) → is_past last x ≡ true → is_gt (buffer_cmp x y) ≡ false → is_past last y ≡ true
+past_closed None x y t l = refl
+past_closed (Some a) x y t l = ap is_lt (less_upto buffer_total a x y (less (buffer_cmp a x) t) l)
+
+pub ahead_left : (h : History) (s : Sought) (last : Option Buffer) (es : Entries) → IsAhead h last es → IsLeft h s last es
+ahead_left h s last es ahead = record {
+  rising = ahead.rising;
+  past = ahead.past;
+  posted = ahead.posted;
+  all = λ r m t past. ahead.all r m past;
+}
+
+not_past_itself : (b : Buffer) → is_past (Some b) b ≡ true → ⊥
+not_past_itself b t = false≢true (sym (ap is_lt (tied_itself buffer_total b)) ∙ t)
+
+module _ (h : History) (last : Option Buffer) (b : Buffer) (d : Held) (rest : Entries) (ahead : IsAhead h last ((b, d) ∷ rest)) where
+  pub ahead_step : IsAhead h (Some b) rest
+  ahead_step = record {
+    keyed = ahead.keyed;
+    rising = ahead.rising.1;
+    past = λ x g m. ap is_lt (ahead.rising.0 (x, g) m);
+    posted = λ x g m. ahead.posted x g (inr m);
+    all = λ r m t.
+        let before = past_closed last b r.buffer (ahead.past b d (inl refl)) (ap is_gt (less (buffer_cmp b r.buffer) t)) in
+        let at = ahead.all r m before in
+        ⊎_elim
+        (λ e. absurd (not_past_itself b (subst (λ x. is_past (Some b) x ≡ true) (sym (same_held b r.buffer d at.0 e).0) t)))
+        (λ a. (at.0, a, at.2))
+        at.1;
+  }
+
+  -- the posts in that buffer are its kept records
+  pub here_kept : (r : Record) → r.buffer ≡ b → Among (Post r) (changes_of h) → IsKept d.messages r
+  here_kept r is m =
+      let at = ahead.all r m (subst (λ x. is_past last x ≡ true) (sym is) (ahead.past b d (inl refl))) in
+      ⊎_elim
+      (λ e. subst (λ (g : Held). IsKept g.messages r) (sym (same_held b r.buffer d at.0 e).1) at.2)
+      (λ a. absurd (not_past_itself b (subst (λ x. is_past (Some b) x ≡ true) is (ap is_lt (ahead.rising.0 (r.buffer, at.0) a)))))
+      at.1
+
+  pub newest_here : (rs : List Record) → AreKept (flip_args by_spot) (λ r. not (is_after Top r)) d.messages rs → rs ≡ reverse (records_in h b)
+  newest_here rs kept =
+      down_of h ahead.keyed b d.messages (ahead.posted b d (inl refl)) here_kept Top rs kept ∙ ap reverse (filter_all (records_in h b))
 
 -- ---- a network's buffers stand together
 

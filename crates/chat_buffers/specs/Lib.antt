@@ -6,8 +6,9 @@ pub mod Store
 pub mod MessageRef
 -- how a piece enters it, and a floor takes records away one by one
 pub mod Entering
--- the search for the next buffer
+-- which buffers are sought, and a walk over these
 pub mod Sought
+pub mod BufferWalk
 -- what is held of the messages of a buffer, and which records are kept of them
 pub mod Messages
 pub mod Kept

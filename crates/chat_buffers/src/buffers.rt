@@ -12,7 +12,7 @@ ghost use Rattle.chat_buffers.specs.Store as spec;
 ghost use Rattle.chat_buffers.specs.Entering.{FitsStore, IsEntered, TakesOne, IsSweptOf};
 ghost use Rattle.chat_buffers.specs.Held.{IsOfBuffer, floor_piece};
 
-use crate::held::{Held, Stamp, at_or_above, moment_of, nothing_held, number_of, settle};
+use crate::held::{Held, Stamp, at_or_above, floor_ms, moment_of, nothing_held, number_of, settle};
 use crate::held_message::HeldMessage;
 use chat_change::{Account, Buffer, Change, Extent, Key, Moment, MsgId, Record};
 use ordered_maps::put;
@@ -27,6 +27,15 @@ pub enum MessageRef<'a> {
     Kept(&'a Record),
     /// It was redacted, and stood at that moment. None where its moment isn't known.
     Gone(Option<Moment>),
+}
+
+/// What a message that comes to a buffer finds there.
+#[derive(Clone, Copy)]
+pub struct FloorAndMessage<'a> {
+    /// The floor in force in the buffer, in milliseconds. 0 where there is none.
+    pub floor_ms: u64,
+    /// What is held of the message, if anything.
+    pub message: Option<MessageRef<'a>>,
 }
 
 /// The numbered pieces of many buffers and of their accounts, one for each key at most. They are seen as one store.
@@ -124,15 +133,33 @@ impl Buffers {
             option_map (message_change buffer.now id.now) result }
         ensures bears { IfSome result (IsMessageOf buffer.now id.now) }
     {
-        let held = self.held.get(buffer)?;
-        match held.messages.held_message(id)? {
-            HeldMessage::Kept(post, _) => Some(MessageRef::Kept(post)),
-            HeldMessage::Gone(at, _) => {
-                let at = at_or_above(moment_of(&held.floor), at.get());
-                let around = self.floor(&Extent::Account(buffer.owner()));
-                Some(MessageRef::Gone(at_or_above(around, at)))
-            }
-        }
+        self.floor_and_message(buffer, id).message
+    }
+
+    /// The floor in force in a buffer, and what is held of a message there, by one search for the buffer.
+    pub fn floor_and_message(&self, buffer: &Buffer, id: &MsgId) -> FloorAndMessage<'_>
+        ensures floor { result.floor_ms ≡ spec.floor_in self.now (extents.OfBuffer buffer.now) }
+        ensures held { spec.change_at self.now (key.MessageOf buffer.now id.now) ≡
+            option_map (message_change buffer.now id.now) result.message }
+        ensures bears { IfSome result.message (IsMessageOf buffer.now id.now) }
+    {
+        let around = floor_ms(&self.own_floor(Extent::Account(buffer.owner())));
+        let Some(held) = self.held.get(buffer) else {
+            return FloorAndMessage {
+                floor_ms: around,
+                message: None,
+            };
+        };
+        let floor_ms = around.max(floor_ms(&held.floor));
+        let message = match held.messages.held_message(id) {
+            Some(HeldMessage::Kept(post, _)) => Some(MessageRef::Kept(post)),
+            Some(HeldMessage::Gone(at, _)) => Some(MessageRef::Gone(at_or_above(
+                floor_ms,
+                at.get(),
+            ))),
+            None => None,
+        };
+        FloorAndMessage { floor_ms, message }
     }
 
     /// Puts a piece under its key, and answers the number that the key had. A floor forgets the moments of redactions

@@ -1,10 +1,10 @@
 //! What is held of one buffer.
 
-ghost use Rattle.std.specs.Prelude.{◌≡◌, ℕ, IfOk, OnOk, OnErr, Some, None, IfSome, unwrap_or};
+ghost use Rattle.std.specs.Prelude.{◌≡◌, ℕ, IfOk, OnOk, OnErr, Some, None, IfSome};
 ghost use Rattle.chat_change.specs.Key.{Key, key_of};
 ghost use Rattle.chat_history.specs.Retention as spec;
 ghost use Rattle.chat_buffers.specs.Held.{IsOfBuffer, Fits, Settles, held_piece, number_under};
-ghost use Rattle.chat_buffers.specs.Stamps.{stamp_moment, stamp_number, TakesStamp, IsAbove};
+ghost use Rattle.chat_buffers.specs.Stamps.{stamp_moment, stamp_number, floor_moment, TakesStamp, IsAbove};
 
 use crate::messages::Messages;
 use chat_change::{Change, Moment};
@@ -68,19 +68,22 @@ pub(crate) fn moment_of(stamp: &Option<Stamp>) -> Option<Moment>
     }
 }
 
+/// The moment of a floor in milliseconds, or 0 where there is none.
+pub(crate) fn floor_ms(floor: &Option<Stamp>) -> u64
+    ensures { result ≡ floor_moment floor.now }
+{
+    match floor {
+        Some(stamp) => stamp.at.ms(),
+        None => 0,
+    }
+}
+
 /// The moment where it is at or above the floor.
-pub(crate) fn at_or_above(floor: Option<Moment>, at: Option<Moment>) -> Option<Moment>
-    ensures { result ≡ spec.at_or_above (unwrap_or floor 0) at }
+pub(crate) fn at_or_above(floor: u64, at: Option<Moment>) -> Option<Moment>
+    ensures { result ≡ spec.at_or_above floor at }
 {
     let at = at?;
-    let Some(floor) = floor else {
-        return Some(at);
-    };
-    if floor.ms() <= at.ms() {
-        Some(at)
-    } else {
-        None
-    }
+    if floor <= at.ms() { Some(at) } else { None }
 }
 
 /// Takes a floor out where it isn't above another, and answers the number of its piece. None where there is no floor,

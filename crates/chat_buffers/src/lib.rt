@@ -10,6 +10,7 @@
 #![tactic(auto)]
 
 mod accounts;
+mod buffer_walk;
 mod buffers;
 mod cursor;
 mod finding;
@@ -20,6 +21,7 @@ mod moment_if_known;
 mod sought;
 mod walk;
 
-pub use buffers::{Buffers, MessageRef};
+pub use buffer_walk::BufferWalk;
+pub use buffers::{Buffers, FloorAndMessage, MessageRef};
 pub use sought::Sought;
 pub use walk::{Down, Up};

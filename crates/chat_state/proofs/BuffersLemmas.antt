@@ -1,11 +1,7 @@
 -- The walk over the buffers of a history that have certain records.
-use Rattle.std.proofs.Common.{◌≡◌, true, false, cond, Option, Some, None, List, [], ◌∷◌, ◌++◌, map, refl, sym, ◌∙◌, ap, append_assoc}
+use Rattle.std.proofs.Common.{◌≡◌, true, cond, Option, Some, None, List, [], ◌∷◌, ◌++◌, map, sym, ◌∙◌, ap, append_assoc}
 use Rattle.std.specs.Prelude.{◌↔◌}
-use Rattle.std.proofs.lemmas.Bool.{false≢true}
 use Rattle.std.proofs.lemmas.List.{append-nil}
-use Rattle.std.specs.declared.cmp.Ordering.{Ordering}
-use Rattle.std.specs.declared.cmp.Ordering.TheVariants.{Less, Equal, Greater}
-use Rattle.std.specs.Ordering.{is_lt, is_gt}
 use Rattle.std.specs.List.{filter, filter_map}
 use Rattle.chat_change.specs.Buffer.{Buffer}
 use Rattle.chat_change.specs.Order.{buffer_cmp}
@@ -16,19 +12,10 @@ use Rattle.chat_history.specs.Choice.{keep, Among, IsFirst}
 use Rattle.chat_store.specs.Sought.{sought_in, sought_buffers, is_past, sought_past, all_past}
 use Rattle.chat_history.proofs.CallerLemmas.{among-filter_map, among_made}
 use Rattle.chat_history.proofs.CallerLemmas.{in_order_member, member_in_order, buffers_sorted}
-use Rattle.chat_history.proofs.CallerLemmas.{less_upto, from_member, passing_from, none_passing}
-use Rattle.chat_store.proofs.CallerLemmas.{kept_passes}
+use Rattle.chat_history.proofs.CallerLemmas.{from_member, passing_from, none_passing}
+use Rattle.chat_store.proofs.CallerLemmas.{kept_passes, past_closed, filter_all}
 
 -- ---- a step of the walk
-
-less : (o : Ordering) → is_lt o ≡ true → o ≡ Less
-less Less e = refl
-less Equal e = absurd (false≢true e)
-less Greater e = absurd (false≢true e)
-
-pub past_closed : (last : Option Buffer) (x y : Buffer) → is_past last x ≡ true → is_gt (buffer_cmp x y) ≡ false → is_past last y ≡ true
-past_closed None x y t l = refl
-past_closed (Some a) x y t l = ap is_lt (less_upto buffer_total a x y (less (buffer_cmp a x) t) l)
 
 module _ (s : Sought) (h : History) (last : Option Buffer) where
   abbrev buffers : List Buffer
@@ -59,10 +46,6 @@ module _ (s : Sought) (h : History) (last : Option Buffer) where
   is_one b f = ((past_buffer b).0 f.0).0
 
 -- ---- a list that is made of the buffers, one for each
-
-pub filter_all : {A : Type 0} (xs : List A) → filter (λ x. true) xs ≡ xs
-filter_all [] = refl
-filter_all (x ∷ xs) = ap (λ ys. x ∷ ys) (filter_all xs)
 
 module _ {X : Type 0} (f : Buffer → X) (bs : List Buffer) where
   -- what is made so far, and what is left to make, are all

@@ -2,7 +2,6 @@
 use Rattle.std.proofs.Common.{◌≡◌, ℕ, ◌≤◌, Bool, true, false, cond, not, ◌&&◌, Option, Some, None, List, [], ◌∷◌, map, reverse, refl, sym, ◌∙◌, ap, subst, Bor, ⊎_elim, inl, arith}
 use Rattle.std.proofs.lemmas.Bool.{false≢true}
 use Rattle.std.proofs.lemmas.Bool.Decides.{nat_tests}
-use Rattle.std.proofs.lemmas.List.Kept.{IsStrictlySortedBy-filter}
 use Rattle.std.proofs.lemmas.Map.Keys.{sorted_head}
 use Rattle.std.specs.declared.cmp.Ordering.{Ordering}
 use Rattle.std.specs.declared.cmp.Ordering.TheVariants.{Less}
@@ -11,7 +10,6 @@ use Rattle.std.specs.Cmp.{Equal-is}
 use Rattle.std.specs.List.{filter, filter_map, AllByRecursion}
 use Rattle.std.specs.List.Sorted.{IsStrictlySortedBy}
 use Rattle.std.specs.Option.{IfSome, option_map, unwrap_or}
-use Rattle.std.specs.Map.Iter.{deref}
 use Rattle.chat_change.specs.Buffer.{Buffer}
 use Rattle.chat_change.specs.Record.{Record}
 use Rattle.chat_change.specs.Order.{text_cmp, buffer_cmp}
@@ -19,22 +17,22 @@ use Rattle.chat_change.specs.declared.change.Change.{Change}
 use Rattle.chat_change.specs.declared.change.Change.TheVariants.{Post, Redact, Mark, Floor, AccountFloor}
 use Rattle.chat_change.proofs.CallerLemmas.{text_exact, buffer_total}
 use Rattle.chat_history.specs.Choice.{Among, IsFirst}
-use Rattle.chat_history.specs.declared.cut.Cut.TheVariants.{Top}
 use Rattle.chat_store.specs.Sought.{OfNetwork}
-use Rattle.chat_history.specs.Cut.{is_after, before}
 use Rattle.chat_history.specs.History.{History, changes_of}
 use Rattle.chat_history.specs.Latest.{latest_moment, with_moment, network_buffers, latest_in}
-use Rattle.chat_state.specs.Latest.{latest_from, IsAtBuffer}
+use Rattle.chat_state.specs.Latest.{latest_from, next_of, IsAtBuffer}
 use Rattle.chat_history.specs.Visible.{by_spot, records_in}
 use Rattle.chat_history.specs.Buffers.{is_of_network, buffer_where}
-use Rattle.chat_store.specs.Sought.{is_past, all_past}
+use Rattle.chat_store.specs.Sought.{is_past, all_past, Walk, walk_after}
+use Rattle.chat_store.specs.Store.{Store, history_in}
+use Rattle.chat_store.proofs.CallerLemmas.{past_closed, filter_all}
 use Rattle.chat_history.proofs.CallerLemmas.{among-filter_map, none_first, mapped, image}
 use Rattle.chat_history.proofs.CallerLemmas.{most_greatest}
 use Rattle.chat_history.proofs.CallerLemmas.{latest_total, latest_exact}
 use Rattle.chat_history.proofs.CallerLemmas.{from_member, passing_from}
 use Rattle.chat_history.proofs.CallerLemmas.{member, records_sorted, sorted_reverse, among-reverse, reverse_among}
 use Rattle.chat_history.proofs.CallerLemmas.{in_order_member, buffers_sorted}
-use Rattle.chat_state.proofs.BuffersLemmas.{past_buffer, past_closed, walk_end, is_one, filter_all}
+use Rattle.chat_state.proofs.BuffersLemmas.{past_buffer, walk_end, is_one}
 
 -- ---- the latest moment
 
@@ -50,32 +48,28 @@ module _ (h : History) (b : Buffer) where
 
   -- the records, the newest first
   abbrev newest : List Record
-  newest = reverse (before Top records)
-
-  in_newest : (r : Record) → Among r records → Among r newest
-  in_newest r m = reverse_among (before Top records) r (subst (Among r) (sym (filter_all records)) m)
+  newest = reverse records
 
   pub latest_none : newest ≡ [] → 0 ≡ latest_moment h b
   latest_none e =
       ap (λ t. unwrap_or t 0) (sym (none_first latest_total latest_exact moments (λ t m.
       let r = mapped (λ (r : Record). r.at) records t m in
-      subst (Among r.0) e (in_newest r.0 r.1))))
+      subst (Among r.0) e (reverse_among records r.0 r.1))))
 
   module _ (r : Record) (rest : List Record) (e : newest ≡ r ∷ rest) where
     newest_record : Among r records
-    newest_record = subst (Among r) (filter_all records) (among-reverse (before Top records) r (subst (Among r) (sym e) (inl refl)))
+    newest_record = among-reverse records r (subst (Among r) (sym e) (inl refl))
 
     older : AllByRecursion (λ q. by_spot q r ≡ Less) rest
     older =
         sorted_head (flip_args by_spot) r rest
-        (subst (IsStrictlySortedBy (flip_args by_spot)) e
-        (sorted_reverse by_spot (before Top records) (IsStrictlySortedBy-filter by_spot (λ q. not (is_after Top q)) records (records_sorted h b))))
+        (subst (IsStrictlySortedBy (flip_args by_spot)) e (sorted_reverse by_spot records (records_sorted h b)))
 
     not_newer : (q : Record) → Among q records → q.at ≤ r.at
     not_newer q m = ⊎_elim
         (λ (s : r ≡ q). subst (λ (x : Record). x.at ≤ r.at) s (omega arith))
         (λ n. no_later q r (text_cmp q.id r.id) (ap is_gt (member (λ x. by_spot x r ≡ Less) rest q older n)))
-        (subst (Among q) e (in_newest q m))
+        (subst (Among q) e (reverse_among records q m))
 
     pub latest_is : r.at ≡ latest_moment h b
     latest_is =
@@ -121,34 +115,56 @@ module _ (h : History) (account network : List ℕ) where
   same_network : (b : Buffer) → Among b found → network_buffers h b.account b.network ≡ found
   same_network b m = let n = found_names b m in λ i. network_buffers h (n.0 i) (n.1 i)
 
+abbrev Next : Type 0
+Next = Option (Bor Buffer × ℕ)
+
+abbrev IsNext : Bor (List ℕ) → Bor (List ℕ) → History → Option Buffer → Next → Type 0
+IsNext account network h last u = IsFirst buffer_cmp (all_past (OfNetwork account network) last h) (option_map (λ found. found.0.now) u)
+
 module _ (h : History) (account network : Bor (List ℕ)) (last : Option Buffer) where
   abbrev buffers : List Buffer
   buffers = network_buffers h account.now network.now
 
-  pub at_buffer : (u : Option (Bor Buffer)) → IsFirst buffer_cmp (all_past (OfNetwork account network) last h) (option_map deref u) → IsAtBuffer h u
-  at_buffer None f = tt
-  at_buffer (Some b) f =
-      let m = is_one (OfNetwork account network) h last b.now f in
-      subst (Among b.now) (sym (same_network h account.now network.now b.now m)) m
+  at_buffer : (b : Bor Buffer × ℕ) → IsNext account network h last (Some b) → b.1 ≡ latest_moment h b.0.now → IsAtBuffer h (Some b.0.now) (Some b)
+  at_buffer b f t =
+      let m = is_one (OfNetwork account network) h last b.0.now f in
+      (subst (Among b.0.now) (sym (same_network h account.now network.now b.0.now m)) m, t, refl)
 
   -- what is left from the next buffer on is what comes after the last one
-  pub left_past : (u : Option (Bor Buffer)) → IsFirst buffer_cmp (all_past (OfNetwork account network) last h) (option_map deref u) → latest_from h u ≡ map (with_moment h) (filter (is_past last) buffers)
+  left_past : (u : Next) → IsNext account network h last u → latest_from h (next_of u) ≡ map (with_moment h) (filter (is_past last) buffers)
   left_past None f = ap (map (with_moment h)) (sym (walk_end (OfNetwork account network) h last f))
-  left_past (Some b) f =
+  left_past (Some (b, t)) f =
       ap (λ bs. map (with_moment h) (filter (λ d. not (is_lt (buffer_cmp d b.now))) bs)) (same_network h account.now network.now b.now (is_one (OfNetwork account network) h last b.now f))
       ∙ ap (map (with_moment h)) (sym (passing_from buffer_total buffers (all_past (OfNetwork account network) last h) (is_past last) (past_closed last) (past_buffer (OfNetwork account network) h last) b.now f))
 
-pub latest_all : (h : History) (account network : Bor (List ℕ)) (u : Option (Bor Buffer)) → IsFirst buffer_cmp (all_past (OfNetwork account network) None h) (option_map deref u) → latest_from h u ≡ latest_in h account.now network.now
-latest_all h account network u f =
-    left_past h account network None u f ∙ ap (map (with_moment h)) (filter_all (network_buffers h account.now network.now))
+-- ---- a step of the walk
 
--- a step gives the next buffer with its moment, and leaves those after it
-pub latest_step : (h : History) (at : Option (Bor Buffer)) → IsAtBuffer h at → (b : Bor Buffer) → at ≡ Some b → (account network : Bor (List ℕ)) → account.now ≡ b.now.account → network.now ≡ b.now.network → (t : ℕ) → t ≡ latest_moment h b.now → (u : Option (Bor Buffer)) → IsFirst buffer_cmp (all_past (OfNetwork account network) (Some b.now) h) (option_map deref u) → latest_from h at ≡ (b.now, t) ∷ latest_from h u
-latest_step h at sound b is account network e n t is_t u f =
-    let bs = network_buffers h b.now.account b.now.network in
-    let p = λ (r : Record). is_of_network b.now.account b.now.network r.buffer in
-    let m : Among b.now bs = subst (λ (o : Option (Bor Buffer)). IfSome o (λ b. Among b.now (network_buffers h b.now.account b.now.network))) is sound in
-    ap (latest_from h) is
-    ∙ ap (map (with_moment h)) (from_member buffer_total bs b.now (buffers_sorted (filter_map (buffer_where p) (changes_of h))) m)
-    ∙ (λ i. (b.now, sym is_t i) ∷ map (with_moment h) (filter (is_past (Some b.now)) (network_buffers h (sym e i) (sym n i))))
-    ∙ ap (λ rest. (b.now, t) ∷ rest) (sym (left_past h account network (Some b.now) u f))
+module _ (old new : Walk) (account network : Bor (List ℕ)) where
+  abbrev HasWalked : Next → Type 0
+  HasWalked u = IfSome u (λ found. new ≡ walk_after old.store (Some found.0.now))
+
+  abbrev before : History
+  before = history_in old.store
+
+  pub at_next : (u : Next) → IsNext account network before old.last u → IfSome u (λ found. found.1 ≡ latest_moment before found.0.now) → HasWalked u → IsAtBuffer (history_in new.store) new.last u
+  at_next None f t w = tt
+  at_next (Some b) f t w = subst (λ (x : Walk). IsAtBuffer (history_in x.store) x.last (Some b)) (sym w) (at_buffer before account network old.last b f t)
+
+  from_next : (u : Next) → IsNext account network before old.last u → HasWalked u → latest_from (history_in new.store) (next_of u) ≡ map (with_moment before) (filter (is_past old.last) (network_buffers before account.now network.now))
+  from_next None f w = left_past before account network old.last None f
+  from_next (Some b) f w = ap (λ (x : Walk). latest_from (history_in x.store) (Some b.0)) w ∙ left_past before account network old.last (Some b) f
+
+  -- a step gives the next buffer with its moment, and leaves those after it
+  pub latest_step : (b : Bor Buffer) (t : ℕ) → IsAtBuffer before old.last (Some (b, t)) → account.now ≡ b.now.account → network.now ≡ b.now.network → (u : Next) → IsNext account network before old.last u → HasWalked u → latest_from before (Some b) ≡ (b.now, t) ∷ latest_from (history_in new.store) (next_of u)
+  latest_step b t sound e n u f w =
+      let bs = network_buffers before b.now.account b.now.network in
+      let p = λ (r : Record). is_of_network b.now.account b.now.network r.buffer in
+      ap (map (with_moment before)) (from_member buffer_total bs b.now (buffers_sorted (filter_map (buffer_where p) (changes_of before))) sound.0)
+      ∙ (λ i. (b.now, sym sound.1 i) ∷ map (with_moment before) (filter (is_past (sym sound.2 i)) (network_buffers before (sym e i) (sym n i))))
+      ∙ ap (λ rest. (b.now, t) ∷ rest) (sym (from_next u f w))
+
+pub latest_all : (store : Store) (old new : Walk) → old ≡ walk_after store None → (account network : Bor (List ℕ)) (u : Next) → IsNext account network (history_in old.store) old.last u → HasWalked old new account network u → latest_from (history_in new.store) (next_of u) ≡ latest_in (history_in store) account.now network.now
+latest_all store old new is account network u f w =
+    from_next old new account network u f w
+    ∙ (λ i. map (with_moment (history_in (is i).store)) (filter (is_past (is i).last) (network_buffers (history_in (is i).store) account.now network.now)))
+    ∙ ap (map (with_moment (history_in store))) (filter_all (network_buffers (history_in store) account.now network.now))

@@ -1,48 +1,57 @@
 //! The buffers of an account on a network, each with its latest moment. They take no memory.
 
-ghost use Rattle.std.specs.Prelude.{◌≡◌, length};
+ghost use Rattle.std.specs.Prelude.{◌≡◌, Some, IfSome, length};
 ghost use Rattle.std.specs.Iterator.{at_most};
 ghost use Rattle.std.specs.Map.Iter.{TakesFirst};
+ghost use Rattle.std.specs.Option.{option_map};
+ghost use Rattle.chat_change.specs.Order.{buffer_cmp};
+ghost use Rattle.chat_history.specs.Choice.{IsFirst};
 ghost use Rattle.chat_history.specs.Latest.{latest_moment, latest_in};
+ghost use Rattle.chat_store.specs.Sought.{all_past, walk_after};
 ghost use Rattle.chat_store.specs.Store.{history_in};
 
 use crate::lookups::first_moment;
 use crate::state::State;
 use chat_change::{Buffer, Moment};
-use chat_history::Cut;
-use chat_store::{Sought, Store};
+use chat_store::{BufferWalk, Sought};
 use std::marker::Model;
 
 /// Buffers that have a visible record, each with the moment of its latest, by target. It is seen as the list of what is
 /// left.
 #[derive(Drop)]
 pub struct Latest<'a> {
-    store: &'a Store,
-    next: Option<&'a Buffer>,
+    walk: BufferWalk<'a>,
+    next: Option<(&'a Buffer, Moment)>,
 }
 
 impl<'a> Model for Latest<'a> {
     ghost use Rattle.std.specs.Prelude.{List, ℕ};
     ghost use Rattle.chat_change.specs.Buffer as spec;
-    ghost use Rattle.chat_state.specs.Latest.{latest_from, IsAtBuffer};
+    ghost use Rattle.chat_state.specs.Latest.{latest_from, next_of, IsAtBuffer};
     ghost use Rattle.chat_store.specs.Store.{history_in};
 
     ghost Value = { List (spec.Buffer × ℕ) };
 
-    ghost view = { λ l. latest_from (history_in l.store.now) l.next };
+    ghost view = { λ l. latest_from (history_in l.walk.store) (next_of l.next) };
 
-    ghost invariant = { λ l. IsAtBuffer (history_in l.store.now) l.next };
+    ghost invariant = { λ l. IsAtBuffer (history_in l.walk.store) l.walk.last l.next };
 }
 
-// The moment of the latest record of a buffer.
-fn latest_moment(store: &Store, buffer: &Buffer) -> Moment
-    ensures { result ≡ latest_moment (history_in store.now) buffer.now }
+// The next buffer of which a record is sought, with the moment of its latest.
+fn next_latest<'a>(walk: &mut BufferWalk<'a>, sought: &Sought<'_>) -> Option<(&'a Buffer, Moment)>
+    ensures first { IsFirst buffer_cmp (all_past sought.now walk.old.last
+        (history_in walk.old.store)) (option_map (λ found. found.0.now) result) }
+    ensures moment { IfSome result (λ found.
+        found.1 ≡ latest_moment (history_in walk.old.store) found.0.now) }
+    ensures walked { IfSome result (λ found.
+        walk.new ≡ walk_after walk.old.store (Some found.0.now)) }
 {
-    let mut newest = store.down(buffer, &Cut::Top);
-    match newest.next() {
+    let (buffer, mut newest) = walk.next_sought(sought)?;
+    let at = match newest.next() {
         Some(post) => post.at(),
         None => first_moment(),
-    }
+    };
+    Some((buffer, at))
 }
 
 impl<'a> Iterator for Latest<'a> {
@@ -53,11 +62,13 @@ impl<'a> Iterator for Latest<'a> {
     ghost remaining = { λ s. at_most (length s) };
 
     fn next(&mut self) -> Option<(&'a Buffer, Moment)> {
-        let buffer = self.next?;
-        let moment = latest_moment(self.store, buffer);
+        let Some((buffer, at)) = &self.next else {
+            return None;
+        };
+        let (buffer, at) = (*buffer, *at);
         let network = Sought::OfNetwork(buffer.account(), buffer.network());
-        self.next = self.store.next_buffer(&network, &Some(buffer));
-        Some((buffer, moment))
+        self.next = next_latest(&mut self.walk, &network);
+        Some((buffer, at))
     }
 }
 
@@ -66,8 +77,8 @@ impl State {
     pub fn latest(&self, account: &[u8], network: &[u8]) -> Latest<'_>
         ensures { result ≡ latest_in self.now.history account.now network.now }
     {
-        let store = &self.store;
-        let next = store.next_buffer(&Sought::OfNetwork(account, network), &None);
-        Latest { store, next }
+        let mut walk = self.store.walk();
+        let next = next_latest(&mut walk, &Sought::OfNetwork(account, network));
+        Latest { walk, next }
     }
 }

@@ -44,12 +44,11 @@ fn floors_at(alloc: Global, store: &Store, at: Moment) -> Result<Vec<Change>, No
     ensures { IfOk result (λ floors. floors.items ≡ spec.floors_at (history_in store.now) at) }
 {
     let mut floors = Vec::new(alloc);
-    let mut last: Option<&Buffer> = None;
-    while let Some(buffer) = store.next_buffer(&Sought::Outdated(at), &last) {
+    let mut walk = store.walk();
+    while let Some((buffer, _)) = walk.next_sought(&Sought::Outdated(at)) {
         if !push_floor(&mut floors, buffer, at) {
             return Err(NoMemory);
         }
-        last = Some(buffer);
     }
     Ok(floors)
 }

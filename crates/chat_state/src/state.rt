@@ -74,8 +74,8 @@ impl State {
         taken
     }
 
-    // Takes a change that is lent, and shares its texts.
-    pub(crate) fn absorb_copy(&mut self, change: &ChangeRef<'_>) -> Result<bool, StateFault>
+    /// The same of a change that is lent, whose texts it shares.
+    pub fn absorb_copy(&mut self, change: &ChangeRef<'_>) -> Result<bool, StateFault>
         ensures ok { OnOk result (self.new.history
             ≡ history_with self.old (change_of change.now ∷ [])) }
         ensures changed { IfOk result (λ b. IsTrue b ↔ (self.new.history ≢ self.old.history)) }

@@ -64,8 +64,9 @@ fn form_of_post(store: &Store, post: &Record) -> Option<Form>
     ensures { option_map (spec.piece_in (value.Post post.now)) result ≡
         spec.form store.now (value.Post post.now) }
 {
-    let floor = store.floor_ms(&Extent::Buffer(post.buffer()));
-    let counts = match store.message(post.buffer(), post.id()) {
+    let found = store.floor_and_message(post.buffer(), post.id());
+    let floor = found.floor_ms;
+    let counts = match found.message {
         None => floor <= post.at().ms(),
         Some(MessageRef::Kept(old)) => goes_before(post, old),
         Some(MessageRef::Gone(named)) => {
@@ -88,8 +89,9 @@ fn form_of_redaction(
     ensures { option_map (spec.piece_in (value.Redact buffer.now id.now at.now)) result ≡
         spec.form store.now (value.Redact buffer.now id.now at.now) }
 {
-    let floor = store.floor_ms(&Extent::Buffer(buffer));
-    match store.message(buffer, id) {
+    let found = store.floor_and_message(buffer, id);
+    let floor = found.floor_ms;
+    match found.message {
         None => Some(Form::Gone(at_or_above(floor, *at))),
         Some(MessageRef::Kept(old)) => {
             let stood = Some(old.at());

@@ -16,7 +16,7 @@ mod piece_name;
 mod store;
 mod walk;
 
-pub use chat_buffers::{Down, MessageRef, Sought, Up};
+pub use chat_buffers::{BufferWalk, Down, FloorAndMessage, MessageRef, Sought, Up};
 pub use chat_change::ChangeRef;
 pub use form::{Form, form_of, piece_in};
 pub use piece::Piece;

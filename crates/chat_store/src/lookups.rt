@@ -1,22 +1,19 @@
 //! What is looked up in the maps, and searched in them.
 
-ghost use Rattle.std.specs.Prelude.{◌≡◌, IfSome, reverse};
-ghost use Rattle.std.specs.Map.Iter.{deref};
+ghost use Rattle.std.specs.Prelude.{◌≡◌, None, IfSome, reverse};
 ghost use Rattle.std.specs.Option.{option_map};
 ghost use Rattle.chat_change.specs.Buffer.{buffer_of};
-ghost use Rattle.chat_change.specs.Extent.{value_of};
+ghost use Rattle.chat_change.specs.Extent.{OfBuffer, value_of};
 ghost use Rattle.chat_change.specs.Key as key;
-ghost use Rattle.chat_change.specs.Order.{buffer_cmp};
 ghost use Rattle.chat_change.specs.declared.change.Change.TheVariants as value;
-ghost use Rattle.chat_history.specs.Choice.{IsFirst};
 ghost use Rattle.chat_history.specs.Cut.{after, before};
 ghost use Rattle.chat_history.specs.Visible.{records_in};
+ghost use Rattle.chat_buffers.specs.BufferWalk.{walk_after};
 ghost use Rattle.chat_buffers.specs.MessageRef.{message_change, IsMessageOf};
-ghost use Rattle.chat_buffers.specs.Sought.{all_past};
 ghost use Rattle.chat_buffers.specs.Store as spec;
 
 use crate::store::Store;
-use chat_buffers::{Down, MessageRef, Sought, Up};
+use chat_buffers::{BufferWalk, Down, FloorAndMessage, MessageRef, Up};
 use chat_change::{Buffer, Extent, Moment, MsgId};
 use chat_history::Cut;
 
@@ -70,6 +67,16 @@ impl Store {
         self.buffers.message(buffer, id)
     }
 
+    /// The floor in force in a buffer, and what is held of a message there, by one search for the buffer.
+    pub fn floor_and_message(&self, buffer: &Buffer, id: &MsgId) -> FloorAndMessage<'_>
+        ensures floor { result.floor_ms ≡ spec.floor_in self.now (OfBuffer buffer.now) }
+        ensures held { spec.change_at self.now (key.MessageOf buffer.now id.now) ≡
+            option_map (message_change buffer.now id.now) result.message }
+        ensures bears { IfSome result.message (IsMessageOf buffer.now id.now) }
+    {
+        self.buffers.floor_and_message(buffer, id)
+    }
+
     /// What is held of the message of that id in the buffer of these names, if anything. It takes no memory, and goes
     /// through the buffers and the ids of that buffer one by one.
     pub fn find_message(
@@ -101,15 +108,10 @@ impl Store {
         self.buffers.down(buffer, cut)
     }
 
-    /// The lowest buffer after the last one of which a record is sought. It takes no memory.
-    pub fn next_buffer<'a>(
-        &'a self,
-        sought: &Sought<'_>,
-        last: &Option<&Buffer>,
-    ) -> Option<&'a Buffer>
-        ensures { IsFirst buffer_cmp (all_past sought.now (option_map deref last.now)
-            (spec.history_in self.now)) (option_map deref result) }
+    /// A walk over the buffers, in their order. It takes no memory.
+    pub fn walk(&self) -> BufferWalk<'_>
+        ensures { result ≡ walk_after self.now None }
     {
-        self.buffers.next_buffer(sought, last)
+        self.buffers.walk()
     }
 }

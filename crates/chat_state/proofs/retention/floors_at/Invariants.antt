@@ -1,7 +1,5 @@
-use Rattle.std.proofs.Common.{length}
+use Rattle.std.proofs.Common.{◌≡◌, length}
 use Rattle.std.specs.List.{filter}
-use Rattle.std.specs.Option.{option_map}
-use Rattle.std.specs.Map.Iter.{deref}
 use Rattle.chat_change.specs.Buffer.{Buffer}
 use Rattle.chat_change.specs.declared.change.Change.TheVariants.{Floor}
 use Rattle.chat_store.specs.Sought.{Outdated}
@@ -12,8 +10,10 @@ use Rattle.chat_state.proofs.retention.floors_at.Given as goal
 
 -- the floors so far, and those of the buffers that come after the last one
 abbrev pub invariant-loop-buffer : goal.invariant-loop-buffer
-invariant-loop-buffer l = IsMade (λ (b : Buffer). Floor b l.at) (sought_buffers (Outdated l.at) (history_in l.store)) l.floors.items (option_map deref l.last)
+invariant-loop-buffer l =
+    IsMade (λ (b : Buffer). Floor b l.at) (sought_buffers (Outdated l.at) (history_in l.store)) l.floors.items l.walk.last
+    × (l.walk.store ≡ l.store)
 
 -- the buffers that come after the last one
 abbrev pub decreases-loop-buffer : goal.decreases-loop-buffer
-decreases-loop-buffer l = length (filter (is_past (option_map deref l.last)) (sought_buffers (Outdated l.at) (history_in l.store)))
+decreases-loop-buffer l = length (filter (is_past l.walk.last) (sought_buffers (Outdated l.at) (history_in l.store)))

@@ -1,14 +1,16 @@
-use Rattle.std.proofs.Common.{None, ◌∙◌, ap}
+use Rattle.std.proofs.Common.{◌∙◌, ap}
 use Rattle.chat_history.specs.StateValue.{StateValue}
 use Rattle.chat_history.specs.Latest.{latest_in}
-use Rattle.chat_store.specs.Store.{history_in}
-use Rattle.chat_state.proofs.LatestLemmas.{at_buffer, latest_all}
+use Rattle.chat_state.proofs.LatestLemmas.{at_next, latest_all}
 use Rattle.chat_state.proofs.state.State.latest.Goals as goal
 
 pub invariant_of-result : goal.invariant_of-result
-invariant_of-result c = at_buffer (history_in c.self.inside.store) c.args.account c.args.network None c.next_buffer-next.result c.next_buffer-next.ensures
+invariant_of-result c =
+    let next = c.next_latest-next in
+    at_next c.walk-walk.result next.new.walk c.args.account c.args.network next.result next.ensures.first next.ensures.moment next.ensures.walked
 
 pub returns : goal.returns
 returns c =
-    latest_all (history_in c.self.inside.store) c.args.account c.args.network c.next_buffer-next.result c.next_buffer-next.ensures
+    let next = c.next_latest-next in
+    latest_all c.self.inside.store c.walk-walk.result next.new.walk c.walk-walk.ensures c.args.account c.args.network next.result next.ensures.first next.ensures.walked
     ∙ ap (λ (s : StateValue). latest_in s.history c.args.account.now c.args.network.now) c.self.view_is

@@ -1,0 +1,89 @@
+use Rattle.std.proofs.Common.{◌∙◌, sym, ap, subst, reverse, Some, None, Option}
+use Rattle.std.specs.Map.Iter.{deref}
+use Rattle.std.specs.Option.{option_map}
+use Rattle.chat_change.specs.Buffer.{Buffer}
+use Rattle.chat_change.specs.Order.{buffer_cmp}
+use Rattle.chat_history.specs.Choice.{IsFirst}
+use Rattle.chat_history.specs.Visible.{records_in}
+use Rattle.chat_buffers.specs.Ahead.{Entries, IsAhead}
+use Rattle.chat_buffers.specs.BufferWalk.{Walk, walk_after}
+use Rattle.chat_buffers.specs.Sought.{all_past}
+use Rattle.chat_buffers.specs.Store.{Store, history_in}
+use Rattle.chat_buffers.proofs.SoughtLemmas.{IsLeft, ahead_left, ahead_step, newest_here, nothing_left, all_behind, of_one_buffer, passed_over, found_first}
+use Rattle.chat_buffers.proofs.buffer_walk.BufferWalk.next_sought.Goals as goal
+
+pub loop-buffer-init : goal.loop-buffer-init
+loop-buffer-init c =
+    let h = history_in c.self.inside.buffers.now in
+    let s = c.args.sought.now in (
+      c.self.invariant,
+      subst (λ (w : Walk). IsLeft h s w.last c.self.inside.later) c.self.view_is
+          (ahead_left h s (option_map deref c.self.inside.last) c.self.inside.later c.self.invariant),
+      sym (ap (λ (w : Walk). w.store) c.self.view_is),
+    )
+
+pub loop-buffer-preserved : goal.loop-buffer-preserved
+loop-buffer-preserved c =
+    let h = history_in c.loop-buffer.self-inside.buffers.now in
+    let s = c.args.sought.now in
+    let from = c.args.self.now.last in
+    let last : Option Buffer = option_map deref c.loop-buffer.self-inside.last in
+    let ahead = subst (λ (es : Entries). IsAhead h last es) c.in-Some.ensures.steps c.loop-buffer.invariant.0 in
+    let left = subst (λ (es : Entries). IsLeft h s from es) c.in-Some.ensures.steps c.loop-buffer.invariant.1 in
+    let one = of_one_buffer h s from c.in-Some.buffer.now c.in-Some.held.now c.next.new.self left in (
+      ahead_step h last c.in-Some.buffer.now c.in-Some.held.now c.next.new.self ahead,
+      passed_over h s from c.in-Some.buffer.now c.in-Some.held.now c.next.new.self left (c.is_any_sought.ensures.none c.if-is_any_sought.false one),
+      c.loop-buffer.invariant.2,
+    )
+
+pub invariant_of-self : goal.invariant_of-self
+invariant_of-self c =
+    let h = history_in c.loop-buffer.self-inside.buffers.now in
+    let last : Option Buffer = option_map deref c.loop-buffer.self-inside.last in
+    let ahead = subst (λ (es : Entries). IsAhead h last es) c.in-Some.ensures.steps c.loop-buffer.invariant.0 in
+    ahead_step h last c.in-Some.buffer.now c.in-Some.held.now c.next.new.self ahead
+
+pub returns-then-is_behind-clause-first : goal.returns-then-is_behind-clause-first
+returns-then-is_behind-clause-first c =
+    let h = history_in c.loop-buffer.self-inside.buffers.now in
+    let s = c.args.sought.now in
+    let from = c.args.self.now.last in
+    let left = subst (λ (es : Entries). IsLeft h s from es) c.in-Some.ensures.steps c.loop-buffer.invariant.1 in
+    subst (λ (x : Store). IsFirst buffer_cmp (all_past s from (history_in x)) None) (sym c.loop-buffer.invariant.2)
+    (all_behind h s from c.in-Some.buffer.now c.in-Some.held.now c.next.new.self left (sym c.is_behind.ensures ∙ c.if-is_behind.true))
+
+pub invariant_of-self-then-is_any_sought : goal.invariant_of-self-then-is_any_sought
+invariant_of-self-then-is_any_sought c =
+    let h = history_in c.loop-buffer.self-inside.buffers.now in
+    let last : Option Buffer = option_map deref c.loop-buffer.self-inside.last in
+    let ahead = subst (λ (es : Entries). IsAhead h last es) c.in-Some.ensures.steps c.loop-buffer.invariant.0 in
+    ahead_step h last c.in-Some.buffer.now c.in-Some.held.now c.next.new.self ahead
+
+pub returns-then-is_any_sought-clause-first : goal.returns-then-is_any_sought-clause-first
+returns-then-is_any_sought-clause-first c =
+    let h = history_in c.loop-buffer.self-inside.buffers.now in
+    let s = c.args.sought.now in
+    let from = c.args.self.now.last in
+    let left = subst (λ (es : Entries). IsLeft h s from es) c.in-Some.ensures.steps c.loop-buffer.invariant.1 in
+    subst (λ (x : Store). IsFirst buffer_cmp (all_past s from (history_in x)) (Some c.in-Some.buffer.now)) (sym c.loop-buffer.invariant.2)
+    (found_first h s from c.in-Some.buffer.now c.in-Some.held.now c.next.new.self left (c.is_any_sought.ensures.some c.if-is_any_sought.true))
+
+pub returns-then-is_any_sought-clause-records : goal.returns-then-is_any_sought-clause-records
+returns-then-is_any_sought-clause-records c =
+    let h = history_in c.loop-buffer.self-inside.buffers.now in
+    let last : Option Buffer = option_map deref c.loop-buffer.self-inside.last in
+    let ahead = subst (λ (es : Entries). IsAhead h last es) c.in-Some.ensures.steps c.loop-buffer.invariant.0 in
+    newest_here h last c.in-Some.buffer.now c.in-Some.held.now c.next.new.self ahead c.down.result c.down.ensures
+    ∙ ap (λ (x : Store). reverse (records_in (history_in x) c.in-Some.buffer.now)) (sym c.loop-buffer.invariant.2)
+
+pub returns-then-is_any_sought-clause-walked : goal.returns-then-is_any_sought-clause-walked
+returns-then-is_any_sought-clause-walked c =
+    ap (λ (x : Store). walk_after x (Some c.in-Some.buffer.now)) (sym c.loop-buffer.invariant.2)
+
+pub returns-clause-first : goal.returns-clause-first
+returns-clause-first c =
+    let h = history_in c.loop-buffer.self-inside.buffers.now in
+    let s = c.args.sought.now in
+    let from = c.args.self.now.last in
+    subst (λ (x : Store). IsFirst buffer_cmp (all_past s from (history_in x)) None) (sym c.loop-buffer.invariant.2)
+    (nothing_left h s from (subst (λ (es : Entries). IsLeft h s from es) c.in_default.ensures.steps.0 c.loop-buffer.invariant.1))

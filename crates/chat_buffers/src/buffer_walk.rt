@@ -1,0 +1,82 @@
+//! A walk over the buffers of which certain records are held, which takes no memory.
+
+ghost use Rattle.std.specs.Prelude.{◌≡◌, Some, None, reverse, IfSome};
+ghost use Rattle.std.specs.Option.{option_map};
+ghost use Rattle.chat_change.specs.Order.{buffer_cmp};
+ghost use Rattle.chat_history.specs.Choice.{IsFirst};
+ghost use Rattle.chat_history.specs.Visible.{records_in};
+ghost use Rattle.chat_buffers.specs.BufferWalk.{walk_after};
+ghost use Rattle.chat_buffers.specs.Sought.{all_past};
+ghost use Rattle.chat_buffers.specs.Store.{history_in};
+
+use crate::buffers::Buffers;
+use crate::held::Held;
+use crate::sought::Sought;
+use crate::walk::Down;
+use chat_change::Buffer;
+use chat_history::Cut;
+use std::collections::btree_map::Range;
+use std::marker::Model;
+
+/// A walk over the buffers of a store, in their order. Contracts see the store, and the buffer that it has come to.
+#[derive(Drop)]
+pub struct BufferWalk<'a> {
+    buffers: &'a Buffers,
+    last: Option<&'a Buffer>,
+    // those after the last one
+    later: Range<'a, Buffer, Held>,
+}
+
+impl<'a> Model for BufferWalk<'a> {
+    ghost use Rattle.std.specs.Option.{option_map};
+    ghost use Rattle.std.specs.Map.Iter.{deref};
+    ghost use Rattle.chat_buffers.specs.Ahead.{IsAhead};
+    ghost use Rattle.chat_buffers.specs.BufferWalk.{Walk, walk_after, coded_walk};
+    ghost use Rattle.chat_buffers.specs.Store.{history_in};
+
+    ghost Value = { Walk };
+
+    ghost coded = { coded_walk };
+
+    ghost view = { λ w. walk_after w.buffers.now (option_map deref w.last) };
+
+    ghost invariant = { λ w. IsAhead (history_in w.buffers.now) (option_map deref w.last) w.later };
+}
+
+impl Buffers {
+    /// A walk over all buffers.
+    pub fn walk(&self) -> BufferWalk<'_>
+        ensures { result ≡ walk_after self.now None }
+    {
+        BufferWalk {
+            buffers: self,
+            last: None,
+            later: self.held.range(..),
+        }
+    }
+}
+
+impl<'a> BufferWalk<'a> {
+    /// The next buffer of which a record is sought, and its visible records by falling (moment, id). It takes no memory.
+    ///
+    /// It goes past the buffers up to that one, or past the last of the account's on the network.
+    pub fn next_sought(&mut self, sought: &Sought<'_>) -> Option<(&'a Buffer, Down<'a>)>
+        ensures first { IsFirst buffer_cmp (all_past sought.now self.old.last
+            (history_in self.old.store)) (option_map (λ found. found.0.now) result) }
+        ensures records { IfSome result (λ found.
+            found.1 ≡ reverse (records_in (history_in self.old.store) found.0.now)) }
+        ensures walked { IfSome result (λ found.
+            self.new ≡ walk_after self.old.store (Some found.0.now)) }
+    {
+        while let Some((buffer, held)) = self.later.next() {
+            self.last = Some(buffer);
+            if sought.is_behind(buffer) {
+                return None;
+            }
+            if sought.is_any_sought(&held.messages) {
+                return Some((buffer, held.messages.down(&Cut::Top)));
+            }
+        }
+        None
+    }
+}
