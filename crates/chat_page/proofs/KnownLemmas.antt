@@ -1,5 +1,5 @@
 -- Which queries have a page.
-use Rattle.std.proofs.Common.{◌≡◌, ◌∙◌, ℕ, Option, Some, None, List, true, false, min, refl, sym, ap}
+use Rattle.std.proofs.Common.{◌≡◌, ◌∙◌, ℕ, Option, Some, None, List, true, refl, sym, ap}
 use Rattle.std.specs.Prelude.{◌&&◌, is_some}
 use Rattle.std.specs.Option.{option_map, option_and_then}
 use Rattle.chat_change.specs.Buffer.{Buffer}

@@ -59,8 +59,10 @@ impl<'a> ListedBuffer<'a> {
     fn order(&self, other: &ListedBuffer<'_>) -> Ordering
         ensures { result ≡ spot_cmp self.now other.now }
     {
-        let target = self.target.cmp(other.target);
-        self.at.ms().cmp(&other.at.ms()).then(target)
+        match self.at.ms().cmp(&other.at.ms()) {
+            Ordering::Equal => self.target.cmp(other.target),
+            by_moment => by_moment,
+        }
     }
 }
 
