@@ -5,6 +5,7 @@ mod TestLemmas
 mod WordsLemmas
 mod NumberLemmas
 mod PostLineLemmas
+mod MakingLemmas
 mod ReadBackLemmas
 mod SpellingLemmas
 pub mod CallerLemmas

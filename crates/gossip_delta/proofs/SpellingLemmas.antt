@@ -14,7 +14,7 @@ use Rattle.gossip_delta.specs.Number.{moment_of}
 use Rattle.gossip_delta.specs.PostLine.{post_fields, has_post_form, post_in, post_word, post_words}
 use Rattle.gossip_delta.specs.ChangeLine.{BufferFields, buffer_fields, has_names, has_form, named_moment, is_folded_byte, is_folded, is_buffer, buffer_named, redaction_with, change_in, change_kind, or_bad_field, fields_change, kind_change, account_floor_in, account_floor_change, words_change, read_change}
 use Rattle.chat_change.specs.Lawful.{IsLawfulChange}
-use Rattle.gossip_delta.specs.ChangeText.{buffer_words, account_words, moment_text, line_of}
+use Rattle.gossip_delta.specs.ChangeText.{buffer_words, moment_text, line_of}
 use Rattle.gossip_delta.specs.declared.fault.ChangeLineFault.{ChangeLineFault}
 use Rattle.gossip_delta.specs.declared.fault.ChangeLineFault.TheVariants.{BadForm, NoMemory}
 use Rattle.gossip_delta.specs.declared.fields.ChangeKind.{ChangeKind}

@@ -127,3 +127,7 @@ record_of b p = record {
   tags = p.tags.now;
   message = message.value_of p.message;
 }
+
+-- whether makers refuse none of these parts
+abbrev pub are_lawful : PostParts → Bool
+are_lawful p = is_id p.id.now && may_be_tags p.tags.now && is_message (message.value_of p.message)

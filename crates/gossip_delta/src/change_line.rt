@@ -1,15 +1,17 @@
 //! Reading the line of a change.
-ghost use Rattle.std.specs.Prelude.{◌≡◌, true, Ok, IfOk, IfErr};
+ghost use Rattle.std.specs.Prelude.{◌≡◌, true, Some, Ok, IfOk, IfErr};
+ghost use Rattle.std.specs.Option.{option_map};
 ghost use Rattle.chat_change.specs.declared.change.Change.TheVariants as change;
 ghost use Rattle.gossip_delta.specs.ChangeLine as spec;
 ghost use Rattle.gossip_delta.specs.BufferFields as fields;
-ghost use Rattle.gossip_delta.specs.PostLine.{record_of};
+ghost use Rattle.gossip_delta.specs.Making.{IsMakersAnswer};
+ghost use Rattle.gossip_delta.specs.PostLine.{record_of, if_lawful};
 ghost use Rattle.gossip_delta.specs.Reading.{change_of};
 
 use crate::fault::ChangeLineFault;
 use crate::fields::BufferFields;
 use crate::post_line::{PostParts, new_id, new_record};
-use crate::reading::{Reading, read_line};
+use crate::reading::{Reading, is_lawful, read_line};
 use byte_text::NoMemory;
 use chat_change::{Account, Buffer, Change, Moment};
 use std::alloc::Global;
@@ -65,8 +67,8 @@ fn new_redaction(
     buffer: Buffer,
     id: &[u8],
     at: Option<Moment>,
-) -> Result<Change, NoMemory>
-    ensures { IfOk result (λ made. made ≡ change.Redact buffer id.now at) }
+) -> Result<Change, ChangeLineFault>
+    ensures { IsMakersAnswer (spec.redaction_with buffer id.now (Some at)) result }
 {
     match new_id(alloc, id) {
         Ok(id) => Ok(Change::Redact { buffer, id, at }),
@@ -74,8 +76,9 @@ fn new_redaction(
     }
 }
 
-fn new_post(alloc: Global, buffer: Buffer, post: &PostParts<'_>) -> Result<Change, NoMemory>
-    ensures { IfOk result (λ made. made ≡ change.Post (record_of buffer post.now)) }
+fn new_post(alloc: Global, buffer: Buffer, post: &PostParts<'_>) -> Result<Change, ChangeLineFault>
+    ensures { IsMakersAnswer
+        (option_map change.Post (if_lawful (record_of buffer post.now))) result }
 {
     match new_record(alloc, buffer, post) {
         Ok(post) => Ok(Change::Post(post)),
@@ -88,13 +91,13 @@ fn post_for(
     known: Option<&Buffer>,
     b: BufferFields<'_>,
     post: &PostParts<'_>,
-) -> Result<Change, NoMemory>
-    ensures { IfOk result (λ made. made
-        ≡ change.Post (record_of (spec.buffer_named (fields.value_of b.entry)) post.now)) }
+) -> Result<Change, ChangeLineFault>
+    ensures { IsMakersAnswer (option_map change.Post
+        (if_lawful (record_of (spec.buffer_named (fields.value_of b.entry)) post.now))) result }
 {
     match buffer_for(alloc, known, b) {
         Ok(buffer) => new_post(alloc, buffer, post),
-        Err(fault) => Err(fault),
+        Err(NoMemory) => Err(ChangeLineFault::NoMemory),
     }
 }
 
@@ -104,13 +107,13 @@ fn redaction_for(
     b: BufferFields<'_>,
     id: &[u8],
     at: Option<Moment>,
-) -> Result<Change, NoMemory>
-    ensures { IfOk result (λ made. made
-        ≡ change.Redact (spec.buffer_named (fields.value_of b.entry)) id.now at) }
+) -> Result<Change, ChangeLineFault>
+    ensures { IsMakersAnswer (spec.redaction_with
+        (spec.buffer_named (fields.value_of b.entry)) id.now (Some at)) result }
 {
     match buffer_for(alloc, known, b) {
         Ok(buffer) => new_redaction(alloc, buffer, id, at),
-        Err(fault) => Err(fault),
+        Err(NoMemory) => Err(ChangeLineFault::NoMemory),
     }
 }
 
@@ -119,13 +122,13 @@ fn mark_for(
     known: Option<&Buffer>,
     b: BufferFields<'_>,
     at: Moment,
-) -> Result<Change, NoMemory>
-    ensures { IfOk result (λ made. made
-        ≡ change.Mark (spec.buffer_named (fields.value_of b.entry)) at) }
+) -> Result<Change, ChangeLineFault>
+    ensures { IsMakersAnswer
+        (Some (change.Mark (spec.buffer_named (fields.value_of b.entry)) at)) result }
 {
     match buffer_for(alloc, known, b) {
         Ok(buffer) => Ok(Change::Mark { buffer, at }),
-        Err(fault) => Err(fault),
+        Err(NoMemory) => Err(ChangeLineFault::NoMemory),
     }
 }
 
@@ -134,33 +137,33 @@ fn floor_for(
     known: Option<&Buffer>,
     b: BufferFields<'_>,
     at: Moment,
-) -> Result<Change, NoMemory>
-    ensures { IfOk result (λ made. made
-        ≡ change.Floor (spec.buffer_named (fields.value_of b.entry)) at) }
+) -> Result<Change, ChangeLineFault>
+    ensures { IsMakersAnswer
+        (Some (change.Floor (spec.buffer_named (fields.value_of b.entry)) at)) result }
 {
     match buffer_for(alloc, known, b) {
         Ok(buffer) => Ok(Change::Floor { buffer, at }),
-        Err(fault) => Err(fault),
+        Err(NoMemory) => Err(ChangeLineFault::NoMemory),
     }
 }
 
 // The maker refuses nothing here, since the name is an account's: it can only want memory.
-fn account_floor_for(alloc: Global, account: &[u8], at: Moment) -> Result<Change, NoMemory>
-    ensures { IfOk result (λ made. made ≡ change.AccountFloor account.now at) }
+fn account_floor_for(alloc: Global, account: &[u8], at: Moment) -> Result<Change, ChangeLineFault>
+    ensures { IsMakersAnswer (Some (change.AccountFloor account.now at)) result }
 {
     match Account::new(alloc, account) {
         Ok(account) => Ok(Change::AccountFloor { account, at }),
-        Err(_) => Err(NoMemory),
+        Err(_) => Err(ChangeLineFault::NoMemory),
     }
 }
 
-// The change that a line says, made in memory of its own.
+// The change that a line says, made in memory of its own, if the makers refuse none of its parts.
 fn change_for(
     alloc: Global,
     known: Option<&Buffer>,
     reading: &Reading<'_>,
-) -> Result<Change, NoMemory>
-    ensures { IfOk result (λ made. made ≡ change_of reading.now) }
+) -> Result<Change, ChangeLineFault>
+    ensures { IsMakersAnswer (change_of reading.now) result }
 {
     match reading {
         Reading::Post { names, post } => post_for(alloc, known, *names, post),
@@ -171,12 +174,22 @@ fn change_for(
     }
 }
 
+// Why no change was made for want of memory. The makers may not have seen all parts by then.
+fn fault_without_memory(reading: &Reading<'_>) -> ChangeLineFault
+    ensures { result ≡ spec.fault_or_no_memory (spec.or_bad_field (change_of reading.now)) }
+{
+    if is_lawful(reading) {
+        ChangeLineFault::NoMemory
+    } else {
+        ChangeLineFault::BadField
+    }
+}
+
 /// The change that a line spells. The line stands without its ending.
 ///
 /// Fields stand exactly one space apart, numbers have no leading zeros, and the target of the buffer stands folded, so
 /// that a change has one line ([`changes_have_one_spelling`](crate::laws::changes_have_one_spelling)). The form of the
-/// line is checked before its fields, and both before memory is asked for: [`ChangeLineFault::NoMemory`] comes only of a
-/// line that spells a change.
+/// line is checked before its fields, and [`ChangeLineFault::NoMemory`] comes only of a line that spells a change.
 pub fn read_change(alloc: Global, line: &[u8]) -> Result<Change, ChangeLineFault>
     ensures made { IfOk result (λ change. spec.read_change line.now ≡ Ok change) }
     ensures refused { IfErr result
@@ -200,7 +213,8 @@ pub fn read_change_in(
         Err(fault) => Err(fault),
         Ok(reading) => match change_for(alloc, known, &reading) {
             Ok(change) => Ok(change),
-            Err(_) => Err(ChangeLineFault::NoMemory),
+            Err(ChangeLineFault::NoMemory) => Err(fault_without_memory(&reading)),
+            Err(fault) => Err(fault),
         },
     }
 }

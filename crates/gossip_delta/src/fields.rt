@@ -1,10 +1,9 @@
-//! The fields of a line that spells a change, and their form.
+//! The words of a line that spells a change, up to the names of its buffer.
 ghost use Rattle.std.specs.Prelude.{◌≡◌};
 ghost use Rattle.gossip_delta.specs.ChangeLine as spec;
 ghost use Rattle.gossip_delta.specs.BufferFields as fields;
 
-use crate::post_line::{has_post_form, post_fields};
-use crate::words::{is_filled, is_last_word, is_text, split_word};
+use crate::words::{is_filled, is_text, split_word};
 
 /// What a change in a buffer does, which the second word of its line says.
 #[derive(Clone, Copy)]
@@ -64,24 +63,4 @@ pub(crate) fn has_names(b: BufferFields<'_>) -> bool
     ensures { result ≡ spec.has_names (fields.value_of b.entry) }
 {
     is_filled(b.account) && is_filled(b.network) && is_filled(b.target)
-}
-
-fn has_redaction_form(rest: &[u8]) -> bool
-    ensures { result ≡ spec.has_form ChangeKind.Redact rest.now }
-{
-    let (id, at) = split_word(rest);
-    is_filled(id) && is_last_word(at)
-}
-
-/// Whether what stands behind the names has the form that the kind of change wants.
-pub(crate) fn has_form(kind: ChangeKind, rest: &[u8]) -> bool
-    ensures { result ≡ spec.has_form kind rest.now }
-{
-    match kind {
-        ChangeKind::Post => has_post_form(false, post_fields(false, rest)),
-        ChangeKind::TaggedPost => has_post_form(true, post_fields(true, rest)),
-        ChangeKind::Redact => has_redaction_form(rest),
-        ChangeKind::Mark => is_last_word(rest),
-        ChangeKind::Floor => is_last_word(rest),
-    }
 }

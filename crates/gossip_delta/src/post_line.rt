@@ -1,19 +1,22 @@
 //! The line of a post behind the names of its buffer: its fields as they are read, the parts of the post that they say, and
 //! its words as they are written. What a post has is spelled here alone.
-ghost use Rattle.std.specs.Prelude.{◌≡◌, ◌++◌, ◌∷◌, drop, Some, IfOk};
-ghost use Rattle.std.specs.Option.{option_map};
+ghost use Rattle.std.specs.Prelude.{◌≡◌, ◌++◌, ◌∷◌, drop, None, IfOk, IfErr};
+ghost use Rattle.std.specs.Option.{option_and_then};
 ghost use Rattle.byte_text.specs.Writes.{Writes};
 ghost use Rattle.chat_change.specs.Buffer as buffer;
+ghost use Rattle.chat_change.specs.Faults.{fault_or_no_memory};
 ghost use Rattle.chat_change.specs.Lawful.{IsLawfulRecord};
 ghost use Rattle.chat_change.specs.Message as message;
 ghost use Rattle.chat_change.specs.declared.change.Change.TheVariants as change;
 ghost use Rattle.gossip_delta.specs.Words.{words_text};
 ghost use Rattle.gossip_delta.specs.PostLine as spec;
+ghost use Rattle.gossip_delta.specs.Making as making;
+ghost use Rattle.gossip_delta.specs.Making.{IsMakersAnswer};
 ghost use Rattle.gossip_delta.specs.ChangeText.{line_of, line_end, buffer_words};
 
+use crate::fault::ChangeLineFault;
 use crate::number::moment_of;
 use crate::words::{begins_with, is_filled, is_text, put_line, put_word, put_words, split_word};
-use byte_text::NoMemory;
 use chat_change::{
     Buffer, ChangeFault, Kind, Message, Moment, MsgId, Record, is_id, is_message, is_tags,
 };
@@ -34,7 +37,7 @@ pub(crate) struct PostFields<'a> {
     body: &'a [u8],
 }
 
-/// What a line says of a post. Each part is lawful.
+/// What a line says of a post. Whether its id, its tags and its message are lawful its makers say.
 #[derive(Clone, Copy)]
 pub(crate) struct PostParts<'a> {
     id: &'a [u8],
@@ -126,45 +129,46 @@ fn may_be_tags(tags: &[u8]) -> bool
     !is_filled(tags) || is_tags(tags)
 }
 
-// The post of that kind and moment, if its id, its tags and its message are lawful.
-fn parts_with<'a>(p: PostFields<'a>, kind: Kind, at: Moment) -> Option<PostParts<'a>>
-    ensures { (b : buffer.Buffer) → option_map (spec.record_of b) result
-        ≡ spec.post_with b (spec.value_of p.entry) (Some kind) (Some at) }
+/// The parts of the post that the fields say, if its kind and its moment are such.
+pub(crate) fn post_parts<'a>(p: PostFields<'a>) -> Option<PostParts<'a>>
+    ensures { (b : buffer.Buffer) → option_and_then (λ post. spec.if_lawful (spec.record_of b post))
+        result ≡ spec.post_in b (spec.value_of p.entry) }
 {
-    let message = message_of(p, kind);
-    if is_id(p.id) && may_be_tags(p.tags) && is_message(message) {
-        Some(PostParts {
+    match (message_kind(p.kind), moment_of(p.at)) {
+        (Some(kind), Some(at)) => Some(PostParts {
             id: p.id,
             at,
             tags: p.tags,
-            message,
-        })
-    } else {
-        None
+            message: message_of(p, kind),
+        }),
+        _ => None,
     }
 }
 
-/// The parts of the post that the fields say, if they are lawful.
-pub(crate) fn post_parts<'a>(p: PostFields<'a>) -> Option<PostParts<'a>>
-    ensures { (b : buffer.Buffer) → option_map (spec.record_of b) result
-        ≡ spec.post_in b (spec.value_of p.entry) }
+/// Whether the makers of a post refuse none of these parts.
+pub(crate) fn is_lawful_post(post: &PostParts<'_>) -> bool
+    ensures { result ≡ spec.are_lawful post.now }
 {
-    match message_kind(p.kind) {
-        None => None,
-        Some(kind) => match moment_of(p.at) {
-            None => None,
-            Some(at) => parts_with(p, kind, at),
-        },
+    is_id(post.id) && may_be_tags(post.tags) && is_message(post.message)
+}
+
+// The fault of the line whose part a maker refused.
+fn fault_of(fault: ChangeFault) -> ChangeLineFault
+    ensures { result ≡ making.fault_of fault }
+{
+    match fault {
+        ChangeFault::NoMemory => ChangeLineFault::NoMemory,
+        _ => ChangeLineFault::BadField,
     }
 }
 
-/// The id of that text, which is one: its maker can only want memory.
-pub(crate) fn new_id(alloc: Global, id: &[u8]) -> Result<MsgId, NoMemory>
-    ensures { IfOk result (λ made. made ≡ id.now) }
+/// The id of that text, if it is one.
+pub(crate) fn new_id(alloc: Global, id: &[u8]) -> Result<MsgId, ChangeLineFault>
+    ensures { IsMakersAnswer (making.if_id id.now) result }
 {
     match MsgId::new(alloc, id) {
         Ok(made) => Ok(made),
-        Err(_) => Err(NoMemory),
+        Err(fault) => Err(fault_of(fault)),
     }
 }
 
@@ -175,33 +179,40 @@ fn record_with(
     id: MsgId,
     post: &PostParts<'_>,
 ) -> Result<Record, ChangeFault>
-    ensures { IfOk result (λ made. made ≡ record {
+    ensures made { IfOk result (λ made. made ≡ record {
       buffer = buffer;
       id = id;
       at = post.now.at;
       tags = post.now.tags.now;
       message = message.value_of post.now.message;
     }) }
+    ensures lawful { IfOk result (λ _. making.post_fault post.now.tags.now
+        (message.value_of post.now.message) ≡ None) }
+    ensures refused { IfErr result (λ fault. fault ≡ fault_or_no_memory
+        (making.post_fault post.now.tags.now (message.value_of post.now.message))) }
 {
-    if post.tags.is_empty() {
-        Record::new(alloc, buffer, id, post.at, post.message)
-    } else {
+    if is_filled(post.tags) {
         Record::new_tagged(alloc, buffer, id, post.at, post.message, post.tags)
+    } else {
+        Record::new(alloc, buffer, id, post.at, post.message)
     }
 }
 
-/// The post of the parts. Since they are lawful, its makers can only want memory.
+/// The post of the parts, if they are lawful.
 pub(crate) fn new_record(
     alloc: Global,
     buffer: Buffer,
     post: &PostParts<'_>,
-) -> Result<Record, NoMemory>
-    ensures { IfOk result (λ made. made ≡ spec.record_of buffer post.now) }
+) -> Result<Record, ChangeLineFault>
+    ensures { IsMakersAnswer (spec.if_lawful (spec.record_of buffer post.now)) result }
 {
-    let id = new_id(alloc, post.id)?;
+    let id = match new_id(alloc, post.id) {
+        Ok(id) => id,
+        Err(fault) => return Err(fault),
+    };
     match record_with(alloc, buffer, id, post) {
         Ok(record) => Ok(record),
-        Err(_) => Err(NoMemory),
+        Err(fault) => Err(fault_of(fault)),
     }
 }
 

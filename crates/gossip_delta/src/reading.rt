@@ -1,20 +1,24 @@
 //! What a line says, if it spells a change. No memory is taken: all of it is lent from the line.
-ghost use Rattle.std.specs.Prelude.{◌≡◌};
+ghost use Rattle.std.specs.Prelude.{◌≡◌, ℕ, is_some};
 ghost use Rattle.std.specs.Option.{option_map};
+ghost use Rattle.chat_change.specs.declared.change.Change as value;
 ghost use Rattle.chat_change.specs.declared.change.Change.TheVariants as change;
+ghost use Rattle.gossip_delta.specs.Words as words;
+ghost use Rattle.gossip_delta.specs.Number as numbers;
 ghost use Rattle.gossip_delta.specs.ChangeLine as spec;
 ghost use Rattle.gossip_delta.specs.BufferFields as fields;
 ghost use Rattle.gossip_delta.specs.PostLine as post;
-ghost use Rattle.gossip_delta.specs.Reading.{change_of, change_or_fault};
+ghost use Rattle.gossip_delta.specs.Reading.{change_of, change_or_fault, checked, moment_or_fault};
 
 use crate::fault::ChangeLineFault;
-use crate::fields::{BufferFields, ChangeKind, buffer_fields, change_kind, has_form, has_names};
+use crate::fields::{BufferFields, ChangeKind, buffer_fields, change_kind, has_names};
 use crate::number::moment_of;
-use crate::post_line::{PostFields, PostParts, post_fields, post_parts};
+use crate::post_line::{PostParts, has_post_form, is_lawful_post, post_fields, post_parts};
 use crate::words::{is_filled, is_last_word, is_text, split_word};
 use chat_change::{Moment, is_id, is_name, is_target};
 
-/// What a line says of a buffer, whose target stands folded, or of an account. Each part is lawful.
+/// What a line says of a buffer, whose target stands folded, or of an account. The names and the moments are lawful. Whether
+/// the other parts are so their makers say.
 #[derive(Clone, Copy)]
 pub(crate) enum Reading<'a> {
     Post {
@@ -72,64 +76,62 @@ fn is_buffer(b: BufferFields<'_>) -> bool
     is_name(b.account) && is_name(b.network) && is_target(b.target) && is_folded(b.target)
 }
 
-fn read_post<'a>(names: BufferFields<'a>, p: PostFields<'a>) -> Option<Reading<'a>>
-    ensures { option_map change_of result ≡ option_map change.Post
-        (post.post_in (spec.buffer_named (fields.value_of names.entry)) (post.value_of p.entry)) }
+// The form of what stands behind the names is checked first, and then the names.
+fn read_post<'a>(is_tagged: bool, names: BufferFields<'a>) -> Result<Reading<'a>, ChangeLineFault>
+    ensures { change_or_fault result ≡ checked
+        (post.has_post_form is_tagged (post.post_fields is_tagged names.entry.rest.now))
+        (spec.is_buffer (fields.value_of names.entry))
+        (option_map change.Post (post.post_in (spec.buffer_named (fields.value_of names.entry))
+        (post.post_fields is_tagged names.entry.rest.now))) }
 {
-    match post_parts(p) {
-        None => None,
-        Some(post) => Some(Reading::Post { names, post }),
+    let post = post_fields(is_tagged, names.rest);
+    if !has_post_form(is_tagged, post) {
+        return Err(ChangeLineFault::BadForm);
+    }
+    if !is_buffer(names) {
+        return Err(ChangeLineFault::BadField);
+    }
+    match post_parts(post) {
+        None => Err(ChangeLineFault::BadField),
+        Some(post) => Ok(Reading::Post { names, post }),
     }
 }
 
-fn read_redaction<'a>(names: BufferFields<'a>) -> Option<Reading<'a>>
-    ensures { option_map change_of result ≡ spec.change_in ChangeKind.Redact
-        (spec.buffer_named (fields.value_of names.entry)) names.entry.rest.now }
+fn read_redaction<'a>(names: BufferFields<'a>) -> Result<Reading<'a>, ChangeLineFault>
+    ensures { change_or_fault result ≡ checked
+        (spec.has_form ChangeKind.Redact names.entry.rest.now)
+        (spec.is_buffer (fields.value_of names.entry))
+        (spec.change_in ChangeKind.Redact (spec.buffer_named (fields.value_of names.entry))
+        names.entry.rest.now) }
 {
     let (id, at) = split_word(names.rest);
+    if !is_filled(id) || !is_last_word(at) {
+        return Err(ChangeLineFault::BadForm);
+    }
+    if !is_buffer(names) {
+        return Err(ChangeLineFault::BadField);
+    }
     match named_moment(at) {
-        None => None,
-        Some(at) => {
-            if is_id(id) {
-                Some(Reading::Redact { names, id, at })
-            } else {
-                None
-            }
-        }
+        None => Err(ChangeLineFault::BadField),
+        Some(at) => Ok(Reading::Redact { names, id, at }),
     }
 }
 
-fn read_mark<'a>(names: BufferFields<'a>) -> Option<Reading<'a>>
-    ensures { option_map change_of result ≡ spec.change_in ChangeKind.Mark
-        (spec.buffer_named (fields.value_of names.entry)) names.entry.rest.now }
+// The moment behind the names, as a marker and a floor have it.
+fn read_moment(names: BufferFields<'_>) -> Result<Moment, ChangeLineFault>
+    ensures { (make : ℕ → value.Change) → moment_or_fault make result ≡ checked
+        (words.is_last_word names.entry.rest.now) (spec.is_buffer (fields.value_of names.entry))
+        (option_map make (numbers.moment_of names.entry.rest.now)) }
 {
+    if !is_last_word(names.rest) {
+        return Err(ChangeLineFault::BadForm);
+    }
+    if !is_buffer(names) {
+        return Err(ChangeLineFault::BadField);
+    }
     match moment_of(names.rest) {
-        None => None,
-        Some(at) => Some(Reading::Mark { names, at }),
-    }
-}
-
-fn read_floor<'a>(names: BufferFields<'a>) -> Option<Reading<'a>>
-    ensures { option_map change_of result ≡ spec.change_in ChangeKind.Floor
-        (spec.buffer_named (fields.value_of names.entry)) names.entry.rest.now }
-{
-    match moment_of(names.rest) {
-        None => None,
-        Some(at) => Some(Reading::Floor { names, at }),
-    }
-}
-
-// What the fields behind the names say, if they are lawful.
-fn read_values<'a>(kind: ChangeKind, names: BufferFields<'a>) -> Option<Reading<'a>>
-    ensures { option_map change_of result ≡ spec.change_in kind
-        (spec.buffer_named (fields.value_of names.entry)) names.entry.rest.now }
-{
-    match kind {
-        ChangeKind::Post => read_post(names, post_fields(false, names.rest)),
-        ChangeKind::TaggedPost => read_post(names, post_fields(true, names.rest)),
-        ChangeKind::Redact => read_redaction(names),
-        ChangeKind::Mark => read_mark(names),
-        ChangeKind::Floor => read_floor(names),
+        None => Err(ChangeLineFault::BadField),
+        Some(at) => Ok(at),
     }
 }
 
@@ -140,15 +142,21 @@ fn read_fields<'a>(
 ) -> Result<Reading<'a>, ChangeLineFault>
     ensures { change_or_fault result ≡ spec.fields_change kind (fields.value_of names.entry) }
 {
-    if !has_names(names) || !has_form(kind, names.rest) {
+    if !has_names(names) {
         return Err(ChangeLineFault::BadForm);
     }
-    if !is_buffer(names) {
-        return Err(ChangeLineFault::BadField);
-    }
-    match read_values(kind, names) {
-        None => Err(ChangeLineFault::BadField),
-        Some(reading) => Ok(reading),
+    match kind {
+        ChangeKind::Post => read_post(false, names),
+        ChangeKind::TaggedPost => read_post(true, names),
+        ChangeKind::Redact => read_redaction(names),
+        ChangeKind::Mark => match read_moment(names) {
+            Ok(at) => Ok(Reading::Mark { names, at }),
+            Err(fault) => Err(fault),
+        },
+        ChangeKind::Floor => match read_moment(names) {
+            Ok(at) => Ok(Reading::Floor { names, at }),
+            Err(fault) => Err(fault),
+        },
     }
 }
 
@@ -193,5 +201,18 @@ pub(crate) fn read_line<'a>(line: &'a [u8]) -> Result<Reading<'a>, ChangeLineFau
         read_kind(kind, rest)
     } else {
         Err(ChangeLineFault::BadForm)
+    }
+}
+
+/// Whether the makers of the change refuse none of its parts.
+pub(crate) fn is_lawful(reading: &Reading<'_>) -> bool
+    ensures { result ≡ is_some (change_of reading.now) }
+{
+    match reading {
+        Reading::Post { post, .. } => is_lawful_post(post),
+        Reading::Redact { id, .. } => is_id(id),
+        Reading::Mark { .. } => true,
+        Reading::Floor { .. } => true,
+        Reading::AccountFloor { .. } => true,
     }
 }

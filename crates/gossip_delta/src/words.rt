@@ -14,7 +14,7 @@ use std::io::Write;
 pub fn is_text(text: &[u8], word: &[u8]) -> bool
     ensures { result ≡ spec.is_text text.now word.now }
 {
-    text.cmp(word).is_eq()
+    text == word
 }
 
 pub(crate) fn begins_with(byte: u8, text: &[u8]) -> bool

@@ -5,7 +5,7 @@ use Rattle.std.specs.FinMap.{get}
 use Rattle.chat_change.specs.Buffer.{Buffer}
 use Rattle.chat_change.specs.Record.{Record}
 use Rattle.chat_change.specs.declared.change.Change.{Change}
-use Rattle.chat_change.specs.declared.change.Change.TheVariants.{Post, Redact, Mark, Floor, AccountFloor}
+use Rattle.chat_change.specs.declared.change.Change.TheVariants.{Post, Redact}
 use Rattle.chat_change.specs.Key.{Key}
 use Rattle.chat_history.specs.History.{Includes}
 use Rattle.chat_history.specs.Numbering.{Delta, delta, front, number}

@@ -18,6 +18,6 @@ pub use handshake::{Action, Handshake, Side, Stage};
 pub use link::Link;
 pub use peer_lines::{
     Ack, Arrived, Gather, Head, Life, LinkFault, NodeName, Packet, PeerLine, SharedWord, Version,
-    read_peer, write_ack, write_hello, write_packet, write_word,
+    read_peer, read_peer_in, write_ack, write_hello, write_packet, write_word,
 };
 pub use terms::{PeerTerms, Terms};

@@ -1,5 +1,9 @@
 -- What comes of the lines of a peer: words, hellos, acknowledgements, and packets, each whole.
-use Rattle.std.specs.Prelude.{◌≡◌, ◌⊎◌, ◌==◌, List, [], ◌∷◌, ◌++◌, length, Option, None, Some, Result, Ok, Err, if◌then◌else◌}
+use Rattle.std.specs.Prelude.{◌≡◌, ◌⊎◌, ◌==◌, ◌-◌, List, [], ◌∷◌, ◌++◌, length, slice_get, Option, None, Some, Result, Ok, Err, if◌then◌else◌}
+use Rattle.std.specs.Option.{option_and_then}
+use Rattle.chat_change.specs.Buffer.{Buffer}
+use Rattle.chat_change.specs.Extent.{Extent, OfAccount, OfBuffer}
+use Rattle.chat_change.specs.Key.{key_of, key_extent}
 use Rattle.chat_change.specs.declared.change.Change as change
 use Rattle.peer_lines.specs.Life.{Head, packet_of}
 use Rattle.peer_lines.specs.declared.fault.LinkFault.{LinkFault}
@@ -17,6 +21,19 @@ pub record Gathering : Type 0 where
 -- of a gather: the packet that isn't whole yet, if there is one
 abbrev pub Gather : Type 0
 Gather = Option Gathering
+
+abbrev pub extent_buffer : Extent → Option Buffer
+extent_buffer (OfAccount account) = None
+extent_buffer (OfBuffer buffer) = Some buffer
+
+-- the buffer that a change speaks of, where it speaks of one
+abbrev pub buffer_of : change.Change → Option Buffer
+buffer_of c = extent_buffer (key_extent (key_of c))
+
+-- the buffer of the change that came last of a packet that isn't whole yet
+abbrev pub latest_buffer : Gather → Option Buffer
+latest_buffer None = None
+latest_buffer (Some g) = option_and_then buffer_of (slice_get g.changes (length g.changes - 1))
 
 abbrev pub ArrivedOrFault : Type 0
 ArrivedOrFault = Result (Option Arrived) LinkFault

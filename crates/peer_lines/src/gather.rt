@@ -1,6 +1,8 @@
 //! A gather joins the head of a packet with its changes.
 ghost use Rattle.std.specs.Prelude.{◌≡◌, ◌++◌, ◌∷◌, [], None, IfOk, OnOk, OnErr};
-ghost use Rattle.peer_lines.specs.Gather.{pushed, with_change, IsAnswerFor};
+ghost use Rattle.std.specs.Option.{option_map};
+ghost use Rattle.std.specs.Map.Iter.{deref};
+ghost use Rattle.peer_lines.specs.Gather.{pushed, with_change, IsAnswerFor, buffer_of};
 
 use crate::fault::LinkFault;
 use crate::life::Life;
@@ -8,7 +10,7 @@ use crate::packet::{Ack, Head, Packet};
 use crate::peer_line::PeerLine;
 use crate::shared_word::SharedWord;
 use crate::version::Version;
-use chat_change::Change;
+use chat_change::{Buffer, Change, Extent};
 use std::alloc::Global;
 use std::marker::Model;
 
@@ -114,6 +116,16 @@ fn continued(
     }
 }
 
+// The buffer that a change speaks of, where it speaks of one.
+fn buffer_of(change: &Change) -> Option<&Buffer>
+    ensures { option_map deref result ≡ buffer_of change.now }
+{
+    match change.key().extent() {
+        Extent::Account(_) => None,
+        Extent::Buffer(buffer) => Some(buffer),
+    }
+}
+
 impl Gather {
     ghost use Rattle.peer_lines.specs.Gather as spec;
 
@@ -122,6 +134,15 @@ impl Gather {
         ensures { result ≡ None }
     {
         Gather { gathering: None }
+    }
+
+    /// The buffer of the change that came last of a packet that isn't whole yet, where that change speaks of a buffer. The next
+    /// one is mostly of the same, and shares its memory if it is read so ([`read_peer_in`](crate::read_peer_in)).
+    pub fn latest_buffer(&self) -> Option<&Buffer>
+        ensures { option_map deref result ≡ spec.latest_buffer self.now }
+    {
+        let gathering = self.gathering.as_ref()?;
+        buffer_of(gathering.changes.last()?)
     }
 
     /// Takes the next line. A word, a hello and an acknowledgement arrive by themselves, and a packet arrives exactly with

@@ -24,7 +24,7 @@ pub use gather::{Arrived, Gather};
 pub use life::Life;
 pub use names::{NODE_NAME_LIMIT, NodeName, is_node_name};
 pub use packet::{Ack, Head, PACKET_LIMIT, Packet};
-pub use peer_line::{PeerLine, read_peer};
+pub use peer_line::{PeerLine, read_peer, read_peer_in};
 pub use shared_word::{SHARED_WORD_LIMIT, SharedWord, is_shared_word};
 pub use version::Version;
 pub use writing::{write_ack, write_hello, write_packet, write_word};

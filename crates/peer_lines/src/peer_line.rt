@@ -14,8 +14,8 @@ use crate::packet::{Ack, Head};
 use crate::shared_word::{SharedWord, is_shared_word};
 use crate::version::Version;
 use byte_text::NoMemory;
-use chat_change::Change;
-use gossip_delta::{ChangeLineFault, is_text, read_change, split_word};
+use chat_change::{Buffer, Change};
+use gossip_delta::{ChangeLineFault, is_text, read_change_in, split_word};
 use std::alloc::Global;
 
 /// A line of a peer.
@@ -110,10 +110,14 @@ fn read_ack(alloc: Global, bytes: &[u8]) -> Result<PeerLine, LinkFault>
     }
 }
 
-fn read_change_line(alloc: Global, bytes: &[u8]) -> Result<PeerLine, LinkFault>
+fn read_change_line(
+    alloc: Global,
+    known: Option<&Buffer>,
+    bytes: &[u8],
+) -> Result<PeerLine, LinkFault>
     ensures { reading.IsAnswer (reading.change_at bytes.now) result }
 {
-    match read_change(alloc, bytes) {
+    match read_change_in(alloc, known, bytes) {
         Ok(change) => Ok(PeerLine::Change(change)),
         Err(ChangeLineFault::BadForm) => Err(LinkFault::BadForm),
         Err(ChangeLineFault::BadField) => Err(LinkFault::BadForm),
@@ -122,7 +126,13 @@ fn read_change_line(alloc: Global, bytes: &[u8]) -> Result<PeerLine, LinkFault>
 }
 
 // The line of the first word, of all bytes and of those behind that word.
-fn read_kind(alloc: Global, kind: &[u8], bytes: &[u8], rest: &[u8]) -> Result<PeerLine, LinkFault>
+fn read_kind(
+    alloc: Global,
+    known: Option<&Buffer>,
+    kind: &[u8],
+    bytes: &[u8],
+    rest: &[u8],
+) -> Result<PeerLine, LinkFault>
     ensures { reading.IsAnswer (reading.line_of_kind kind.now bytes.now rest.now) result }
 {
     if is_text(kind, b"W") {
@@ -134,7 +144,7 @@ fn read_kind(alloc: Global, kind: &[u8], bytes: &[u8], rest: &[u8]) -> Result<Pe
     } else if is_text(kind, b"A") {
         read_ack(alloc, rest)
     } else {
-        read_change_line(alloc, bytes)
+        read_change_line(alloc, known, bytes)
     }
 }
 
@@ -145,6 +155,18 @@ fn read_kind(alloc: Global, kind: &[u8], bytes: &[u8], rest: &[u8]) -> Result<Pe
 pub fn read_peer(alloc: Global, bytes: &[u8]) -> Result<PeerLine, LinkFault>
     ensures { reading.IsReading bytes.now result }
 {
+    read_peer_in(alloc, None, bytes)
+}
+
+/// The same, with a buffer that is known already ([`Gather::latest_buffer`](crate::Gather::latest_buffer)). A change of that
+/// buffer gets a clone of it, which shares its memory. What is answered doesn't depend on it.
+pub fn read_peer_in(
+    alloc: Global,
+    known: Option<&Buffer>,
+    bytes: &[u8],
+) -> Result<PeerLine, LinkFault>
+    ensures { reading.IsReading bytes.now result }
+{
     let (kind, rest) = split_word(bytes);
-    read_kind(alloc, kind, bytes, rest)
+    read_kind(alloc, known, kind, bytes, rest)
 }

@@ -9,7 +9,8 @@ use crate::greeting::greet;
 use crate::heard::{Fault, Heard};
 use crate::pace::Pace;
 use byte_text::NoMemory;
-use gossip_link::{Action, Gather, Handshake, LinkFault, PeerLine, Side, Terms, read_peer};
+use chat_change::Buffer;
+use gossip_link::{Action, Gather, Handshake, LinkFault, PeerLine, Side, Terms, read_peer_in};
 use std::alloc::Global;
 use std::marker::Model;
 
@@ -29,15 +30,19 @@ impl Model for PeerSession {
     ghost view = { λ s. record { handshake = s.handshake; gather = s.gather; pace = s.pace } };
 }
 
-// The line that the bytes spell, if they spell one.
-fn read_line(alloc: Global, bytes: Option<&[u8]>) -> Result<Option<PeerLine>, NoMemory>
+// The line that the bytes spell, if they spell one. A change of the known buffer shares its memory.
+fn read_line(
+    alloc: Global,
+    known: Option<&Buffer>,
+    bytes: Option<&[u8]>,
+) -> Result<Option<PeerLine>, NoMemory>
     ensures read { IfOk result (λ line. spec.IsRead (option_map deref bytes.entry) line) }
     ensures memory { OnErr result (spec.SpellsSome (option_map deref bytes.entry)) }
 {
     let Some(bytes) = bytes else {
         return Ok(None);
     };
-    match read_peer(alloc, bytes) {
+    match read_peer_in(alloc, known, bytes) {
         Ok(line) => Ok(Some(line)),
         Err(LinkFault::BadForm) => Ok(None),
         Err(_) => Err(NoMemory),
@@ -92,7 +97,7 @@ impl PeerSession {
         ensures memory { OnErr result (spec.SpellsSome (option_map deref bytes.entry)) }
         ensures err { OnErr result (self.new ≡ spec.refused self.old) }
     {
-        let heard = match read_line(alloc, bytes) {
+        let heard = match read_line(alloc, self.gather.latest_buffer(), bytes) {
             Ok(line) => self.take_line(alloc, terms, line, out),
             Err(NoMemory) => Err(NoMemory),
         };
