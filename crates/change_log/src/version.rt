@@ -2,6 +2,7 @@
 use crate::entry::Entry;
 use crate::history::Naming;
 use crate::prefix::AnyPrefix;
+use chat_change::{Buffer, ChangeRef, Extent, MsgId, Record};
 use chat_state::State;
 use crossbeam_utils::rule::{Outcome, Protocol};
 use left_right::Absorb;
@@ -31,10 +32,12 @@ impl Absorb<Operation> for Version {
 
     ghost applied = { stepped };
 
-    // The copy of the change shares its texts with it, so both versions do.
+    // A state shares the texts of a change that it takes, so both versions do.
     fn absorb_first(&mut self, operation: &Operation, _other: &Version) -> Result<(), AllocError> {
-        let change = operation.entry.change.try_clone()?;
-        match self.state.absorb(change) {
+        // without it the borrow checker can't plan the call
+        let _parts: Option<(Extent<'_>, &Record, &Buffer, &MsgId)> = None;
+        let change = &operation.entry.change;
+        match self.state.absorb_copy(&ChangeRef::of(change)) {
             Ok(_) => {
                 self.list = operation.after.again();
                 Ok(())
