@@ -17,7 +17,7 @@ use Rattle.client_session.specs.Step.{Step}
 use Rattle.chat_batch.specs.Answers.{has_buffer}
 use Rattle.client_session.specs.Session.{step, reading_step}
 use Rattle.client_session.specs.Lookup.{MessageName, name_by_command, name_in, name_sought}
-use Rattle.client_session.specs.Events.{ClientEvent, Claim, after, effects_of, run, claim_by_reading, claim_by_event, claim_after, HasSecret, IsUserOf, IsLetIn, IsRegistered, IsAnswer, IsGreeting, IsOwnEffect, IsOfSame, HasClose, EndsAtClose, IsClosed}
+use Rattle.client_session.specs.Events.{ClientEvent, Claim, after, effects_of, run, claim_by_event, claim_after, HasSecret, IsUserOf, IsLetIn, IsRegistered, IsAnswer, IsGreeting, IsOwnEffect, IsOfSame, HasClose, EndsAtClose, IsClosed}
 use Rattle.client_session.specs.Events as event
 use Rattle.client_session.specs.declared.effect.Effect.{Effect}
 use Rattle.client_session.specs.declared.effect.Effect.TheVariants.{Send, Put, Ask, Upstream, Close}

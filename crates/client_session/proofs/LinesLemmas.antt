@@ -33,7 +33,7 @@ use Rattle.chat_change.specs.Buffer.{IsLawfulBuffer, buffer_of}
 use Rattle.chat_change.specs.Faults.{unless_lawful}
 use Rattle.chat_change.specs.declared.faults.ChangeFault.TheVariants.{BadName, BadTarget}
 use Rattle.chat_change.specs.declared.change.Change.{Change}
-use Rattle.chat_change.specs.declared.change.Change.TheVariants.{Post, Redact as Redaction, Mark, Floor}
+use Rattle.chat_change.specs.declared.change.Change.TheVariants.{Mark}
 use Rattle.chat_change.proofs.CallerLemmas.{lawful_buffer}
 use Rattle.chat_page.specs.Parameters.{has_timestamp_key, timestamp_of, moment_of}
 use Rattle.chat_batch.specs.Answers.{has_buffer, first_of}

@@ -7,7 +7,7 @@ use Rattle.irc_line.specs.Read.{read}
 use Rattle.irc_caps.specs.Negotiation.{is_same_word}
 use Rattle.chat_change.specs.Words.{is_target}
 use Rattle.chat_change.specs.declared.change.Change.{Change}
-use Rattle.chat_change.specs.declared.change.Change.TheVariants.{Post, Redact, Mark, Floor}
+use Rattle.chat_change.specs.declared.change.Change.TheVariants.{Mark}
 use Rattle.chat_batch.specs.declared.facts.Facts.{Facts}
 use Rattle.chat_batch.specs.declared.facts.Answered.{Answered}
 use Rattle.client_directory.specs.Directory.{Directory, Account, account_in, entry_in}
