@@ -1,12 +1,11 @@
 -- A line by which a session doesn't say that it joins a channel joins none.
-use Rattle.std.proofs.Common.{◌≡◌, ◌==◌, ℕ, ◌+◌, ◌&&◌, Bool, true, false, List, [], ◌∷◌, ◌++◌, Option, None, Some, Result, Ok, Err, refl, ◌⊎◌, inl, inr, codes}
+use Rattle.std.proofs.Common.{◌≡◌, ◌==◌, ℕ, ◌&&◌, Bool, true, false, List, [], ◌∷◌, Option, None, Some, Result, Ok, Err, refl, inl, inr, codes}
 use Rattle.std.specs.Prelude.{if◌then◌else◌, nat_lt}
 use Rattle.std.specs.Str.{str_eq_ignore_ascii_case, bytes_eq}
 use Rattle.irc_line.specs.declared.line.LineFault.{LineFault}
 use Rattle.irc_line.specs.declared.line.TagLimit.TheVariants.{Server}
 use Rattle.irc_line.specs.Line.{Reading}
 use Rattle.irc_line.specs.Read.{read}
-use Rattle.irc_caps.specs.Negotiation.{list_in}
 use Rattle.chat_change.specs.Message.{Message}
 use Rattle.chat_change.specs.declared.message.Kind.{Kind}
 use Rattle.chat_change.specs.declared.message.Kind.TheVariants as kind
@@ -15,9 +14,9 @@ use Rattle.upstream_session.specs.declared.command.ServerCommand.{ServerCommand}
 use Rattle.upstream_session.specs.declared.command.ServerCommand.TheVariants.{Cap, Welcome, Greeting, NickInUse, Ping, Nick, Join, Part, Kick, Error, Privmsg, Notice, Redact, Tagmsg, Other}
 use Rattle.upstream_session.specs.declared.connection.Connection.{Connection}
 use Rattle.upstream_session.specs.declared.connection.TheConstants.{LAST_SERIAL, MOST_TRIES}
-use Rattle.upstream_session.specs.Step.{ServerStep, stays, closes}
+use Rattle.upstream_session.specs.Step.{ServerStep, stays}
 use Rattle.upstream_session.specs.Messages.{is_same_nick, can_be_kept, stamp_of, made_id}
-use Rattle.upstream_session.specs.Rows.{cap, ls, first_target, with_nick, welcome, nick_in_use, ping, join_if, leave, put_out, is_up_and_own, joined_by, keep_by_id, keep_made, keep_stamped, keep, message_from, message, redact, tagmsg, serve}
+use Rattle.upstream_session.specs.Rows.{cap, ls, first_target, with_nick, nick_in_use, ping, join_if, leave, put_out, is_up_and_own, joined_by, keep_by_id, keep_stamped, keep, message_from, message, redact, serve}
 use Rattle.upstream_session.specs.Session.{step, reading_step, joined_in, joined, JoinsNone}
 use Rattle.upstream_session.specs.Events.{Line, after}
 use Rattle.upstream_session.proofs.CourseLemmas.{either}

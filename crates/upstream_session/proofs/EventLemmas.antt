@@ -23,7 +23,7 @@ use Rattle.upstream_session.specs.Step.{ServerStep, stays, new}
 use Rattle.upstream_session.specs.Messages.{made_text, post}
 use Rattle.upstream_session.specs.Sayings.{without_ending, say_line}
 use Rattle.upstream_session.specs.Session.{start, opening, reading_step, step, say}
-use Rattle.upstream_session.specs.Events.{ServerEvent, step_by, after, effects_of, run, all_effects, IsOwnChange, IsOwnEffect, IsUnheard, IsWelcome, id_given, tags_read, tags_given, HasTags, IsIdOf, HasPost, ids_made_by, ids_made, HasClose, EndsAtClose}
+use Rattle.upstream_session.specs.Events.{ServerEvent, step_by, after, effects_of, run, all_effects, IsOwnChange, IsOwnEffect, IsUnheard, IsWelcome, id_given, tags_given, HasTags, IsIdOf, HasPost, ids_made_by, ids_made, HasClose, EndsAtClose}
 use Rattle.upstream_session.specs.Events as event
 use Rattle.upstream_session.proofs.CourseLemmas.{either, either_by, Course, IsSend, IsPassed, IsOwnRedaction, says, line_course, say_course}
 use Rattle.upstream_session.proofs.CourseLemmas as course

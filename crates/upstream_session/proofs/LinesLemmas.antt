@@ -20,7 +20,7 @@ use Rattle.irc_tags.specs.ClientOnly.{client_only_text}
 use Rattle.irc_tags.proofs.CallerLemmas.{client_only_text-in_line}
 use Rattle.irc_reply.specs.Reply.{plain_line}
 use Rattle.irc_reply.specs.Tagged.{tag_part, client_tags}
-use Rattle.irc_reply.specs.ToServer.{ls_line, nick_line, user_line, join_line, pong_line, cap_end, with_underscores, passed_line}
+use Rattle.irc_reply.specs.ToServer.{cap_end, with_underscores, passed_line}
 use Rattle.irc_reply.specs.ToServer as to_server
 use Rattle.irc_reply.specs.ToClient.{relayed_line}
 use Rattle.irc_caps.specs.declared.CapSet.{CapSet}
@@ -51,7 +51,7 @@ use Rattle.upstream_session.specs.Messages.{is_same_nick, has_buffer, can_be_kep
 use Rattle.upstream_session.specs.Rows.{relay_to_all, pass_on, ask, ls, ack, cap, first_target, with_nick, joins, welcome, try_again, ping, join_if, leave, put_out, is_up_and_own, keep_by_id, keep_stamped, message_from, message, redaction, redact, tagmsg, serve}
 use Rattle.upstream_session.specs.Sayings.{without_ending, sent_tags, is_kept_here, say_by_id, say_words, say_command, say_reading}
 use Rattle.upstream_session.specs.Session.{start, reading_step, step, say}
-use Rattle.upstream_session.specs.Events.{ServerEvent, step_by, after, effects_of, run, all_effects, tags_read}
+use Rattle.upstream_session.specs.Events.{ServerEvent, after, effects_of, run, all_effects}
 use Rattle.upstream_session.specs.Events as event
 use Rattle.upstream_session.specs.Standing.{IsOneLine, WritesOneLine, ConfigStands, EntryStands, EventStands}
 use Rattle.upstream_session.proofs.CourseLemmas.{either}

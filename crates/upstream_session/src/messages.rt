@@ -1,11 +1,10 @@
 //! What a session makes of a message: its source, the conversation that it belongs to, its id, its moment and its tags.
-ghost use Rattle.std.specs.Prelude.{◌≡◌, ◌<◌, ◌++◌, codes, length, map, unwrap_or, true, None, IfOk, OnOk, OnErr};
-ghost use Rattle.std.specs.Option.{option_copied};
+ghost use Rattle.std.specs.Prelude.{◌≡◌, ◌<◌, ◌++◌, [], codes, length, map, unwrap_or, true, None, IfOk, OnOk, OnErr};
+ghost use Rattle.std.specs.Option.{option_copied, option_map};
+ghost use Rattle.std.specs.Cow.{cow_slice_items};
 ghost use Rattle.std.specs.Fmt.{decimal};
 ghost use Rattle.chat_change.specs.Message.{value_of};
-ghost use Rattle.chat_change.specs.Faults.{record_fault};
-ghost use Rattle.chat_change.specs.Words.{MayBeTags};
-ghost use Rattle.irc_tags.specs.TagList.{tag_list, value_at};
+ghost use Rattle.irc_tags.specs.TagList.{tag_list};
 ghost use Rattle.upstream_session.specs.Messages as spec;
 
 use crate::connection::{Connection, Home};
@@ -14,12 +13,12 @@ use crate::scratch::Scratch;
 use arrayvec::{ArrayVec, CapacityError};
 use byte_text::{NoMemory, find_byte};
 use chat_change::{
-    Buffer, Change, ChangeFault, ID_LIMIT, Message, Moment, MsgId, Record, is_id, is_message,
-    lawful_id,
+    Change, ID_LIMIT, Message, Moment, MsgId, Record, is_id, is_message, lawful_id, lawful_record,
 };
-use irc_tags::find_tag;
+use irc_tags::find_two_tags;
 use irc_time::read_time;
 use std::alloc::Global;
+use std::borrow::CowSlice;
 
 /// The id and the moment that a message bears.
 #[derive(Drop)]
@@ -68,23 +67,40 @@ fn moment_of(text: &[u8], now: Moment) -> Moment
     }
 }
 
-fn id_in(alloc: Global, tags: &[u8]) -> Result<Option<MsgId>, NoMemory>
-    ensures { IfOk result (λ id. id ≡ spec.id_if (value_at (codes "msgid") (tag_list tags.now))) }
+fn id_if(alloc: Global, text: Option<&[u8]>) -> Result<Option<MsgId>, NoMemory>
+    ensures { IfOk result (λ id. id ≡ spec.id_if (option_copied text.entry)) }
 {
-    match find_tag(alloc, tags, b"msgid")? {
+    match text {
         None => Ok(None),
-        Some(text) => id_of(alloc, text.as_slice()),
+        Some(text) => id_of(alloc, text),
     }
 }
 
-fn moment_in(alloc: Global, tags: &[u8], now: Moment) -> Result<Moment, NoMemory>
-    ensures { IfOk result (λ at. at
-        ≡ spec.moment_if (value_at (codes "time") (tag_list tags.now)) now) }
+fn moment_if(text: Option<&[u8]>, now: Moment) -> Moment
+    ensures { result ≡ spec.moment_if (option_copied text.entry) now }
 {
-    match find_tag(alloc, tags, b"time")? {
-        None => Ok(now),
-        Some(text) => Ok(moment_of(text.as_slice(), now)),
+    match text {
+        None => now,
+        Some(text) => moment_of(text, now),
     }
+}
+
+fn bytes_of<'a>(value: &'a Option<CowSlice<'_, u8>>) -> Option<&'a [u8]>
+    ensures { option_copied result ≡ option_map cow_slice_items value.now }
+{
+    match value {
+        None => None,
+        Some(text) => Some(text.as_slice()),
+    }
+}
+
+fn stamp_in(alloc: Global, tags: &[u8], now: Moment) -> Result<Stamp, NoMemory>
+    ensures { IfOk result (λ stamp. stamp ≡ spec.stamp_in (tag_list tags.now) now) }
+{
+    let (id, at) = find_two_tags(alloc, tags, b"msgid", b"time")?;
+    let at = moment_if(bytes_of(&at), now);
+    let id = id_if(alloc, bytes_of(&id))?;
+    Ok(Stamp { id, at })
 }
 
 /// The id and the moment that the tags of a line give (IRCv3 message-ids and server-time). A tag without escapes is read
@@ -94,11 +110,7 @@ pub(crate) fn stamp_of(alloc: Global, tags: Option<&[u8]>, now: Moment) -> Resul
 {
     match tags {
         None => Ok(Stamp { id: None, at: now }),
-        Some(tags) => {
-            let id = id_in(alloc, tags)?;
-            let at = moment_in(alloc, tags, now)?;
-            Ok(Stamp { id, at })
-        }
+        Some(tags) => stamp_in(alloc, tags, now),
     }
 }
 
@@ -115,25 +127,25 @@ fn push_number(text: &mut IdText, number: u64) -> Result<(), CapacityError>
     text.try_extend_from_slice(digits.format(number).as_bytes())
 }
 
-// It is refused where it is longer than an id may be.
-fn made_text(home: &Home, serial: u64) -> Result<IdText, CapacityError>
-    ensures ok { IfOk result (λ text. text.items ≡ spec.made_text home.now serial) }
+// The text of the id is pushed to none. It is refused where it is longer than an id may be.
+fn push_made(text: &mut IdText, home: &Home, serial: u64) -> Result<(), CapacityError>
+    requires { text.old.items ≡ [] }
+    ensures ok { OnOk result (text.new.items ≡ spec.made_text home.now serial) }
     ensures err { OnErr result (ID_LIMIT < length (spec.made_text home.now serial)) }
 {
-    let mut text = ArrayVec::new();
     text.try_extend_from_slice(home.node.as_bytes())?;
-    push_number(&mut text, home.incarnation)?;
-    push_number(&mut text, serial)?;
-    Ok(text)
+    push_number(text, home.incarnation)?;
+    push_number(text, serial)
 }
 
 /// The id that the node makes of that serial number.
 pub(crate) fn made_id(alloc: Global, home: &Home, serial: u64) -> Result<Option<MsgId>, NoMemory>
     ensures { IfOk result (λ id. id ≡ spec.made_id home.now serial) }
 {
-    match made_text(home, serial) {
+    let mut text = ArrayVec::new();
+    match push_made(&mut text, home, serial) {
         Err(_) => Ok(None),
-        Ok(text) => id_of(alloc, text.as_slice()),
+        Ok(()) => id_of(alloc, text.as_slice()),
     }
 }
 
@@ -149,37 +161,6 @@ pub fn is_from(nick: &[u8], message: &Record) -> bool
     ensures { result ≡ spec.is_from nick.now message.now }
 {
     is_same_nick(nick_of(message.source()), nick)
-}
-
-/// The record of a message that can be kept, with those tags.
-fn record_of(
-    alloc: Global,
-    buffer: Buffer,
-    id: MsgId,
-    at: Moment,
-    tags: &[u8],
-    message: Message<'_>,
-) -> Result<Record, NoMemory>
-    requires message { record_fault (value_of message) ≡ None }
-    requires tags { MayBeTags tags.now }
-    ensures { IfOk result (λ r. r ≡ record {
-      buffer = buffer;
-      id = id;
-      at = at;
-      tags = tags.now;
-      message = value_of message.entry;
-    }) }
-{
-    let made = if tags.is_empty() {
-        Record::new(alloc, buffer, id, at, message)
-    } else {
-        Record::new_tagged(alloc, buffer, id, at, message, tags)
-    };
-    match made {
-        Ok(record) => Ok(record),
-        Err(ChangeFault::NoMemory) => Err(NoMemory),
-        Err(_) => unreachable!(),
-    }
 }
 
 impl Connection {
@@ -236,7 +217,7 @@ impl Connection {
         let talk = self.conversation(message.source, message.target);
         let buffer = scratch.buffers.buffer_for(alloc, &self.home, talk)?;
         let tags = scratch.kept_tags(tags)?;
-        let record = record_of(alloc, buffer, id, at, tags, message)?;
+        let record = lawful_record(alloc, buffer, id, at, message, tags)?;
         Ok(UpEffect::Put(Change::Post(record)))
     }
 }

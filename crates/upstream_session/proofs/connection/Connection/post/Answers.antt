@@ -18,8 +18,8 @@ no_fault None h = refl
 no_fault (Some fault) h = absurd (cc)
 
 -- and has no fault
-pub record_of-requires-clause-message : goal.record_of-requires-clause-message
-record_of-requires-clause-message c =
+pub lawful_record-requires-clause-message : goal.lawful_record-requires-clause-message
+lawful_record-requires-clause-message c =
     let m : Message = value_of c.args.message in
     no_fault (record_fault m)
     (and_parts (has_buffer c.args.self.now.home (conversation c.args.self.now m.source m.target)) (is_message m) c.requires).1
