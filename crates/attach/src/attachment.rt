@@ -1,5 +1,5 @@
 //! What the clients of a server have in common.
-ghost use Rattle.std.specs.Prelude.{◌≡◌, ◌++◌, ◌↔◌, length, take, drop, min, IsErr, OnOk, OnErr};
+ghost use Rattle.std.specs.Prelude.{◌≡◌, [], ◌++◌, ◌↔◌, length, take, drop, min, IsErr, OnOk, OnErr};
 ghost use Rattle.attach.specs.Attachment.{AttachmentState, Exceeds, with_line, without_first};
 
 use thiserror::Error;
@@ -38,4 +38,14 @@ pub trait Attachment: Drop {
         ensures count { result ≡ min (length out.old) (length (state self.old).owed) }
         ensures moved { out.new ≡ take result (state self.old).owed ++ drop result out.old }
         ensures left { state self.new ≡ without_first (state self.old) result };
+
+    /// The first bytes that are owed, where they lie. There are some where any are owed.
+    fn first_owed(&self) -> &[u8]
+        ensures first { (state self.now).owed
+            ≡ result.now ++ drop (length result.now) (state self.now).owed }
+        ensures some { result.now ≡ [] → (state self.now).owed ≡ [] };
+
+    /// So many of the first bytes are owed no more, or all of them where fewer are owed.
+    fn settle(&mut self, count: usize)
+        ensures { state self.new ≡ without_first (state self.old) count };
 }

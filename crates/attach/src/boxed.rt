@@ -26,4 +26,12 @@ impl Attachment for Box<dyn Attachment + Send> {
     fn flush_into(&mut self, out: &mut [u8]) -> usize {
         (**self).flush_into(out)
     }
+
+    fn first_owed(&self) -> &[u8] {
+        (**self).first_owed()
+    }
+
+    fn settle(&mut self, count: usize) {
+        (**self).settle(count);
+    }
 }

@@ -91,4 +91,14 @@ impl Attachment for CountingClient {
     {
         self.client.flush_into(out)
     }
+
+    fn first_owed(&self) -> &[u8] {
+        self.client.first_owed()
+    }
+
+    fn settle(&mut self, count: usize)
+        ensures { self.new ≡ counting_without_first self.old count }
+    {
+        self.client.settle(count);
+    }
 }

@@ -116,4 +116,14 @@ impl Attachment for Recorder {
     {
         self.client.flush_into(out)
     }
+
+    fn first_owed(&self) -> &[u8] {
+        self.client.first_owed()
+    }
+
+    fn settle(&mut self, count: usize)
+        ensures { self.new ≡ recording_without_first self.old count }
+    {
+        self.client.settle(count);
+    }
 }

@@ -89,4 +89,19 @@ impl Attachment for RingClient {
         self.ring.clear();
         count
     }
+
+    fn first_owed(&self) -> &[u8] {
+        let (front, back) = self.ring.as_slices();
+        if front.is_empty() { back } else { front }
+    }
+
+    // What is all settled at once leaves the ring where it began, as above.
+    fn settle(&mut self, count: usize) {
+        let owed = self.ring.len();
+        if count < owed {
+            self.ring.truncate_front(owed - count);
+        } else {
+            self.ring.clear();
+        }
+    }
 }

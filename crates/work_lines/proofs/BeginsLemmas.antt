@@ -9,16 +9,11 @@ first_part {holds} {all} first last h e = record {
   whole = subst holds (ap (λ xs. xs ++ h.rest) e ∙ append_assoc first last h.rest) h.whole;
 }
 
--- what a connection was handed, without what its attachment is owed
-pub without_attached : {holds : List ℕ → Type 0} {all : List ℕ} (sent owed attached : List ℕ) → BeginsOf holds all → all ≡ sent ++ (owed ++ attached) → BeginsOf holds (sent ++ owed)
-without_attached sent owed attached h e = first_part (sent ++ owed) attached h (e ∙ sym (append_assoc sent owed attached))
-
--- what was handed over, without what still waits
-pub without_waiting : {holds : List ℕ → Type 0} (before waited moved rest after : List ℕ) → waited ≡ moved ++ rest → after ≡ before ++ moved → BeginsOf holds (before ++ waited) → BeginsOf holds after
-without_waiting before waited moved rest after e f h =
-    first_part after rest h
-    (ap (λ xs. before ++ xs) e ∙ sym (append_assoc before moved rest) ∙ ap (λ xs. xs ++ rest) (sym f))
-
 -- of a connection over which the same came
 pub over_same : (may_be_told : List ℕ → List ℕ → Type 0) (received other bytes : List ℕ) → other ≡ received → BeginsOf (may_be_told received) bytes → BeginsOf (may_be_told other) bytes
 over_same may_be_told received other bytes e h = subst (λ (r : List ℕ). BeginsOf (may_be_told r) bytes) (sym e) h
+
+-- what was handed over and what still waits, once some of that was handed over
+pub with_waiting : {holds : List ℕ → Type 0} (before waited moved rest after : List ℕ) → waited ≡ moved ++ rest → after ≡ before ++ moved → BeginsOf holds (before ++ waited) → BeginsOf holds (after ++ rest)
+with_waiting {holds} before waited moved rest after e f h =
+    subst (BeginsOf holds) (ap (λ xs. before ++ xs) e ∙ sym (append_assoc before moved rest) ∙ ap (λ xs. xs ++ rest) (sym f)) h

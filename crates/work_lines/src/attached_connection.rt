@@ -1,5 +1,5 @@
 //! The connection of a client.
-ghost use Rattle.std.specs.Prelude.{◌≡◌, List, [], ◌++◌, IfOk, IfSome, OnErr, MatchBool, drop, length};
+ghost use Rattle.std.specs.Prelude.{◌≡◌, List, [], ◌++◌, true, IfOk, IfSome, OnErr, MatchBool, drop, length};
 ghost use Rattle.bnc_ports.specs.Outgoing.{BeginsOf};
 ghost use Rattle.irc_line.specs.Stream.{Item};
 ghost use Rattle.work_lines.specs.Incoming.{AreGiven, Lost};
@@ -9,7 +9,7 @@ ghost use Rattle.work_lines.specs.declared.input.Filled.TheVariants as filled;
 use crate::feeders::Feeders;
 use crate::input::{Filled, Input};
 use crate::pending::Pending;
-use crate::send_queue::{Pumped, SendQueue};
+use crate::send_queue::{Pumped, send};
 use attach::Attachment;
 use bnc_ports::{Carries, Connection, Kind};
 use byte_text::{NoMemory, find_byte};
@@ -18,6 +18,12 @@ use std::marker::Model;
 
 /// So many times lines are offered in one go.
 const OFFERS: usize = 256;
+
+/// So many bytes at most of what is owed go out by one write.
+const CHUNK: usize = 32_768;
+
+/// So many bytes that wait go out from where they wait, and don't pass through the attachment.
+const LONG: usize = 2048;
 
 // What came of offering lines that wait.
 enum Offered {
@@ -33,23 +39,23 @@ enum Offered {
 /// and what waits.
 #[derive(Drop)]
 pub struct AttachedConnection<X: Attachment, C: Connection> {
-    queue: SendQueue<C>,
+    connection: C,
     attachment: X,
     // Lines that the client's own line called for.
     waiting: Pending,
+    is_writable: bool,
 }
 
 impl<X: Attachment, C: Connection> Model for AttachedConnection<X, C> {
-    ghost use Rattle.std.specs.Prelude.{◌++◌};
     ghost use Rattle.work_lines.specs.Outgoing.{Told};
 
     ghost Value = { Told };
 
     ghost view = { λ g. record {
       traffic = record {
-        received = g.queue.received;
-        sent = g.queue.sent;
-        owed = g.queue.owed ++ (X.state g.attachment).owed;
+        received = C.received g.connection;
+        sent = C.sent g.connection;
+        owed = (X.state g.attachment).owed;
       };
       waiting = g.waiting;
     } };
@@ -65,15 +71,16 @@ impl<X: Attachment, C: Connection> AttachedConnection<X, C> {
         ensures waiting { result.waiting ≡ [] }
     {
         AttachedConnection {
-            queue: SendQueue::new(alloc, connection),
+            connection,
             attachment,
             waiting: Pending::new(alloc),
+            is_writable: true,
         }
     }
 
     /// The number by which the port tells of the connection.
     pub fn number(&self) -> usize {
-        self.queue.number()
+        self.connection.number()
     }
 
     /// The place of its attachment.
@@ -85,21 +92,21 @@ impl<X: Attachment, C: Connection> AttachedConnection<X, C> {
     pub fn connection(&self) -> &C
         ensures { C.sent result.now ≡ self.now.traffic.sent }
     {
-        self.queue.connection()
+        &self.connection
     }
 
     /// The connection alone. The attachment is let go, which frees its place.
     pub fn into_connection(self) -> C
         ensures { C.sent result ≡ self.traffic.sent }
     {
-        self.queue.into_connection()
+        self.connection
     }
 
     /// There may be room for bytes again.
     pub fn mark_writable(&mut self)
         ensures { self.new ≡ self.old }
     {
-        self.queue.mark_writable();
+        self.is_writable = true;
     }
 
     /// Takes in more bytes that come over the connection.
@@ -117,7 +124,7 @@ impl<X: Attachment, C: Connection> AttachedConnection<X, C> {
         ensures handed { handed self.new.traffic ≡ handed self.old.traffic }
         ensures waiting { self.new.waiting ≡ self.old.waiting }
     {
-        self.queue.fill::<K, P>(input, port, chunk, feeders)
+        input.fill::<K, C, P>(port, &mut self.connection, chunk, feeders)
     }
 
     /// Lines that the client's own line called for wait, behind the others. Each goes out once what is owed and it are at
@@ -128,27 +135,6 @@ impl<X: Attachment, C: Connection> AttachedConnection<X, C> {
         ensures same { self.new.traffic ≡ self.old.traffic }
     {
         self.waiting.push(lines)
-    }
-
-    // How many bytes are owed, and weren't sent yet.
-    fn owed(&self) -> usize {
-        self.attachment.owed().saturating_add(self.queue.owed())
-    }
-
-    // Hands a line to the attachment. False where it doesn't fit into the bound.
-    fn attach(&mut self, line: &[u8]) -> bool
-        ensures handed { MatchBool result
-            (handed self.new.traffic ≡ handed self.old.traffic ++ line.now)
-            (handed self.new.traffic ≡ handed self.old.traffic) }
-        ensures waiting { self.new.waiting ≡ self.old.waiting }
-        ensures received { self.new.traffic.received ≡ self.old.traffic.received }
-    {
-        let ahead = self.queue.owed();
-        if ahead != 0 && self.owed().saturating_add(line.len()) > self.attachment.bound() {
-            return false;
-        }
-        // Where nothing left the attachment that is still to be sent, it refuses what doesn't fit itself.
-        self.attachment.offer(line).is_ok()
     }
 
     /// Offers a line as it comes. Where it doesn't fit beside what is owed, the connection first takes what it can, by as many
@@ -167,7 +153,7 @@ impl<X: Attachment, C: Connection> AttachedConnection<X, C> {
         ensures received { self.new.traffic.received ≡ self.old.traffic.received }
     {
         for _ in 0..usize::MAX {
-            if self.attach(line) {
+            if self.attachment.offer(line).is_ok() {
                 return true;
             }
             if !self.make_room::<K, P>(port) {
@@ -185,34 +171,12 @@ impl<X: Attachment, C: Connection> AttachedConnection<X, C> {
         ensures waiting { self.new.waiting ≡ self.old.waiting }
         ensures received { self.new.traffic.received ≡ self.old.traffic.received }
     {
-        if self.owed() == 0 {
+        if self.attachment.owed() == 0 {
             return false;
         }
         match self.write::<K, P>(port) {
             Pumped::All | Pumped::Some => true,
             Pumped::Blocked | Pumped::Closed | Pumped::Overrun | Pumped::NoMemory => false,
-        }
-    }
-
-    // Has the connection owe what the attachment is owed, where it owes nothing. Answers what comes of a write where there is
-    // none to be made.
-    fn load(&mut self) -> Option<Pumped>
-        ensures handed { handed self.new.traffic ≡ handed self.old.traffic }
-        ensures waiting { self.new.waiting ≡ self.old.waiting }
-        ensures received { self.new.traffic.received ≡ self.old.traffic.received }
-    {
-        if self.queue.owed() != 0 {
-            return None;
-        }
-        if self.attachment.owed() == 0 {
-            return Some(Pumped::All);
-        }
-        if !self.queue.is_writable() {
-            return Some(Pumped::Blocked);
-        }
-        match self.queue.refill(&mut self.attachment) {
-            Ok(()) => None,
-            Err(NoMemory) => Some(Pumped::NoMemory),
         }
     }
 
@@ -224,9 +188,21 @@ impl<X: Attachment, C: Connection> AttachedConnection<X, C> {
         ensures waiting { self.new.waiting ≡ self.old.waiting }
         ensures received { self.new.traffic.received ≡ self.old.traffic.received }
     {
-        match self.load() {
-            Some(pumped) => pumped,
-            None => self.queue.pump::<K, P>(port),
+        let owed = self.attachment.first_owed();
+        if owed.is_empty() {
+            return Pumped::All;
+        }
+        let first = &owed[..owed.len().min(CHUNK)];
+        match send::<K, C, P>(port, &mut self.connection, &mut self.is_writable, first) {
+            Ok(count) => {
+                self.attachment.settle(count);
+                if self.attachment.owed() == 0 {
+                    Pumped::All
+                } else {
+                    Pumped::Some
+                }
+            }
+            Err(pumped) => pumped,
         }
     }
 
@@ -240,7 +216,7 @@ impl<X: Attachment, C: Connection> AttachedConnection<X, C> {
         ensures moves { Moves self.old self.new }
         ensures received { self.new.traffic.received ≡ self.old.traffic.received }
     {
-        let owed = self.owed();
+        let owed = self.attachment.owed();
         let bound = self.attachment.bound();
         let Some(lines) = next_of(self.waiting.as_bytes(), owed, bound) else {
             return Offered::Nothing;
@@ -253,11 +229,64 @@ impl<X: Attachment, C: Connection> AttachedConnection<X, C> {
         Offered::Lines
     }
 
-    /// Offers the lines that wait, as far as there is room. False where one doesn't fit into the bound.
+    // Whether what waits is to go out from where it waits: nothing is owed before it, and what the connection doesn't take of it
+    // may be owed.
+    fn goes_straight(&self) -> bool
+        ensures { result ≡ true → self.now.traffic.owed ≡ [] }
+    {
+        let waiting = self.waiting.len();
+        self.attachment.owed() == 0
+            && self.is_writable
+            && waiting >= LONG
+            && waiting <= self.attachment.bound() / 2
+    }
+
+    // One write of what waits, where nothing is owed. What the connection doesn't take of it is owed, so that no other line comes
+    // into the midst of one.
+    fn send_waiting<K: Kind, P: Carries<K, Connection = C>>(&mut self, port: &mut P) -> Pumped
+        requires owed { self.old.traffic.owed ≡ [] }
+        requires told { ∥ BeginsOf (K.may_be_told self.old.traffic.received)
+            (handed self.old.traffic ++ self.old.waiting) ∥₁ }
+        ensures moves { Moves self.old self.new }
+        ensures received { self.new.traffic.received ≡ self.old.traffic.received }
+    {
+        let lines = self.waiting.as_bytes();
+        match send::<K, C, P>(port, &mut self.connection, &mut self.is_writable, lines) {
+            Ok(count) => {
+                self.waiting.take(count);
+                if self.attachment.offer(self.waiting.as_bytes()).is_err() {
+                    return Pumped::Overrun;
+                }
+                self.waiting.take(self.waiting.len());
+                Pumped::All
+            }
+            Err(pumped) => pumped,
+        }
+    }
+
+    // One write of what is owed, or of what waits and is to go out from where it waits.
+    fn send_next<K: Kind, P: Carries<K, Connection = C>>(&mut self, port: &mut P) -> Pumped
+        requires { ∥ BeginsOf (K.may_be_told self.old.traffic.received)
+            (handed self.old.traffic ++ self.old.waiting) ∥₁ }
+        ensures moves { Moves self.old self.new }
+        ensures received { self.new.traffic.received ≡ self.old.traffic.received }
+    {
+        if self.goes_straight() {
+            self.send_waiting::<K, P>(port)
+        } else {
+            self.write::<K, P>(port)
+        }
+    }
+
+    /// Offers the lines that wait, as far as there is room, unless they are to go out from where they wait. False where one doesn't
+    /// fit into the bound.
     pub fn offer_waiting(&mut self) -> bool
         ensures moves { Moves self.old self.new }
         ensures received { self.new.traffic.received ≡ self.old.traffic.received }
     {
+        if self.goes_straight() {
+            return true;
+        }
         for _ in 0..OFFERS {
             match self.offer_first() {
                 Offered::Lines => {}
@@ -279,8 +308,8 @@ impl<X: Attachment, C: Connection> AttachedConnection<X, C> {
         if !self.offer_waiting() {
             return Pumped::Overrun;
         }
-        match self.write::<K, P>(port) {
-            Pumped::All if self.owed() == 0 && self.waiting.is_empty() => Pumped::All,
+        match self.send_next::<K, P>(port) {
+            Pumped::All if self.attachment.owed() == 0 && self.waiting.is_empty() => Pumped::All,
             Pumped::All => Pumped::Some,
             other => other,
         }

@@ -1,14 +1,10 @@
 //! Bytes that wait.
 ghost use Rattle.std.specs.Prelude.{◌≡◌, ◌==◌, ◌++◌, [], drop, length, IfOk, OnErr};
 
-use attach::Attachment;
 use byte_text::NoMemory;
 use bytes::BytesMut;
 use std::alloc::Global;
 use std::marker::Model;
-
-/// So many bytes at most are taken from an attachment at once.
-const CHUNK: usize = 32_768;
 
 /// So much room is kept where nothing waits: enough for a line or two, and not for a page.
 const KEPT: usize = 1024;
@@ -75,22 +71,6 @@ impl Pending {
         if self.bytes.is_empty() {
             self.give_back();
         }
-    }
-
-    /// Moves bytes that are owed to an attachment here, the first of them and as many as go at once, where none waits. For want
-    /// of memory nothing changes: the room is made first.
-    pub fn refill<X: Attachment>(&mut self, attachment: &mut X) -> Result<(), NoMemory>
-        requires { self.old ≡ [] }
-        ensures moved { self.new ++ (X.state attachment.new).owed
-            ≡ (X.state attachment.old).owed }
-        ensures err { OnErr result ((self.new ≡ self.old) × (attachment.new ≡ attachment.old)) }
-    {
-        let count = attachment.owed().min(CHUNK);
-        self.bytes.clear();
-        self.bytes.reserve(count)?;
-        self.bytes.advance_mut(count);
-        let _ = attachment.flush_into(self.bytes.as_mut_slice());
-        Ok(())
     }
 
     // The room is used from its beginning again, and much of it is given back.

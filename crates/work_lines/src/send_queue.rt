@@ -1,5 +1,5 @@
 //! Any connection of a worker.
-ghost use Rattle.std.specs.Prelude.{◌≡◌, ◌++◌, List, [], IfOk, OnErr, length};
+ghost use Rattle.std.specs.Prelude.{◌≡◌, ◌≤◌, ◌++◌, List, [], IfOk, OnErr, length, take};
 ghost use Rattle.bnc_ports.specs.Outgoing.{BeginsOf};
 ghost use Rattle.irc_line.specs.Stream.{Item};
 ghost use Rattle.work_lines.specs.Incoming.{AreGiven, Lost};
@@ -9,7 +9,6 @@ ghost use Rattle.work_lines.specs.declared.input.Filled.TheVariants as filled;
 use crate::feeders::Feeders;
 use crate::input::{Filled, Input};
 use crate::pending::Pending;
-use attach::Attachment;
 use bnc_ports::{Carries, Connection, Halt, Kind};
 use byte_text::NoMemory;
 use std::alloc::Global;
@@ -30,6 +29,35 @@ pub enum Pumped {
     Overrun,
     /// There was no memory.
     NoMemory,
+}
+
+/// Sends the first of these bytes by one write, and answers how many. Where the connection takes none, it answers what came of
+/// that.
+pub(crate) fn send<K: Kind, C: Connection, P: Carries<K, Connection = C>>(
+    port: &mut P,
+    connection: &mut C,
+    is_writable: &mut bool,
+    bytes: &[u8],
+) -> Result<usize, Pumped>
+    requires { ∥ BeginsOf (K.may_be_told (C.received connection.old))
+        (C.sent connection.old ++ bytes.now) ∥₁ }
+    ensures count { IfOk result (λ n. n ≤ length bytes.now) }
+    ensures sent { IfOk result (λ n. C.sent connection.new
+        ≡ C.sent connection.old ++ take n bytes.now) }
+    ensures err { OnErr result (C.sent connection.new ≡ C.sent connection.old) }
+    ensures received { C.received connection.new ≡ C.received connection.old }
+{
+    if !*is_writable {
+        return Err(Pumped::Blocked);
+    }
+    match port.send(connection, bytes) {
+        Ok(0) | Err(Halt::Blocked) => {
+            *is_writable = false;
+            Err(Pumped::Blocked)
+        }
+        Ok(count) => Ok(count),
+        Err(Halt::Closed) => Err(Pumped::Closed),
+    }
 }
 
 /// A connection, and what is owed to it. Contracts see the bytes that came over it, those that were sent over it, and those
@@ -93,11 +121,6 @@ impl<C: Connection> SendQueue<C> {
         self.is_writable = true;
     }
 
-    /// Whether the connection takes bytes, as far as is known.
-    pub fn is_writable(&self) -> bool {
-        self.is_writable
-    }
-
     /// How many bytes are owed.
     pub fn owed(&self) -> usize
         ensures { result ≡ length self.now.owed }
@@ -115,18 +138,6 @@ impl<C: Connection> SendQueue<C> {
         self.output.push(bytes)
     }
 
-    /// Owes what an attachment was owed, as much of it as goes at once, where nothing is owed here. For want of memory nothing
-    /// changes.
-    pub(crate) fn refill<X: Attachment>(&mut self, attachment: &mut X) -> Result<(), NoMemory>
-        requires { self.old.owed ≡ [] }
-        ensures handed { handed self.new ++ (X.state attachment.new).owed
-            ≡ handed self.old ++ (X.state attachment.old).owed }
-        ensures received { self.new.received ≡ self.old.received }
-        ensures err { OnErr result ((self.new ≡ self.old) × (attachment.new ≡ attachment.old)) }
-    {
-        self.output.refill(attachment)
-    }
-
     /// Sends what is owed, by one write.
     pub fn pump<K: Kind, P: Carries<K, Connection = C>>(&mut self, port: &mut P) -> Pumped
         requires { ∥ BeginsOf (K.may_be_told self.old.received) (handed self.old) ∥₁ }
@@ -136,14 +147,8 @@ impl<C: Connection> SendQueue<C> {
         if self.output.is_empty() {
             return Pumped::All;
         }
-        if !self.is_writable {
-            return Pumped::Blocked;
-        }
-        match port.send(&mut self.connection, self.output.as_bytes()) {
-            Ok(0) | Err(Halt::Blocked) => {
-                self.is_writable = false;
-                Pumped::Blocked
-            }
+        let output = self.output.as_bytes();
+        match send::<K, C, P>(port, &mut self.connection, &mut self.is_writable, output) {
             Ok(count) => {
                 self.output.take(count);
                 if self.output.is_empty() {
@@ -152,7 +157,7 @@ impl<C: Connection> SendQueue<C> {
                     Pumped::Some
                 }
             }
-            Err(Halt::Closed) => Pumped::Closed,
+            Err(pumped) => pumped,
         }
     }
 
