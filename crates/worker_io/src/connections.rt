@@ -11,14 +11,14 @@ pub trait Served: Drop {
 
 /// One connection of the table.
 #[derive(Drop)]
-pub struct Entry<T: Served> {
+pub struct ConnectionEntry<T: Served> {
     pub served: T,
     pub number: usize,
     // whether it stands in the queue
     is_queued: bool,
 }
 
-impl<T: Served> Entry<T> {
+impl<T: Served> ConnectionEntry<T> {
     // Stands in the queue, once.
     fn enter(&mut self, busy: &mut VecDeque<usize>) {
         if !self.is_queued && busy.push_back(self.number).is_ok() {
@@ -30,7 +30,7 @@ impl<T: Served> Entry<T> {
 /// A connection that was found in the table.
 #[derive(Drop)]
 pub struct Found<'a, T: Served> {
-    entry: &'a mut Entry<T>,
+    entry: &'a mut ConnectionEntry<T>,
     busy: &'a mut VecDeque<usize>,
 }
 
@@ -51,7 +51,7 @@ impl<'a, T: Served> Found<'a, T> {
 #[derive(Drop)]
 pub struct Connections<T: Served> {
     // a key serves another connection once its own is gone
-    entries: Slab<Entry<T>>,
+    entries: Slab<ConnectionEntry<T>>,
     // their keys, by their numbers
     keys: BTreeMap<usize, usize>,
     // by their numbers, those that have something to do
@@ -82,7 +82,7 @@ impl<T: Served> Connections<T> {
         let Ok(before) = keys.insert(number, entries.vacant_key()) else {
             return Err(served);
         };
-        entries.insert_reserved(Entry {
+        entries.insert_reserved(ConnectionEntry {
             served,
             number,
             is_queued: false,
@@ -141,7 +141,7 @@ impl<T: Served> Connections<T> {
     }
 
     /// All of them, in no order, each with its key.
-    pub fn iter(&self) -> Iter<'_, Entry<T>> {
+    pub fn iter(&self) -> Iter<'_, ConnectionEntry<T>> {
         self.entries.iter()
     }
 

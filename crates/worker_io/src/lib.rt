@@ -29,7 +29,7 @@ mod waits;
 
 pub use clock_watch::{BETWEEN_LOOKS, ClockWatch};
 pub use closing::Closing;
-pub use connections::{Connections, Entry, Found, Served};
+pub use connections::{ConnectionEntry, Connections, Found, Served};
 pub use context::{Context, clock};
 pub use lines::Lines;
 pub use node_view::NodeView;
