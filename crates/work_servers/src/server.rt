@@ -7,6 +7,7 @@ use bnc_ports::{Carries, Connection, Port, Reason};
 use byte_text::Text;
 use passed_lines::{NetworkEntry, ServerEffects};
 use std::alloc::Global;
+use upstream_session::UpEffect;
 use work_lines::{Filled, Pumped};
 use worker_io::{Context, Served};
 
@@ -35,6 +36,8 @@ pub struct Server<C: Connection> {
     // how the session stood last, and whether all workers know that
     pub(crate) entry: NetworkEntry,
     pub(crate) is_known: bool,
+    // whether the session may stand otherwise by now
+    may_differ: bool,
     // the channel that the session itself joined by the last line, until it is asked for
     pub(crate) joined: Option<Text>,
     // when bytes came last, in milliseconds
@@ -43,6 +46,11 @@ pub struct Server<C: Connection> {
     fills: u32,
     // why it is closed, once what is owed is written
     pub(crate) ends: Option<Reason>,
+}
+
+// Whether a line comes to a message that is kept, and to nothing else. Such a line leaves the session's entry as it is.
+fn is_kept_only(effects: &ServerEffects) -> bool {
+    matches!(effects.as_slice(), [UpEffect::Put(_)])
 }
 
 impl<C: Connection> Server<C> {
@@ -58,6 +66,7 @@ impl<C: Connection> Server<C> {
             network,
             entry,
             is_known: false,
+            may_differ: true,
             joined: None,
             heard_at: now,
             fills: 0,
@@ -65,9 +74,13 @@ impl<C: Connection> Server<C> {
         }
     }
 
-    /// Whether the session stands otherwise than all workers know.
-    pub(crate) fn has_changed(&self) -> bool {
-        !self.is_known || !is_same_entry(self.dialogue.session().entry(), &self.entry.entry)
+    /// Whether the session stands otherwise than all workers know. They are compared only where a line came that may change
+    /// it.
+    pub(crate) fn has_changed(&mut self) -> bool {
+        if self.is_known && self.may_differ {
+            self.may_differ = !is_same_entry(self.dialogue.session().entry(), &self.entry.entry);
+        }
+        !self.is_known || self.may_differ
     }
 
     /// All workers are to know the session as it stands now, which is answered. For want of memory nothing changes.
@@ -75,6 +88,7 @@ impl<C: Connection> Server<C> {
         let entry = self.dialogue.session().entry_now(alloc).ok()?;
         self.entry = entry.try_clone(alloc).ok()?;
         self.is_known = true;
+        self.may_differ = false;
         Some(entry)
     }
 
@@ -105,6 +119,7 @@ impl<C: Connection> Server<C> {
         match self.dialogue.hear(&context.view, number, room) {
             Hearing::Line(heard) => {
                 self.joined = heard.joined;
+                self.may_differ |= !is_kept_only(&heard.effects);
                 ServerStep::Do(heard.effects)
             }
             Hearing::LeftOut => ServerStep::Again,

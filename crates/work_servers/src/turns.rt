@@ -4,7 +4,7 @@ use crate::kind::ToServer;
 use crate::server::ServerStep;
 use crate::servers::Servers;
 use crate::standing::Standing;
-use bnc_ports::{Carries, Connection, Event, Port, Reason};
+use bnc_ports::{Carries, Connection, Event, Port};
 use byte_text::NoMemory;
 use passed_lines::{Said, SayFault, ServerEffects};
 use work_lines::Pumped;
