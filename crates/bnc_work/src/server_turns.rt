@@ -79,7 +79,11 @@ impl<N: Node, X: Attachment, P: WorkPort> Worker<N, X, P> {
             return Ok(());
         };
         match effects {
-            Ok(effects) => self.do_server(number, effects),
+            Ok(effects) => {
+                self.do_server(number, effects)?;
+                self.clients.tell_untold(&mut self.context);
+                Ok(())
+            }
             Err(NoMemory) => {
                 self.close_server(number, Reason::NoMemory);
                 Ok(())
@@ -129,8 +133,8 @@ impl<N: Node, X: Attachment, P: WorkPort> Worker<N, X, P> {
         true
     }
 
-    // Puts what a server's line came to, and says whether the node has it. A message is told as it comes, also where it waits
-    // to be published.
+    // Puts what a server's line came to, and says whether the node has it. A message is told in the turn in which it comes, also
+    // where it waits to be published.
     fn put_from(&mut self, number: usize, put: &ServerPut<'_>) -> bool {
         match self.put_of_server(put) {
             Ok(()) => self.publish(),
@@ -141,7 +145,8 @@ impl<N: Node, X: Attachment, P: WorkPort> Worker<N, X, P> {
         true
     }
 
-    // Tells what was put to the sessions that hear it, where it is a message.
+    // Tells what was put to the sessions that hear it, where it is a message: those of this worker at the end of the turn, or
+    // before they are told anything else.
     fn tell_live(&mut self, number: usize, put: &ServerPut<'_>) {
         let Worker {
             context,

@@ -270,8 +270,9 @@ impl<N: Node, X: Attachment, P: WorkPort> Worker<N, X, P> {
         self.serve_peers()
     }
 
-    // Those clients that have something to do by now have a turn each.
+    // Messages that came are told, and those clients that have something to do by now have a turn each.
     fn serve_clients(&mut self) -> Result<(), WorkEnd> {
+        self.clients.tell_untold(&mut self.context);
         for _ in 0..self.clients.connections.busy_count() {
             if let Some(number) = self.clients.connections.next_busy() {
                 self.serve_client(number)?;

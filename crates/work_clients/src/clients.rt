@@ -3,6 +3,7 @@ ghost use Rattle.std.specs.Prelude.{◌≡◌, []};
 
 use crate::admitted::Admitted;
 use crate::registrations::{Registration, Registrations};
+use crate::untold::Untold;
 use attach::Attachment;
 use bnc_ports::{Connection, Lobby, Refusals};
 use client_connection::Client;
@@ -16,6 +17,8 @@ pub struct Clients<X: Attachment, C: Connection> {
     // those among them that are registered
     pub(crate) registrations: Registrations,
     pub(crate) lobby: Lobby<X>,
+    // messages that these are still to be told
+    pub(crate) untold: Untold,
     // a text for a client, as it is written
     pub(crate) room: Vec<u8>,
     // those that were closed before they registered
@@ -29,6 +32,7 @@ impl<X: Attachment, C: Connection> Clients<X, C> {
             connections: Connections::new(alloc),
             registrations: Registrations::new(alloc),
             lobby,
+            untold: Untold::new(alloc),
             room: Vec::new(alloc),
             refusals: Refusals::new(),
         }

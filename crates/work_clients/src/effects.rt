@@ -61,6 +61,7 @@ impl<X: Attachment, C: Connection> Clients<X, C> {
         number: usize,
         target: &[u8],
     ) {
+        self.tell_untold(context);
         let Clients {
             connections,
             room,

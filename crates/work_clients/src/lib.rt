@@ -17,6 +17,7 @@ mod registrations;
 mod telling;
 mod turned_away;
 mod turns;
+mod untold;
 
 pub use admitted::Admitted;
 pub use client_connection::{ClientEffect, ClientPut, ClientStep, ToClient};

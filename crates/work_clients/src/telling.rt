@@ -2,6 +2,7 @@
 use crate::admitted::note;
 use crate::clients::Clients;
 use crate::registrations::Registration;
+use crate::untold::tell_line;
 use attach::Attachment;
 use bnc_ports::{Carries, Connection};
 use client_connection::{LiveText, ToClient};
@@ -9,38 +10,66 @@ use passed_lines::{Live, NetworkEntry, Passed};
 use std::mem;
 use worker_io::Context;
 
+/// So many sessions of a network are told each message at once.
+const FEW: usize = 2;
+
 impl<X: Attachment, C: Connection> Clients<X, C> {
-    /// A message is told to the sessions of the network that hear it, as it comes.
+    /// A message is to be told to the sessions of the network that hear it. Where these are more than a few it waits for those
+    /// behind it, until [`Clients::tell_untold`] or until anything else is told.
     pub fn tell_message<P: Carries<ToClient, Connection = C>>(
         &mut self,
         context: &mut Context<P>,
         network: usize,
         message: &Live<'_>,
     ) {
-        let room = mem::replace(&mut self.room, Vec::new(context.view.alloc));
-        let mut live = LiveText::new(message, room);
-        self.tell_live(&mut context.port, network, &mut live);
-        self.room = live.into_room();
+        if self.registrations.of(network, 0).len() > FEW && self.untold.add(network, message) {
+            return;
+        }
+        self.tell_untold(context);
+        self.tell_live(context, network, message);
+    }
+
+    /// The messages that wait are told to the sessions that hear them.
+    pub fn tell_untold<P: Carries<ToClient, Connection = C>>(&mut self, context: &mut Context<P>) {
+        let Some(network) = self.untold.network() else {
+            return;
+        };
+        let Clients {
+            connections,
+            registrations,
+            untold,
+            ..
+        } = self;
+        untold.tell(
+            context.view.alloc,
+            connections,
+            registrations.of(network, 0),
+            &mut context.port,
+        );
     }
 
     // The line of a message is told to the sessions of the network that hear it.
     fn tell_live<P: Carries<ToClient, Connection = C>>(
         &mut self,
-        port: &mut P,
+        context: &mut Context<P>,
         network: usize,
-        live: &mut LiveText<'_>,
+        message: &Live<'_>,
     ) {
         let Clients {
             connections,
             registrations,
+            room,
             ..
         } = self;
-        for Registration { key, .. } in registrations.of(network, 0) {
-            if let Some(mut found) = connections.find_at(*key) {
-                let delivery = found.served().client.take_message(port, live);
-                note(&mut found, delivery);
-            }
-        }
+        let lent = mem::replace(room, Vec::new(context.view.alloc));
+        let mut text = LiveText::new(message, lent);
+        tell_line(
+            connections,
+            registrations.of(network, 0),
+            &mut context.port,
+            &mut text,
+        );
+        *room = text.into_room();
     }
 
     /// A line is passed on to sessions of the network.
@@ -50,6 +79,7 @@ impl<X: Attachment, C: Connection> Clients<X, C> {
         network: usize,
         passed: &Passed<'_>,
     ) {
+        self.tell_untold(context);
         let Clients {
             connections,
             registrations,
@@ -72,6 +102,7 @@ impl<X: Attachment, C: Connection> Clients<X, C> {
         entry: &NetworkEntry,
         is_passed_on: bool,
     ) {
+        self.tell_untold(context);
         let Clients {
             connections,
             registrations,
