@@ -41,26 +41,38 @@ pub enum Allowed {
     KnownAccount,
 }
 
+impl Allowed {
+    // Its words, before the numbers or what each text of a list is.
+    fn text(self) -> &'static str {
+        match self {
+            Allowed::Present => "missing",
+            Allowed::KnownKeys => "a key that isn't known",
+            Allowed::Number(_, _) => "a number",
+            Allowed::Address => "an IP address and a port",
+            Allowed::ClusterName => "1 to 63 letters, digits, '.' and '-'",
+            Allowed::NodeName => "1 to 32 bytes of a-z and 0-9",
+            Allowed::Name => "1 to 32 bytes of a-z, 0-9, '-' and '_'",
+            Allowed::Target => TARGET,
+            Allowed::Channels => "a list of texts, each ",
+            Allowed::SharedWord => "1 to 64 bytes without NUL, CR, LF and space",
+            Allowed::Time => "a text YYYY-MM-DDThh:mm:ss.sssZ, a time from 1970 on",
+            Allowed::Text => "a text",
+            Allowed::Table => "a table",
+            Allowed::Tables => "a list of tables",
+            Allowed::OtherNode => "not the name of this node",
+            Allowed::NewName => "a name that no entry before has",
+            Allowed::KnownAccount => "the name of an account",
+        }
+    }
+}
+
 impl Display for Allowed {
     fn fmt<W: Write>(&self, f: &mut Formatter<W>) -> Result<(), Error> {
+        f.write_str(self.text())?;
         match *self {
-            Allowed::Present => f.write_str("missing"),
-            Allowed::KnownKeys => f.write_str("a key that isn't known"),
-            Allowed::Number(least, most) => write!(f, "a number from {least} to {most}"),
-            Allowed::Address => f.write_str("an IP address and a port"),
-            Allowed::ClusterName => f.write_str("1 to 63 letters, digits, '.' and '-'"),
-            Allowed::NodeName => f.write_str("1 to 32 bytes of a-z and 0-9"),
-            Allowed::Name => f.write_str("1 to 32 bytes of a-z, 0-9, '-' and '_'"),
-            Allowed::Target => f.write_str(TARGET),
-            Allowed::Channels => write!(f, "a list of texts, each {TARGET}"),
-            Allowed::SharedWord => f.write_str("1 to 64 bytes without NUL, CR, LF and space"),
-            Allowed::Time => f.write_str("a text YYYY-MM-DDThh:mm:ss.sssZ, a time from 1970 on"),
-            Allowed::Text => f.write_str("a text"),
-            Allowed::Table => f.write_str("a table"),
-            Allowed::Tables => f.write_str("a list of tables"),
-            Allowed::OtherNode => f.write_str("not the name of this node"),
-            Allowed::NewName => f.write_str("a name that no entry before has"),
-            Allowed::KnownAccount => f.write_str("the name of an account"),
+            Allowed::Number(least, most) => write!(f, " from {least} to {most}"),
+            Allowed::Channels => f.write_str(TARGET),
+            _ => Ok(()),
         }
     }
 }

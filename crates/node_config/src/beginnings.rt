@@ -1,5 +1,5 @@
 //! What a node begins with.
-ghost use Rattle.std.specs.Prelude.{◌≡◌, IfOk};
+ghost use Rattle.std.specs.Prelude.{◌≡◌, ◌++◌, IfOk};
 ghost use Rattle.node_config.specs.Beginnings as spec;
 
 use crate::config::Config;
@@ -54,6 +54,25 @@ fn network_of(alloc: Global, network: &Network) -> Result<directory::Network, No
     Ok(directory::Network::new(name, entry))
 }
 
+// Adds those of the networks that are of that account.
+fn add_networks(
+    alloc: Global,
+    made: &mut directory::Account,
+    networks: &[Network],
+    account: &[u8],
+) -> Result<(), NoMemory>
+    ensures { IfOk result (λ _. made.new ≡ record made.old {
+      networks = made.old.networks ++ spec.networks_of networks.now account.now;
+    }) }
+{
+    for network in networks {
+        if network.account.as_bytes() == account {
+            made.add(network_of(alloc, network)?)?;
+        }
+    }
+    Ok(())
+}
+
 // An account of the directory, with its networks.
 fn account_of(
     alloc: Global,
@@ -65,12 +84,10 @@ fn account_of(
     let name = account.name.try_clone(alloc)?;
     let secret = account.secret.try_clone(alloc)?;
     let mut made = directory::Account::new(alloc, name, secret);
-    for network in networks {
-        if network.account.as_bytes() == account.name.as_bytes() {
-            made.add(network_of(alloc, network)?)?;
-        }
+    match add_networks(alloc, &mut made, networks, account.name.as_bytes()) {
+        Ok(()) => Ok(made),
+        Err(NoMemory) => Err(NoMemory),
     }
-    Ok(made)
 }
 
 fn directory_of(

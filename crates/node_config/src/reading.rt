@@ -87,20 +87,22 @@ fn read_values(alloc: Global, table: &Table) -> Result<Config, ValueFault>
         table,
         place: ConfigPlace::Top,
     };
+    let head = read_head(alloc, top)?;
+    let limits = read_limits(top)?;
+    let maximum = top.number_or_least("maximum", LEAST_MAXIMUM, MOST_MAXIMUM)?;
+    let lists = read_lists(alloc, top, &head.node)?;
     let Head {
         name,
         node,
         listen,
         peer_listen,
         peer_word,
-    } = read_head(alloc, top)?;
-    let limits = read_limits(top)?;
-    let maximum = top.number_or_least("maximum", LEAST_MAXIMUM, MOST_MAXIMUM)?;
+    } = head;
     let Lists {
         peers,
         accounts,
         networks,
-    } = read_lists(alloc, top, &node)?;
+    } = lists;
     Ok(Config {
         name,
         node,
