@@ -201,11 +201,14 @@ pub record HasRead (r0 r w0 w : Option (List ℕ)) (world : World) (self : HeldW
   pub goes : Goes w0 w world (λ more. items (read ++ more)) self held []
 
 -- before the first read
+pub drained_at_first : (held : Held) → held ≡ holding [] → IsDrained held
+drained_at_first held f = subst IsDrained (sym f) (ap first_item no_items)
+
 pub begun : (r w : Option (List ℕ)) (world : World) (self : HeldWorld) (held : Held) → self ≡ held_world world → held ≡ holding [] → HasRead r r w w world self held
 begun r w world self held e f = subst (λ x. HasRead r r w w world self x) (sym f) (record {
   read = [];
   consumed = Consumes-nil r;
-  drained = ap first_item no_items;
+  drained = drained_at_first _ refl;
   goes = goes-nothing w self (holding []) [] world e;
 })
 

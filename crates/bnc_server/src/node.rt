@@ -1,7 +1,7 @@
 //! A node with its session: what it holds, and what it does for the session.
 ghost use Rattle.std.specs.Prelude.{◌≡◌, ◌≢◌, ◌<◌, List, [], ◌∷◌, ◌++◌, length, map};
 ghost use Rattle.std.specs.Prelude.{Ok, IfOk, IfErr, option_map};
-ghost use Rattle.chat_history.specs.StateValue.{greatest_number};
+ghost use Rattle.chat_history.specs.StateValue.{greatest_number, state_after};
 ghost use Rattle.client_session.specs.declared.stage.Stage.TheVariants.{Registered};
 ghost use Rattle.client_session.specs.Session.{too_long, facts_in};
 ghost use Rattle.bnc_server.specs.Node as spec;
@@ -100,6 +100,20 @@ fn links_with(alloc: Global, me: &Life, lives: &[Life]) -> Result<Vec<Link>, NoM
     Ok(links)
 }
 
+// A copy of a life, and its links with nodes in these lives.
+fn life_with_links(
+    alloc: Global,
+    life: &Life,
+    lives: &[Life],
+) -> Result<(Life, Vec<Link>), NoMemory>
+    ensures life { IfOk result (λ made. made.0 ≡ life.now) }
+    ensures links { IfOk result (λ made. made.1.items ≡ map (link_with life.now) lives.now) }
+{
+    let copy = life.try_clone(alloc)?;
+    let links = links_with(alloc, life, lives)?;
+    Ok((copy, links))
+}
+
 fn state_fault(fault: StateFault) -> ReplayFault
     ensures { result ≡ of_state fault }
 {
@@ -130,9 +144,8 @@ impl Node {
         ensures { IfOk result (λ node. node
             ≡ held_node (new_node (Registered facts) life.now lives.now none_late)) }
     {
-        let life = life.try_clone(alloc)?;
-        let links = links_with(alloc, &life, lives)?;
         let late = none_late(alloc)?;
+        let (life, links) = life_with_links(alloc, life, lives)?;
         Ok(Node {
             life,
             session: Session::registered(facts),
@@ -155,13 +168,30 @@ impl Node {
         ensures { Becomes result held_node self.old
             (λ node. new_node (Registered facts) life.now lives.now node.late) self.new }
     {
-        let life = life.try_clone(alloc)?;
-        let links = links_with(alloc, &life, lives)?;
+        match life_with_links(alloc, life, lives) {
+            Ok((life, links)) => {
+                self.begin_with(alloc, facts, life, links);
+                Ok(())
+            }
+            Err(NoMemory) => Err(NoMemory),
+        }
+    }
+
+    // Begins that life with those links.
+    fn begin_with(&mut self, alloc: Global, facts: Facts, life: Life, links: Vec<Link>)
+        requires { length links.items ≡ node_count }
+        ensures { self.new ≡ record {
+          life = life;
+          session = Registered facts;
+          state = state_after 0 [];
+          links = links.items;
+          late = self.old.late;
+        } }
+    {
         self.life = life;
         self.session = Session::registered(facts);
         self.state = State::new(alloc);
         self.links = links;
-        Ok(())
     }
 
     /// The present life.

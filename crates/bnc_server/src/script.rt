@@ -2,9 +2,10 @@
 ghost use Rattle.std.specs.Prelude.{◌≡◌, [], None, IfSome, OnOk, IfOk, IfErr, is_some};
 ghost use Rattle.std.specs.Io.KnownBytes.{IsAtEnd};
 ghost use Rattle.byte_text.specs.Writes.{Writes};
-ghost use Rattle.irc_line.specs.Stream.{next_item, held_without};
+ghost use Rattle.irc_line.specs.Stream.{holding, items, next_item, held_without};
 ghost use Rattle.chat_change.specs.Faults.{buffer_fault};
-ghost use Rattle.bnc_server.specs.Script.{start, script};
+ghost use Rattle.bnc_server.specs.Script.{start, script, text_of};
+ghost use Rattle.bnc_server.specs.World as worlds;
 ghost use Rattle.bnc_server.specs.Ending.{Ends};
 ghost use Rattle.bnc_server.specs.HeldNode.{held_world, WritesTextOf, Becomes, EndsBy};
 ghost use Rattle.bnc_server.specs.Progress.{text_of_next, world_after_next, MayEndNext};
@@ -106,35 +107,28 @@ fn serve_piece<W: Write>(
     }
 }
 
-// Answers a script by that many reads at most.
-pub(crate) fn replay_within<In: Read, Out: Write>(
+// Answers all that a reader gives, by the most reads at most. The feeder holds nothing yet.
+fn replay_from<In: Read, Out: Write>(
+    world: &mut World,
+    feeder: &mut Feeder,
     alloc: Global,
     reader: &mut In,
     writer: &mut Out,
-    account: &[u8],
-    network: &[u8],
-    nick: &[u8],
-    most_reads: u64,
 ) -> Result<(), ReplayFault>
-    ensures script { IfSome (In.remaining reader.old) (λ input.
-        Writes Out.contents writer.old writer.new result
-        (script input account.now network.now nick.now)) }
+    requires { feeder.old ≡ holding [] }
+    ensures script { (w : worlds.World) → world.old ≡ held_world w
+        → IfSome (In.remaining reader.old) (λ input.
+        Writes Out.contents writer.old writer.new result (text_of w (items input))) }
     ensures end { OnOk result (IsAtEnd (In.remaining reader.new)) }
-    ensures fault { IfErr result (Ends (In.remaining reader.old) (In.remaining reader.new)
-        (Out.contents writer.old) (Out.contents writer.new)
-        (start account.now network.now nick.now)) }
+    ensures fault { EndsBy result held_world world.old
+        (Ends (In.remaining reader.old) (In.remaining reader.new)
+        (Out.contents writer.old) (Out.contents writer.new)) }
 {
-    let Ok(mut feeder) = Feeder::new(alloc) else {
-        return Err(ReplayFault::NoMemory);
-    };
-    let Ok(mut world) = World::new(alloc, account, network, nick) else {
-        return Err(ReplayFault::NoMemory);
-    };
     let mut buffer = [0u8; 4096];
-    'reads: for _ in 0..most_reads {
+    'reads: for _ in 0..MOST_READS {
         match reader.read(&mut buffer) {
             Ok(0) => return Ok(()),
-            Ok(n) => serve_piece(&mut world, &mut feeder, alloc, &buffer[..n], writer)?,
+            Ok(n) => serve_piece(world, feeder, alloc, &buffer[..n], writer)?,
             Err(e) => {
                 if e.kind() != ErrorKind::Interrupted {
                     return Err(ReplayFault::Read);
@@ -190,5 +184,11 @@ pub fn replay<In: Read, Out: Write>(
         (Out.contents writer.old) (Out.contents writer.new)
         (start account.now network.now nick.now)) }
 {
-    replay_within(alloc, reader, writer, account, network, nick, MOST_READS)
+    let Ok(mut feeder) = Feeder::new(alloc) else {
+        return Err(ReplayFault::NoMemory);
+    };
+    let Ok(mut world) = World::new(alloc, account, network, nick) else {
+        return Err(ReplayFault::NoMemory);
+    };
+    replay_from(&mut world, &mut feeder, alloc, reader, writer)
 }

@@ -73,25 +73,29 @@ fn network_of(alloc: Global, network: &[u8], nick: &[u8]) -> Result<Network, NoM
       entry = record { is_up = false; nick = nick.now; channels = []; takes_redact = false };
     }) }
 {
-    let entry = Entry::new(false, Text::new(alloc, nick)?, Vec::new(alloc), false);
-    Ok(Network::new(Text::new(alloc, network)?, entry))
+    let name = Text::new(alloc, network)?;
+    let nick = Text::new(alloc, nick)?;
+    let entry = Entry::new(false, nick, Vec::new(alloc), false);
+    Ok(Network::new(name, entry))
 }
 
-// An account of that name without a secret, with its one network.
-fn account_of(alloc: Global, account: &[u8], network: Network) -> Result<Account, NoMemory>
-    ensures { IfOk result (λ made. made ≡ record {
-      name = account.now;
-      secret = [];
-      networks = network ∷ [];
-    }) }
+// An account of that name without a secret, with its one network, which isn't up.
+fn account_of(
+    alloc: Global,
+    account: &[u8],
+    network: &[u8],
+    nick: &[u8],
+) -> Result<Account, NoMemory>
+    ensures { IfOk result (λ made. made ∷ [] ≡ spec.directory_of account.now network.now nick.now) }
 {
     let name = Text::new(alloc, account)?;
-    let mut made = Account::new(alloc, name, Text::new(alloc, b"")?);
+    let mut made = Account::new(alloc, name, Text::of(Vec::new(alloc)));
+    let network = network_of(alloc, network, nick)?;
     made.add(network)?;
     Ok(made)
 }
 
-// The one account with its one network, which isn't up.
+// The one account with its one network.
 fn directory_of(
     alloc: Global,
     account: &[u8],
@@ -101,8 +105,7 @@ fn directory_of(
     ensures { IfOk result
         (λ directory. directory ≡ spec.directory_of account.now network.now nick.now) }
 {
-    let network = network_of(alloc, network, nick)?;
-    let account = account_of(alloc, account, network)?;
+    let account = account_of(alloc, account, network, nick)?;
     let mut directory = Directory::new(alloc);
     directory.add(account)?;
     Ok(directory)
@@ -188,6 +191,15 @@ fn first_nodes(alloc: Global, facts: &Facts, lives: &[Life]) -> Result<Vec<Node>
     Ok(nodes)
 }
 
+// Nine nodes in their first lives. Each has heard of all.
+fn nine_nodes(alloc: Global, facts: &Facts) -> Result<Vec<Node>, NoMemory>
+    ensures { IfOk result (λ nodes. nodes.items ≡ map held_node
+        (map (spec.first_node (Registered facts.now)) spec.first_lives)) }
+{
+    let lives = first_lives(alloc)?;
+    first_nodes(alloc, facts, &lives)
+}
+
 fn is_change_line(text: &[u8]) -> bool
     ensures { result ≡ is_change_line text.now }
 {
@@ -223,11 +235,11 @@ impl World {
         ensures { IfOk result
             (λ world. world ≡ held_world (spec.start account.now network.now nick.now)) }
     {
+        let directory = directory_of(alloc, account, network, nick)?;
         let facts = facts_of(alloc, account, network, nick)?;
-        let lives = first_lives(alloc)?;
-        let nodes = first_nodes(alloc, &facts, &lives)?;
+        let nodes = nine_nodes(alloc, &facts)?;
         Ok(World {
-            directory: directory_of(alloc, account, network, nick)?,
+            directory,
             facts,
             nodes,
             selected: 0,
