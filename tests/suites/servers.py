@@ -63,6 +63,29 @@ def a_nick_that_is_taken_gets_an_underline_three_times(fixture):
 
 
 @test
+def many_clients_hear_a_piece_of_lines_in_its_order(fixture):
+    """Each of several clients hears the messages and what is passed on between them as the server said them in one piece, also
+    where these are more lines than a turn of the server has, and a marker after them."""
+    node, server, session = begun(fixture)
+    clients = [node.client(f"client {number}").register() for number in range(4)]
+    knows = node.client("knows markers").register("draft/read-marker")
+    said = []
+    for number in range(150):
+        said += [f":bob!b@h PRIVMSG #a :{number}", f":bob!b@h NOTICE #a :{number}"]
+        if number % 50 == 20:
+            said += [f":eve{number}!e@h JOIN #a", f":bob!b@h PRIVMSG #a :after {number}"]
+    said += [":al!a@h NICK bo", ":bob!b@h PRIVMSG #a :last"]
+    session.say(*said)
+    for client in [*clients, knows]:
+        client.hear(*said)
+    knows.say("MARKREAD #a timestamp=2026-11-23T00:00:07.000Z")
+    knows.hear(":bnc.example MARKREAD #a timestamp=2026-11-23T00:00:07.000Z")
+    session.say(":bob!b@h PRIVMSG #a :one more")
+    for client in [*clients, knows]:
+        client.hear(":bob!b@h PRIVMSG #a :one more")
+
+
+@test
 def a_client_has_the_nick_that_the_server_gave(fixture):
     server = Server(fixture)
     node = Node(fixture, servers=[server.address]).begin()
