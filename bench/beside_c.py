@@ -19,29 +19,34 @@ from machine import name_of_run, table
 
 # How many lines come at once, and how many there are of each in a round.
 PIECES = {1: 2_000, 20: 10_000, 200: 20_000}
-SOURCE = os.path.join(os.path.dirname(os.path.realpath(__file__)), "plain", "relay.c")
+PLAIN = os.path.join(os.path.dirname(os.path.realpath(__file__)), "plain")
+
+
+def built(name, folder):
+    """Builds a program in C of bench/plain."""
+    program = os.path.join(folder, name)
+    subprocess.run(["cc", "-O2", "-o", program, os.path.join(PLAIN, f"{name}.c")], check=True)
+    return program
 
 
 class Loop(Bouncer):
-    """The loop in C, as a process between a server and a client."""
+    """The loop in C, as a process between a server and so many clients."""
 
-    def __init__(self, home):
-        self.kind, self.home = "loop", home
-        program = os.path.join(home, "relay")
-        subprocess.run(["cc", "-O2", "-o", program, SOURCE], check=True)
+    def __init__(self, home, count=1):
+        self.kind, self.home, self.count = "loop", home, count
         self.server_port, self.port = free_ports(2)
         self.server = Server(self.server_port)
-        self.process = subprocess.Popen([program, str(self.server_port), str(self.port)])
+        self.process = subprocess.Popen([built("relay", home), str(self.server_port), str(self.port), str(count)])
 
     def login(self):
         return ""
 
     def connect(self):
-        """A client of the loop, which connects to the server then."""
+        """The clients of the loop, which connects to the server then."""
         clients = None
         while clients is None:
             try:
-                clients = Clients(self, 1)
+                clients = Clients(self, self.count)
             except ConnectionRefusedError:
                 continue
         self.server.listener.settimeout(30)
@@ -62,7 +67,7 @@ def row(piece, found):
     ours, bare = ([it[at] * 1e6 for it in found] for at in (0, 1))
     ratios = [one / other for one, other in zip(ours, bare)]
     return [piece, f"{statistics.median(ours):.2f} us", f"{statistics.median(bare):.2f} us",
-            f"{statistics.median(ratios):.1f} ({min(ratios):.1f} to {max(ratios):.1f})"]
+            f"{statistics.median(ratios):.1f} ({min(ratios):.1f} to {max(ratios):.1f})", 4]
 
 
 def main():
@@ -80,7 +85,7 @@ def main():
             found = [(seconds(ours, server, clients, piece), seconds(loop, loop.server, theirs, piece)) for _ in range(rounds)]
             rows.append(row(piece, found))
         print(name_of_run(program), "\n")
-        print(table(["lines at once", "a relayed line", "the same by the loop in C", "ratio, and its range"], rows))
+        print(table(["lines at once", "a relayed line", "the same by the loop in C", "ratio, and its range", "goal"], rows))
     finally:
         ours.stop()
         loop.process.kill()

@@ -1,17 +1,21 @@
 #!/usr/bin/env python3
-"""Measures a running bouncer: what it relays and plays back for each second of processor time, how long a line takes, and
-what a message and an idle client cost in memory. It plays the network's server and the clients itself, over loopback.
+"""Measures a running bouncer: what it relays and plays back for each second of processor time, and what a message and an idle
+client cost in memory. It plays the network's server and the clients itself, over loopback. How long a line takes is measured by
+bench/latency.py.
 
     bench/beside_znc.py bnc PROGRAM            starts PROGRAM serve with a configuration of its own, in the environment
                                                that examples/bnc.service gives it
     bench/beside_znc.py znc                    starts Debian's znc with a configuration of its own
     bench/beside_znc.py both PROGRAM ROUNDS    one after the other, so many times, and then the median and the range of each
-    bench/beside_znc.py turns PROGRAM ROUNDS   both at once: relays lines by one and then by the other, so many times, and
-                                               tells the median of the ratios
+    bench/beside_znc.py turns PROGRAM ROUNDS [RUNS]
+                                               both at once: relays lines by one and then by the other, so many times, and
+                                               takes the median of the ratios; then again with both started anew, 3 runs if
+                                               nothing else is said
 
-`both` and `turns` print the tables of docs/PERFORMANCE.md, the other two a line for each measure. Figures are of use beside those of the other bouncer in the same run of the machine alone. Where
-the machine is now faster and now slower, `turns` compares what was measured one right after the other. On a machine with
-other work let root run it at real-time priority, which the bouncers inherit:
+`both` and `turns` print the tables of docs/PERFORMANCE.md, the other two a line for each measure. Figures are of use beside
+those of the other bouncer in the same run of the machine alone. Where the machine is now faster and now slower, `turns`
+compares what was measured one right after the other. On a machine with other work let root run it at real-time priority, which
+the bouncers inherit:
 
     chrt --rr 40 bench/beside_znc.py both PROGRAM 5
 """
@@ -19,6 +23,7 @@ import os
 import selectors
 import shutil
 import socket
+import statistics
 import subprocess
 import sys
 import tempfile
@@ -36,7 +41,7 @@ node = "n1"
 listen = "127.0.0.1:{bouncer}"
 peer_listen = "127.0.0.1:17000"
 peer_word = "green"
-workers = 1
+workers = {workers}
 places = 4096
 bound = 1048576
 retain_days = 0
@@ -106,18 +111,19 @@ def unit_environment():
 class Bouncer:
     """The bouncer under measure, as a process."""
 
-    def __init__(self, kind, program):
+    def __init__(self, kind, program, workers=1, environment=(), before=()):
+        """The words before are those of a command that runs it."""
         self.kind = kind
         self.server_port = SERVER_PORTS[kind]
         self.port = BOUNCER_PORTS[kind]
         # what was measured: figures by their names
         self.figures = {}
         self.home = tempfile.mkdtemp(prefix="bench-")
-        environment = dict(os.environ)
+        environment = {**os.environ, **dict(environment)}
         if kind == "bnc":
             environment.update(unit_environment())
             path = os.path.join(self.home, "one.toml")
-            text = BNC.format(bouncer=self.port, server=self.server_port, secret=SECRET)
+            text = BNC.format(bouncer=self.port, server=self.server_port, secret=SECRET, workers=workers)
             command = [program, "serve", path]
         else:
             path = os.path.join(self.home, "configs", "znc.conf")
@@ -133,7 +139,7 @@ class Bouncer:
             for folder, _, files in os.walk(self.home):
                 for name in [folder] + [os.path.join(folder, file) for file in files]:
                     os.chown(name, 65534, 65534)
-        self.process = subprocess.Popen(command, stdout=self.log, stderr=self.log, env=environment, **nobody)
+        self.process = subprocess.Popen([*before, *command], stdout=self.log, stderr=self.log, env=environment, **nobody)
 
     def seconds(self):
         """Processor seconds of its threads so far."""
@@ -215,11 +221,12 @@ def line(number, body):
 class Clients:
     """Attached clients, and how many messages each has had."""
 
-    def __init__(self, bouncer, count):
+    def __init__(self, bouncer, count, word=b" PRIVMSG #a "):
         self.selector = selectors.DefaultSelector()
+        # what each line has that counts
+        self.word = word
         self.seen = {}
         self.tail = {}
-        self.stamps = []
         self.sockets = []
         self.bouncer = bouncer
         for _ in range(count):
@@ -234,7 +241,7 @@ class Clients:
         self.tail[client] = b""
         self.sockets.append(client)
 
-    def turn(self, patience, stamps=False):
+    def turn(self, patience):
         """Reads what is there, and answers whether anything was."""
         ready = self.selector.select(patience)
         for key, _ in ready:
@@ -245,12 +252,7 @@ class Clients:
             data = self.tail[client] + data
             end = data.rfind(b"\n") + 1
             self.tail[client] = data[end:]
-            self.seen[client] += data[:end].count(b" PRIVMSG #a ")
-            if stamps:
-                now = time.monotonic_ns()
-                for text in data[:end].split(b"\r\n"):
-                    if b" at=" in text:
-                        self.stamps.append(now - int(text.rsplit(b" at=", 1)[1]))
+            self.seen[client] += data[:end].count(self.word)
         return bool(ready)
 
     def settle(self, quiet=0.5):
@@ -284,11 +286,14 @@ def wait_for_port(port):
     raise SystemExit(f"nothing listens at {port}")
 
 
-def flood(server, clients, count, piece=200):
-    """Sends messages in pieces and waits for each piece, so that nobody overruns. Answers what was sent."""
-    body = b"x" * 40
+def message(number):
+    return line(number, b"x" * 40)
+
+
+def flood(server, clients, count, piece=200, spelled=message):
+    """Sends lines, spelled by their numbers, in pieces, and waits for each piece, so that nobody overruns."""
     for first in range(0, count, piece):
-        data = b"".join(line(i, body) for i in range(first, min(first + piece, count)))
+        data = b"".join(spelled(i) for i in range(first, min(first + piece, count)))
         server.send(data)
         clients.wait_for(min(first + piece, count))
 
@@ -308,22 +313,6 @@ def relay(bouncer, server, attached, count):
     clients.close()
     time.sleep(0.5)
     bouncer.tell(f"relay to {attached} clients", count * attached / spent, "lines a processor second")
-
-
-def latency(bouncer, server, count=2000, pause=0.001):
-    clients = Clients(bouncer, 1)
-    clients.settle()
-    clients.reset()
-    for number in range(count):
-        server.send(line(number, b"at=%d" % time.monotonic_ns()))
-        until = time.monotonic() + pause
-        while time.monotonic() < until:
-            clients.turn(0.0002, stamps=True)
-    clients.wait_for(count) if min(clients.seen.values()) < count else None
-    clients.close()
-    stamps = sorted(clients.stamps)
-    bouncer.tell("latency of half of the lines", stamps[len(stamps) // 2] / 1000, "us")
-    bouncer.tell("latency of 99 of 100 lines", stamps[len(stamps) * 99 // 100] / 1000, "us")
 
 
 def playback(bouncer, rounds=100):
@@ -373,10 +362,10 @@ def message_memory(bouncer, server, count=20000):
     clients.close()
 
 
-def begin(kind, program):
+def begin(kind, program, **how):
     """A bouncer with its server, once it listens."""
     server = Server(SERVER_PORTS[kind])
-    bouncer = Bouncer(kind, program)
+    bouncer = Bouncer(kind, program, **how)
     try:
         server.accept()
         wait_for_port(bouncer.port)
@@ -397,7 +386,6 @@ def measure(kind, program):
         relay(bouncer, server, 1, 20000)
         relay(bouncer, server, 10, 10000)
         relay(bouncer, server, 100, 4000)
-        latency(bouncer, server)
         playback(bouncer)
         if kind == "znc":
             idle_clients(bouncer)
@@ -415,6 +403,16 @@ def summary(figures, digits=0):
     return figures[len(figures) // 2], f"{median:.{digits}f} ({least:.{digits}f} to {greatest:.{digits}f})"
 
 
+# What the ratios of some figures should be at least; a message should take so many bytes at most.
+GOALS = {
+    "relay to 1 clients, lines a processor second": 6,
+    "relay to 10 clients, lines a processor second": 10,
+    "relay to 100 clients, lines a processor second": 20,
+    "playback, lines a processor second": 14,
+    "message, bytes resident": "450 bytes",
+}
+
+
 def measure_both(program, rounds):
     head = name_of_run(program)
     runs = [(measure("bnc", program), measure("znc", None)) for _ in range(rounds)]
@@ -422,13 +420,13 @@ def measure_both(program, rounds):
     for name in runs[0][0]:
         ours, our_text = summary(bnc[name] for bnc, _ in runs)
         theirs, their_text = summary(znc[name] for _, znc in runs)
-        rows.append((name, our_text, their_text, f"{ours / theirs:.2f}" if theirs else ""))
+        rows.append((name, our_text, their_text, f"{ours / theirs:.2f}" if theirs else "", GOALS.get(name, "")))
     print(f"{head} Medians and ranges of {rounds} rounds.\n")
-    print(table(("what", "bnc", "ZNC", "ratio of the medians"), rows), flush=True)
+    print(table(("what", "bnc", "ZNC", "ratio of the medians", "goal"), rows), flush=True)
 
 
 def relay_by_turns(ours, theirs, attached, lines, rounds):
-    """Floods both in turns, so many rounds after two that warm up, and gives what a line takes."""
+    """Floods both in turns, so many rounds after two that warm up: the medians of what a line takes, and of the ratios."""
     clients = [Clients(bouncer, attached) for bouncer, _ in (ours, theirs)]
     for each in clients:
         each.settle()
@@ -439,34 +437,42 @@ def relay_by_turns(ours, theirs, attached, lines, rounds):
     for each in clients:
         each.close()
     time.sleep(1)
-    counted = spent[2:]
-    bnc, znc, ratio = (
-        summary([it[0] for it in counted])[1],
-        summary([it[1] for it in counted])[1],
-        summary([it[1] / it[0] for it in counted], 2)[1],
-    )
-    return attached, bnc, znc, ratio
+    bnc, znc = zip(*spent[2:])
+    return [statistics.median(it) for it in (bnc, znc, [their / our for our, their in spent[2:]])]
 
 
-def measure_by_turns(program, rounds):
+# To how many clients lines are relayed by turns, how many lines, and how many times as many bnc should relay in the same time.
+BY_TURNS = ((1, 2000, 6), (10, 200, 10), (100, 200, 20))
+
+
+def run_by_turns(program, rounds):
     """Relay to 1, 10 and 100 clients by both bouncers, in turns."""
-    head, pairs = name_of_run(program), []
+    pairs = []
     try:
         for kind in ("bnc", "znc"):
             pairs.append(begin(kind, program))
-        rows = [relay_by_turns(*pairs, *it, rounds) for it in ((1, 2000), (10, 200), (100, 200))]
-        print(f"{head} Medians and ranges of {rounds} rounds by turns.\n")
-        print(table(("clients", "ns a line, bnc", "ns a line, ZNC", "ZNC : bnc"), rows), flush=True)
+        return [relay_by_turns(*pairs, clients, lines, rounds) for clients, lines, _ in BY_TURNS]
     finally:
         for bouncer, server in pairs:
             bouncer.stop()
             server.close()
 
 
+def measure_by_turns(program, rounds, runs):
+    head = name_of_run(program)
+    found = zip(*[run_by_turns(program, rounds) for _ in range(runs)])
+    rows = []
+    for (attached, _, goal), of_runs in zip(BY_TURNS, found):
+        bnc, znc, ratio = zip(*of_runs)
+        rows.append((attached, summary(bnc)[1], summary(znc)[1], summary(ratio, 1)[1], goal))
+    print(f"{head} Medians and ranges of {runs} runs, each of {rounds} rounds by turns.\n")
+    print(table(("clients", "ns a line, bnc", "ns a line, ZNC", "ZNC : bnc", "goal"), rows), flush=True)
+
+
 def main():
     kind = sys.argv[1]
     if kind == "turns":
-        measure_by_turns(sys.argv[2], int(sys.argv[3]))
+        measure_by_turns(sys.argv[2], int(sys.argv[3]), int(sys.argv[4]) if len(sys.argv) > 4 else 3)
     elif kind == "both":
         measure_both(sys.argv[2], int(sys.argv[3]))
     else:

@@ -155,15 +155,16 @@ def main():
         joined = time.monotonic() - begun
         spent = seconds_of(first) - spent
         print(name_of_run(program), "\n")
-        print(table(["what", "figure"], [
-            [f"a node takes {count:,} messages of its server", f"{taken:.1f} s"],
-            ["a second node that holds nothing is level with it", f"after {joined:.1f} s"],
-            [".. of which the first one's processor time", f"{spent:.1f} s"],
-            [".. and the second one's", f"{seconds_of(second):.1f} s"],
-            ["the longest wait for a PONG meanwhile, at the first and at the second", f"{here.stop() * 1000:.0f} and {there.stop() * 1000:.0f} ms"],
+        print(table(["what", "figure", "goal"], [
+            [f"a node takes {count:,} messages of its server", f"{taken:.1f} s", ""],
+            ["a second node that holds nothing is level with it", f"after {joined:.1f} s", "10 s"],
+            [".. of which the first one's processor time", f"{spent:.1f} s", ""],
+            [".. and the second one's", f"{seconds_of(second):.1f} s", ""],
+            ["the longest wait for a PONG meanwhile, at the first and at the second",
+             f"{here.stop() * 1000:.0f} and {there.stop() * 1000:.0f} ms", "50 ms"],
             ["resident memory of the first and of the second",
-             f"{first.resident() / 1e6:.0f} and {second.resident() / 1e6:.0f} MB"],
-            [f"a change of a packet of {PIECES} that brings nothing new", f"{packet_cost(first):.2f} us"],
+             f"{first.resident() / 1e6:.0f} and {second.resident() / 1e6:.0f} MB", ""],
+            [f"a change of a packet of {PIECES} that brings nothing new", f"{packet_cost(first):.2f} us", "1 us"],
         ]))
     finally:
         for node in (first, second):

@@ -1,0 +1,47 @@
+#!/usr/bin/env python3
+"""Makes all tables of docs/PERFORMANCE.md anew, one script after another, but for the soak's, which takes an hour.
+
+    bench/all.py PROGRAM TEST_STATE
+
+PROGRAM is crates/bnc/out/bnc, and TEST_STATE is crates/test_state/out/test_state. The machine should have nothing else to do.
+The scripts that play clients are run at real-time priority where root runs this. A script that fails is told, and the others go
+on; the status is 1 then.
+"""
+import os
+import subprocess
+import sys
+
+HERE = os.path.dirname(os.path.realpath(__file__))
+
+
+def calls(program, test_state):
+    """The scripts with their words, and whether time that they wait for a processor would count."""
+    return (
+        (("beside_plain.py", test_state, "5"), False),
+        (("beside_replay.py", program, "5"), False),
+        (("beside_znc.py", "turns", program, "9"), True),
+        (("beside_znc.py", "both", program, "3"), True),
+        (("latency.py", program, "9"), True),
+        (("beside_c.py", program, "9"), True),
+        (("memory.py", program), True),
+        (("put.py", program), False),
+        (("joining.py", program), True),
+    )
+
+
+def main():
+    if len(sys.argv) != 3:
+        sys.exit(__doc__)
+    failed = False
+    for (script, *words), waits in calls(*map(os.path.abspath, sys.argv[1:])):
+        before = ["chrt", "--rr", "40"] if waits and os.getuid() == 0 else []
+        print(f"\n## bench/{script} {' '.join(words)}\n", flush=True)
+        status = subprocess.run([*before, sys.executable, f"{HERE}/{script}", *words], check=False).returncode
+        if status:
+            print(f"\nIt failed: status {status}", flush=True)
+            failed = True
+    sys.exit(failed)
+
+
+if __name__ == "__main__":
+    main()
