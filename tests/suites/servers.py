@@ -67,7 +67,7 @@ def many_clients_hear_a_piece_of_lines_in_its_order(fixture):
     """Each of several clients hears the messages and what is passed on between them as the server said them in one piece, also
     where these are more lines than a turn of the server has, and a marker after them."""
     node, server, session = begun(fixture)
-    clients = [node.client(f"client {number}").register() for number in range(4)]
+    clients = [node.client(f"client {number}").register() for number in range(2)]
     knows = node.client("knows markers").register("draft/read-marker")
     said = []
     for number in range(150):
@@ -83,6 +83,26 @@ def many_clients_hear_a_piece_of_lines_in_its_order(fixture):
     session.say(":bob!b@h PRIVMSG #a :one more")
     for client in [*clients, knows]:
         client.hear(":bob!b@h PRIVMSG #a :one more")
+
+
+@test
+def answers_of_any_length_go_out_whole(fixture):
+    """Answers of a byte less and of a byte more than those that go out from where they wait (2,048 bytes), each as it is said."""
+    node, _, session = begun(fixture)
+    witness, sizes, answers = node.client("the witness").register(), range(2046, 2051), []
+    for number, size in enumerate(sizes, 1):
+        target = f"#s{size}"
+        said = [f":bob!b@h PRIVMSG {target} :{letter * 350}" for letter in "abcd"]
+        empty = "".join(f"{line}\r\n" for line in page(number, target, *said, f":bob!b@h PRIVMSG {target} :"))
+        said.append(f":bob!b@h PRIVMSG {target} :{'e' * (size - len(empty))}")
+        session.say(*said)
+        witness.hear(*said)
+        answers.append((target, page(number, target, *said)))
+    client = node.client().register("batch draft/chathistory")
+    for size, (target, answer) in zip(sizes, answers):
+        expect("the answer's length", size, sum(len(line) + 2 for line in answer))
+        client.say(f"CHATHISTORY LATEST {target} * 5")
+        client.hear(*answer)
 
 
 @test
