@@ -2,7 +2,7 @@
 ghost use Rattle.std.specs.Prelude.{◌≡◌, ◌↔◌, IsTrue, true, IfOk, IfErr, None};
 ghost use Rattle.chat_change.specs.Words.{is_name, is_target, lower_case_of};
 ghost use Rattle.chat_change.specs.Faults.{buffer_fault, fault_or_no_memory};
-ghost use Rattle.chat_change.specs.Order.{buffer_cmp};
+ghost use Rattle.chat_change.specs.Order.{text_cmp, buffer_cmp};
 
 use crate::account::Account;
 use crate::faults::ChangeFault;
@@ -152,9 +152,20 @@ impl Buffer {
     fn order(&self, other: &Buffer) -> Ordering
         ensures { result ≡ buffer_cmp self.now other.now }
     {
-        let target = self.target().cmp(other.target());
-        let network = self.network().cmp(other.network()).then(target);
-        self.account().cmp(other.account()).then(network)
+        let target = order(self.target(), other.target());
+        let network = order(self.network(), other.network()).then(target);
+        order(self.account(), other.account()).then(network)
+    }
+}
+
+// How two names compare, byte by byte. Mostly they are equal, which takes less to see than where they differ.
+fn order(name: &[u8], other: &[u8]) -> Ordering
+    ensures { result ≡ text_cmp name.now other.now }
+{
+    if name == other {
+        Ordering::Equal
+    } else {
+        name.cmp(other)
     }
 }
 
