@@ -45,10 +45,10 @@ module _ (history : History) (keyed : IsKeyed history) (b : Buffer) where
       (is.0, held_change history keyed (Post r) (ap (λ d. finite.get history (MessageOf d r.id)) is.0 ∙ is.1))
 
   module _ (ms : Messages) (kept_posted : (r : Record) → IsKept ms r → (r.buffer ≡ b) × Among (Post r) (changes_of history)) (posted_kept : (r : Record) → r.buffer ≡ b → Among (Post r) (changes_of history) → IsKept ms r) where
-    record_kept : (r : Record) → Among r records → IsKept ms r
+    pub record_kept : (r : Record) → Among r records → IsKept ms r
     record_kept r m = let is = posted r m in posted_kept r is.0 is.1
 
-    kept_record : (r : Record) → IsKept ms r → Among r records
+    pub kept_record : (r : Record) → IsKept ms r → Among r records
     kept_record r kept =
         let is = kept_posted r kept in
         of_record history keyed b r

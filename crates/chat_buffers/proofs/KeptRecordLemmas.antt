@@ -26,7 +26,7 @@ use Rattle.chat_history.proofs.CallerLemmas.{sorted_reverse, among-reverse, reve
 use Rattle.ordered_maps.specs.MapView.{held_by}
 use Rattle.ordered_maps.proofs.CallerLemmas.{get-held_by, entries-from_ordered}
 use Rattle.chat_buffers.specs.Messages.{Messages, kept_in}
-use Rattle.chat_buffers.specs.Kept.{IsKept, IsFirstKept, AreKept}
+use Rattle.chat_buffers.specs.Kept.{IsKept, IsFirstKept, IsLatestKept, AreKept}
 use Rattle.chat_buffers.specs.Agreement.{BySpot, ById, Agree}
 use Rattle.chat_buffers.proofs.SpotLemmas.{spot_exact, before_turned, not_before, not_until}
 use Rattle.chat_buffers.proofs.AgreementLemmas.{its_place, its_message, kept_stands, kept_small}
@@ -61,6 +61,9 @@ nothing : (es : Entries) (q : Spot) (r : Record) → (0 < length es → ⊥) →
 nothing [] q r none e = cc e
 nothing (x ∷ es) q r none e = none (omega arith)
 
+no_later : (t u : ℕ) (o : Ordering) → is_gt (ordering_then (nat_cmp t u) o) ≡ false → t ≤ u
+no_later t u o e = grind (arith, e)
+
 -- ---- the kept records are those that are filed
 
 module _ (m : BySpot) (ids : ById) (a : Agree m ids) where
@@ -79,6 +82,15 @@ module _ (m : BySpot) (ids : ById) (a : Agree m ids) where
     is_kept k r is,
     λ q held. subst (λ s. is_gt (cut_cmp s (of_record q)) ≡ false) (its_place m ids a k r is)
         (sym (before_turned (of_record q) k) ∙ last (of_record q) (ap is_some (stands q held))),
+  )
+
+  -- and the moment of the first spot is the latest
+  pub latest_is : (k : Spot) (r : Record) → tree.get latest_first m k ≡ Some r → tree.IsLowerBound latest_first m k → IsLatestKept ms (Some k.at)
+  latest_is k r is first = (
+    r,
+    is_kept k r is,
+    ap (λ (s : Spot). s.at) (sym (its_place m ids a k r is)),
+    λ q held. no_later q.at k.at _ (first (of_record q) (ap is_some (stands q held))),
   )
 
   pub none_first : (0 < tree.btree_map_len m → ⊥) → IsFirstKept ms None

@@ -1,11 +1,12 @@
 -- A walk over the buffers, to the first of which a record is sought.
-use Rattle.std.proofs.Common.{◌≡◌, refl, sym, ◌∙◌, ap, subst, ℕ, ◌≤◌, Bool, true, false, cond, ◌&&◌, nat_lt, List, [], ◌∷◌, reverse, not, Option, Some, None, ◌⊎◌, ⊎_elim, inl, inr, arith}
+use Rattle.std.proofs.Common.{◌≡◌, refl, sym, ◌∙◌, ap, subst, ℕ, ◌≤◌, Bool, true, false, cond, ◌&&◌, List, [], ◌∷◌, map, Option, Some, None, ◌⊎◌, ⊎_elim, inl, inr, arith}
 use Rattle.std.proofs.lemmas.Bool.{false≢true}
 use Rattle.std.proofs.lemmas.Option.{same_Some}
 use Rattle.std.proofs.lemmas.Cmp.{tied_itself}
 use Rattle.std.specs.declared.cmp.Ordering.{Ordering}
 use Rattle.std.specs.declared.cmp.Ordering.TheVariants.{Less, Equal, Greater}
-use Rattle.std.specs.Ordering.{ordering_then, nat_cmp, is_eq, is_lt, is_gt, flip_args}
+use Rattle.std.specs.Ordering.{ordering_then, is_eq, is_lt, is_gt}
+use Rattle.std.specs.Option.{unwrap_or}
 use Rattle.std.specs.Cmp.{Equal-is}
 use Rattle.std.specs.List.{AllByRecursion}
 use Rattle.std.specs.List.Sorted.{IsStrictlySortedBy}
@@ -21,39 +22,44 @@ use Rattle.chat_change.specs.declared.change.Change.TheVariants.{Post, Redact, M
 use Rattle.chat_change.proofs.CallerLemmas.{buffer_total, buffer_exact, text_total, text_exact}
 use Rattle.chat_history.specs.Buffers.{is_of_network, buffer_where}
 use Rattle.chat_history.specs.Choice.{keep, Among, IsFirst}
-use Rattle.chat_history.specs.Cut.{is_after}
-use Rattle.chat_history.specs.declared.cut.Cut.TheVariants.{Top}
 use Rattle.chat_history.specs.History.{History, changes_of}
-use Rattle.chat_history.specs.Visible.{by_spot, records_in}
-use Rattle.chat_history.proofs.CallerLemmas.{le_self, first_alike, among-filter_map, among_made, got, get_entry, less_upto}
+use Rattle.chat_history.specs.Latest.{latest_moment}
+use Rattle.chat_history.specs.Visible.{records_in}
+use Rattle.chat_history.proofs.CallerLemmas.{le_self, first_alike, among-filter_map, among_made, mapped, image, most_greatest, got, get_entry, less_upto}
 use Rattle.ordered_maps.specs.MapView.{held_by}
 use Rattle.ordered_maps.proofs.CallerLemmas.{get-held_by, entries-from_ordered}
-use Rattle.chat_buffers.specs.Messages.{Messages}
-use Rattle.chat_buffers.specs.Kept.{IsKept, IsFirstKept, AreKept}
+use Rattle.chat_buffers.specs.Kept.{IsKept, IsLatestKept}
 use Rattle.chat_buffers.specs.Store.{IsKeyedStore, history_in}
 use Rattle.chat_buffers.specs.Sought.{is_sought, is_past, sought_in, sought_past, all_past}
-use Rattle.chat_buffers.specs.Ahead.{Entries, IsRising, IsAhead, HasSought, HasNoneSought, IsOfOneBuffer, is_behind}
+use Rattle.chat_buffers.specs.Ahead.{Entries, IsRising, IsAhead, HasSought, HasNoneSought, AreOf, is_behind}
 use Rattle.chat_buffers.specs.declared.sought.Sought.{Sought}
 use Rattle.chat_buffers.specs.declared.sought.Sought.TheVariants.{Outdated, OfNetwork}
 use Rattle.chat_buffers.specs.declared.held.Held.{Held}
 use Rattle.chat_buffers.proofs.SettleLemmas.{Accounts, Tree, seen}
 use Rattle.chat_buffers.proofs.KeptLemmas.{keyed_history, none_posted, posted_kept, kept_posted}
-use Rattle.chat_buffers.proofs.CursorLemmas.{down_of, filter_all}
+use Rattle.chat_buffers.proofs.CursorLemmas.{record_kept, kept_record}
 
--- ---- the first record tells whether one is sought
+-- ---- whether a buffer is one of a network's
 
-first_oldest : (a b : ℕ) (o : Ordering) → is_gt (ordering_then (nat_cmp a b) o) ≡ false → a ≤ b
-first_oldest a b o e = grind (arith, e)
+same_text : (a b : List ℕ) → a ≡ b → is_eq (text_cmp a b) ≡ true
+same_text a b e = ap (λ x. is_eq (text_cmp a x)) (sym e) ∙ ap is_eq (tied_itself text_total a)
 
-not_older : (a b t : ℕ) → a ≤ b → nat_lt a t ≡ false → nat_lt b t ≡ false
-not_older a b t l e = grind (arith, l, e)
+other_text : (a b : List ℕ) → (a ≡ b → ⊥) → is_eq (text_cmp a b) ≡ false
+other_text a b n =
+    elim (is_eq (text_cmp a b)) as (λ r. is_eq (text_cmp a b) ≡ r → r ≡ false) [
+      | true ↦ λ e. absurd (n (text_exact a b ((Equal-is (text_cmp a b)).0 e)))
+      | false ↦ λ e. refl
+    ] refl
 
-pub none_sought : (s : Sought) (ms : Messages) (r : Record) → IsFirstKept ms (Some r) → is_sought s r ≡ false → IsOfOneBuffer ms → HasNoneSought s ms
-none_sought (Outdated t) ms r first e one q kept = not_older r.at q.at t (first_oldest r.at q.at (text_cmp r.id q.id) (first.1 q kept)) e
-none_sought (OfNetwork a n) ms r first e one q kept = ap (is_of_network a.now n.now) (one q r kept first.0) ∙ e
+module _ (account network : List ℕ) (b : Buffer) where
+  pub of_network : b.account ≡ account → b.network ≡ network → is_of_network account network b ≡ true
+  of_network e f = ap (λ r. r && is_eq (text_cmp b.network network)) (same_text b.account account e) ∙ same_text b.network network f
 
-pub none_kept : (s : Sought) (ms : Messages) → IsFirstKept ms None → HasNoneSought s ms
-none_kept s ms none q kept = absurd (none q kept)
+  pub of_another_network : b.account ≡ account → (b.network ≡ network → ⊥) → is_of_network account network b ≡ false
+  of_another_network e n = ap (λ r. r && is_eq (text_cmp b.network network)) (same_text b.account account e) ∙ other_text b.network network n
+
+  pub of_another_account : (b.account ≡ account → ⊥) → is_of_network account network b ≡ false
+  of_another_account n = ap (λ r. r && is_eq (text_cmp b.network network)) (other_text b.account account n)
 
 -- ---- values that are kept, and lists without members
 
@@ -192,9 +198,22 @@ module _ (h : History) (last : Option Buffer) (b : Buffer) (d : Held) (rest : En
       (λ a. absurd (not_past_itself b (subst (λ x. is_past (Some b) x ≡ true) is (ap is_lt (ahead.rising.0 (r.buffer, at.0) a)))))
       at.1
 
-  pub newest_here : (rs : List Record) → AreKept (flip_args by_spot) (λ r. not (is_after Top r)) d.messages rs → rs ≡ reverse (records_in h b)
-  newest_here rs kept =
-      down_of h ahead.keyed b d.messages (ahead.posted b d (inl refl)) here_kept Top rs kept ∙ ap reverse (filter_all (records_in h b))
+  abbrev there : (r : Record) → Among r (records_in h b) → IsKept d.messages r
+  there = record_kept h ahead.keyed b d.messages (ahead.posted b d (inl refl)) here_kept
+
+  abbrev here : (r : Record) → IsKept d.messages r → Among r (records_in h b)
+  here = kept_record h ahead.keyed b d.messages (ahead.posted b d (inl refl)) here_kept
+
+  abbrev moment : Record → ℕ
+  moment r = r.at
+
+  pub latest_here : (t : ℕ) → IsLatestKept d.messages (Some t) → t ≡ latest_moment h b
+  latest_here t latest =
+      let records = records_in h b in
+      let member = subst (λ u. Among u (map moment records)) latest.2 (image moment records latest.0 (here latest.0 latest.1)) in
+      ap (λ o. unwrap_or o 0) (sym (most_greatest (map moment records) t member (λ u m.
+      let q = mapped moment records u m in
+      subst (λ (x : ℕ). x ≤ t) q.2 (latest.3 q.0 (there q.0 q.1)))))
 
 -- ---- a network's buffers stand together
 
@@ -247,8 +266,8 @@ module _ (h : History) (s : Sought) (last : Option Buffer) where
         let at = left.all post.0 post.1 post.2 (ap (is_past last) post.3 ∙ post.4) in
         false≢true (sym (not_behind s b post.0 post.2 (stands post.0 at.0 at.1)) ∙ e))
 
-    pub of_one_buffer : IsOfOneBuffer d.messages
-    of_one_buffer q r kq kr = (left.posted b d (inl refl) q kq).0 ∙ sym (left.posted b d (inl refl) r kr).0
+    pub are_of : AreOf b d.messages
+    are_of r kept = (left.posted b d (inl refl) r kept).0
 
     pub passed_over : HasNoneSought s d.messages → IsLeft h s last rest
     passed_over none = record {

@@ -42,10 +42,9 @@ HasSought s messages = (r : Record) × IsKept messages r × (is_sought s r ≡ t
 abbrev pub HasNoneSought : Sought → Messages → Type 0
 HasNoneSought s messages = (r : Record) → IsKept messages r → is_sought s r ≡ false
 
--- the kept records are all of one buffer
-abbrev pub IsOfOneBuffer : Messages → Type 0
-IsOfOneBuffer messages =
-    (q r : Record) → IsKept messages q → IsKept messages r → q.buffer ≡ r.buffer
+-- the kept records are all of that buffer
+abbrev pub AreOf : Buffer → Messages → Type 0
+AreOf b messages = (r : Record) → IsKept messages r → r.buffer ≡ b
 
 -- the buffer is of a later account than the one that is sought, or of its, on a later network
 abbrev pub is_behind : Sought → Buffer → Bool

@@ -1,5 +1,5 @@
 -- The kept records of a buffer.
-use Rattle.std.specs.Prelude.{◌≡◌, ◌↔◌, Bool, true, false, Option, Some, None, List}
+use Rattle.std.specs.Prelude.{ℕ, ◌≡◌, ◌≤◌, ◌↔◌, Bool, true, false, Option, Some, None, List}
 use Rattle.std.specs.declared.cmp.Ordering.{Ordering}
 use Rattle.std.specs.Ordering.{is_gt}
 use Rattle.std.specs.List.Sorted.{IsStrictlySortedBy}
@@ -18,6 +18,12 @@ abbrev pub IsFirstKept : Messages → Option Record → Type 0
 IsFirstKept messages None = (r : Record) → IsKept messages r → ⊥
 IsFirstKept messages (Some r) =
     IsKept messages r × ((q : Record) → IsKept messages q → is_gt (by_spot r q) ≡ false)
+
+-- it is the moment of the last of the kept records, or none where none is kept
+abbrev pub IsLatestKept : Messages → Option ℕ → Type 0
+IsLatestKept messages None = (r : Record) → IsKept messages r → ⊥
+IsLatestKept messages (Some t) =
+    (r : Record) × IsKept messages r × (r.at ≡ t) × ((q : Record) → IsKept messages q → q.at ≤ t)
 
 -- the list has the kept records that pass, each once, in that order
 pub record AreKept (R : Record → Record → Ordering) (p : Record → Bool) (messages : Messages)

@@ -1,10 +1,10 @@
 //! A walk over the buffers of which certain records are held, which takes no memory.
 
-ghost use Rattle.std.specs.Prelude.{◌≡◌, Some, None, reverse, IfSome};
+ghost use Rattle.std.specs.Prelude.{◌≡◌, Some, None, IfSome};
 ghost use Rattle.std.specs.Option.{option_map};
 ghost use Rattle.chat_change.specs.Order.{buffer_cmp};
 ghost use Rattle.chat_history.specs.Choice.{IsFirst};
-ghost use Rattle.chat_history.specs.Visible.{records_in};
+ghost use Rattle.chat_history.specs.Latest.{latest_moment};
 ghost use Rattle.chat_buffers.specs.BufferWalk.{walk_after};
 ghost use Rattle.chat_buffers.specs.Sought.{all_past};
 ghost use Rattle.chat_buffers.specs.Store.{history_in};
@@ -12,9 +12,7 @@ ghost use Rattle.chat_buffers.specs.Store.{history_in};
 use crate::buffers::Buffers;
 use crate::held::Held;
 use crate::sought::Sought;
-use crate::walk::Down;
-use chat_change::Buffer;
-use chat_history::Cut;
+use chat_change::{Buffer, Moment};
 use std::collections::btree_map::Range;
 use std::marker::Model;
 
@@ -57,24 +55,24 @@ impl Buffers {
 }
 
 impl<'a> BufferWalk<'a> {
-    /// The next buffer of which a record is sought, and its visible records by falling (moment, id). It takes no memory.
+    /// The next buffer of which a record is sought, and the moment of its latest visible record. It takes no memory.
     ///
     /// It goes past the buffers up to that one, or past the last of the account's on the network.
-    pub fn next_sought(&mut self, sought: &Sought<'_>) -> Option<(&'a Buffer, Down<'a>)>
+    pub fn next_sought(&mut self, sought: &Sought<'_>) -> Option<(&'a Buffer, Moment)>
         ensures first { IsFirst buffer_cmp (all_past sought.now self.old.last
             (history_in self.old.store)) (option_map (λ found. found.0.now) result) }
-        ensures records { IfSome result (λ found.
-            found.1 ≡ reverse (records_in (history_in self.old.store) found.0.now)) }
+        ensures latest { IfSome result (λ found.
+            found.1 ≡ latest_moment (history_in self.old.store) found.0.now) }
         ensures walked { IfSome result (λ found.
             self.new ≡ walk_after self.old.store (Some found.0.now)) }
     {
         while let Some((buffer, held)) = self.later.next() {
             self.last = Some(buffer);
+            if sought.is_any_sought(buffer, &held.messages) {
+                return Some((buffer, held.messages.latest()?));
+            }
             if sought.is_behind(buffer) {
                 return None;
-            }
-            if sought.is_any_sought(&held.messages) {
-                return Some((buffer, held.messages.down(&Cut::Top)));
             }
         }
         None

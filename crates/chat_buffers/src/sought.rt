@@ -3,10 +3,11 @@
 ghost use Rattle.std.specs.Prelude.{◌≡◌, IsTrue, false};
 ghost use Rattle.chat_history.specs.Buffers.{is_of_network};
 ghost use Rattle.chat_buffers.specs.Ahead as ahead;
-ghost use Rattle.chat_buffers.specs.Sought as spec;
+ghost use Rattle.chat_buffers.specs.declared.sought.Sought.TheVariants.{Outdated};
 
 use crate::messages::Messages;
-use chat_change::{Buffer, Moment, Record};
+use chat_change::{Buffer, Moment};
+use std::cmp::Ordering;
 
 /// Which records are sought.
 #[derive(Clone, Copy)]
@@ -20,31 +21,32 @@ pub enum Sought<'s> {
 fn is_of_network(account: &[u8], network: &[u8], buffer: &Buffer) -> bool
     ensures { result ≡ is_of_network account.now network.now buffer.now }
 {
-    if !buffer.account().cmp(account).is_eq() {
-        return false;
+    buffer.account() == account && buffer.network() == network
+}
+
+// Whether a kept record is older than a moment. The first one tells.
+fn is_any_before(at: Moment, messages: &Messages) -> bool
+    ensures some { IsTrue result → ahead.HasSought (Outdated at) messages.now }
+    ensures none { result ≡ false → ahead.HasNoneSought (Outdated at) messages.now }
+{
+    match messages.first() {
+        Some(post) => post.at().ms() < at.ms(),
+        None => false,
     }
-    buffer.network().cmp(network).is_eq()
 }
 
 impl Sought<'_> {
-    fn is_sought(&self, post: &Record) -> bool
-        ensures { result ≡ spec.is_sought self.now post.now }
+    // Whether a record of a buffer is sought: its oldest, or any, as all are of that buffer.
+    pub(crate) fn is_any_sought(&self, buffer: &Buffer, messages: &Messages) -> bool
+        requires of { ahead.AreOf buffer.now messages.now }
+        ensures some { IsTrue result → ahead.HasSought self.now messages.now }
+        ensures none { result ≡ false → ahead.HasNoneSought self.now messages.now }
     {
         match self {
-            Sought::Outdated(at) => post.at().ms() < at.ms(),
-            Sought::OfNetwork(account, network) => is_of_network(account, network, post.buffer()),
-        }
-    }
-
-    // Whether a record of one buffer is sought. Its first tells: it is the oldest, and all are of that buffer.
-    pub(crate) fn is_any_sought(&self, messages: &Messages) -> bool
-        ensures some { IsTrue result → ahead.HasSought self.now messages.now }
-        ensures none { result ≡ false → ahead.IsOfOneBuffer messages.now →
-            ahead.HasNoneSought self.now messages.now }
-    {
-        match messages.first() {
-            Some(post) => self.is_sought(post),
-            None => false,
+            Sought::Outdated(at) => is_any_before(*at, messages),
+            Sought::OfNetwork(account, network) => {
+                is_of_network(account, network, buffer) && messages.latest().is_some()
+            }
         }
     }
 
@@ -55,8 +57,11 @@ impl Sought<'_> {
         match self {
             Sought::Outdated(_) => false,
             Sought::OfNetwork(account, network) => {
-                let by_network = buffer.network().cmp(network);
-                buffer.account().cmp(account).then(by_network).is_gt()
+                match buffer.account().cmp(account) {
+                    Ordering::Less => false,
+                    Ordering::Equal => buffer.network().cmp(network).is_gt(),
+                    Ordering::Greater => true,
+                }
             }
         }
     }

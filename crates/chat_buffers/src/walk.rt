@@ -11,7 +11,7 @@ ghost use Rattle.std.specs.Range.Bound.{bound_map};
 ghost use Rattle.chat_history.specs.Cut.{is_after};
 ghost use Rattle.chat_history.specs.Visible.{by_spot};
 ghost use Rattle.chat_buffers.specs.Ends.{is_from, is_until};
-ghost use Rattle.chat_buffers.specs.Kept.{IsFirstKept, AreKept};
+ghost use Rattle.chat_buffers.specs.Kept.{IsFirstKept, IsLatestKept, AreKept};
 
 use crate::messages::Messages;
 use chat_change::{Moment, Record};
@@ -125,6 +125,16 @@ impl Messages {
     {
         match self.by_spot.last_key_value() {
             Some((_, post)) => Some(post),
+            None => None,
+        }
+    }
+
+    /// The moment of the last kept record, by (moment, id).
+    pub(crate) fn latest(&self) -> Option<Moment>
+        ensures { IsLatestKept self.now result }
+    {
+        match self.by_spot.first_key_value() {
+            Some((spot, _)) => Some(spot.at),
             None => None,
         }
     }

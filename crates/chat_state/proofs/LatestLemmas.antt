@@ -1,15 +1,10 @@
 -- The walk over the buffers of an account on a network, and the latest moment of each.
-use Rattle.std.proofs.Common.{◌≡◌, ℕ, ◌≤◌, Bool, true, false, cond, not, ◌&&◌, Option, Some, None, List, [], ◌∷◌, map, reverse, refl, sym, ◌∙◌, ap, subst, Bor, ⊎_elim, inl, arith}
+use Rattle.std.proofs.Common.{◌≡◌, ℕ, Bool, true, false, cond, not, ◌&&◌, Option, Some, None, List, ◌∷◌, map, refl, sym, ◌∙◌, ap, subst, Bor, arith}
 use Rattle.std.proofs.lemmas.Bool.{false≢true}
-use Rattle.std.proofs.lemmas.Bool.Decides.{nat_tests}
-use Rattle.std.proofs.lemmas.Map.Keys.{sorted_head}
-use Rattle.std.specs.declared.cmp.Ordering.{Ordering}
-use Rattle.std.specs.declared.cmp.Ordering.TheVariants.{Less}
-use Rattle.std.specs.Ordering.{is_lt, is_eq, is_gt, nat_cmp, flip_args, ordering_then}
+use Rattle.std.specs.Ordering.{is_lt, is_eq}
 use Rattle.std.specs.Cmp.{Equal-is}
-use Rattle.std.specs.List.{filter, filter_map, AllByRecursion}
-use Rattle.std.specs.List.Sorted.{IsStrictlySortedBy}
-use Rattle.std.specs.Option.{IfSome, option_map, unwrap_or}
+use Rattle.std.specs.List.{filter, filter_map}
+use Rattle.std.specs.Option.{IfSome, option_map}
 use Rattle.chat_change.specs.Buffer.{Buffer}
 use Rattle.chat_change.specs.Record.{Record}
 use Rattle.chat_change.specs.Order.{text_cmp, buffer_cmp}
@@ -21,62 +16,14 @@ use Rattle.chat_store.specs.Sought.{OfNetwork}
 use Rattle.chat_history.specs.History.{History, changes_of}
 use Rattle.chat_history.specs.Latest.{latest_moment, with_moment, network_buffers, latest_in}
 use Rattle.chat_state.specs.Latest.{latest_from, next_of, IsAtBuffer}
-use Rattle.chat_history.specs.Visible.{by_spot, records_in}
 use Rattle.chat_history.specs.Buffers.{is_of_network, buffer_where}
 use Rattle.chat_store.specs.Sought.{is_past, all_past, Walk, walk_after}
 use Rattle.chat_store.specs.Store.{Store, history_in}
 use Rattle.chat_store.proofs.CallerLemmas.{past_closed, filter_all}
-use Rattle.chat_history.proofs.CallerLemmas.{among-filter_map, none_first, mapped, image}
-use Rattle.chat_history.proofs.CallerLemmas.{most_greatest}
-use Rattle.chat_history.proofs.CallerLemmas.{latest_total, latest_exact}
+use Rattle.chat_history.proofs.CallerLemmas.{among-filter_map}
 use Rattle.chat_history.proofs.CallerLemmas.{from_member, passing_from}
-use Rattle.chat_history.proofs.CallerLemmas.{member, records_sorted, sorted_reverse, among-reverse, reverse_among}
 use Rattle.chat_history.proofs.CallerLemmas.{in_order_member, buffers_sorted}
 use Rattle.chat_state.proofs.BuffersLemmas.{past_buffer, walk_end, is_one}
-
--- ---- the latest moment
-
-no_later : (r s : Record) (o : Ordering) → is_gt (ordering_then (nat_cmp r.at s.at) o) ≡ false → r.at ≤ s.at
-no_later r s o h = grind (arith, nat_tests)
-
-module _ (h : History) (b : Buffer) where
-  abbrev records : List Record
-  records = records_in h b
-
-  abbrev moments : List ℕ
-  moments = map (λ (r : Record). r.at) records
-
-  -- the records, the newest first
-  abbrev newest : List Record
-  newest = reverse records
-
-  pub latest_none : newest ≡ [] → 0 ≡ latest_moment h b
-  latest_none e =
-      ap (λ t. unwrap_or t 0) (sym (none_first latest_total latest_exact moments (λ t m.
-      let r = mapped (λ (r : Record). r.at) records t m in
-      subst (Among r.0) e (reverse_among records r.0 r.1))))
-
-  module _ (r : Record) (rest : List Record) (e : newest ≡ r ∷ rest) where
-    newest_record : Among r records
-    newest_record = among-reverse records r (subst (Among r) (sym e) (inl refl))
-
-    older : AllByRecursion (λ q. by_spot q r ≡ Less) rest
-    older =
-        sorted_head (flip_args by_spot) r rest
-        (subst (IsStrictlySortedBy (flip_args by_spot)) e (sorted_reverse by_spot records (records_sorted h b)))
-
-    not_newer : (q : Record) → Among q records → q.at ≤ r.at
-    not_newer q m = ⊎_elim
-        (λ (s : r ≡ q). subst (λ (x : Record). x.at ≤ r.at) s (omega arith))
-        (λ n. no_later q r (text_cmp q.id r.id) (ap is_gt (member (λ x. by_spot x r ≡ Less) rest q older n)))
-        (subst (Among q) e (reverse_among records q m))
-
-    pub latest_is : r.at ≡ latest_moment h b
-    latest_is =
-        ap (λ t. unwrap_or t 0) (sym (most_greatest moments r.at (image (λ (r : Record). r.at) records r newest_record) (λ t m.
-        let q = mapped (λ (r : Record). r.at) records t m in
-        let l = not_newer q.0 q.1 in
-        subst (λ (u : ℕ). u ≤ r.at) q.2 l)))
 
 -- ---- the buffers of a network
 

@@ -1,16 +1,10 @@
 //! The buffers of an account on a network, each with its latest moment. They take no memory.
 
-ghost use Rattle.std.specs.Prelude.{◌≡◌, Some, IfSome, length};
+ghost use Rattle.std.specs.Prelude.{◌≡◌, length};
 ghost use Rattle.std.specs.Iterator.{at_most};
 ghost use Rattle.std.specs.Map.Iter.{TakesFirst};
-ghost use Rattle.std.specs.Option.{option_map};
-ghost use Rattle.chat_change.specs.Order.{buffer_cmp};
-ghost use Rattle.chat_history.specs.Choice.{IsFirst};
-ghost use Rattle.chat_history.specs.Latest.{latest_moment, latest_in};
-ghost use Rattle.chat_store.specs.Sought.{all_past, walk_after};
-ghost use Rattle.chat_store.specs.Store.{history_in};
+ghost use Rattle.chat_history.specs.Latest.{latest_in};
 
-use crate::lookups::first_moment;
 use crate::state::State;
 use chat_change::{Buffer, Moment};
 use chat_store::{BufferWalk, Sought};
@@ -37,23 +31,6 @@ impl<'a> Model for Latest<'a> {
     ghost invariant = { λ l. IsAtBuffer (history_in l.walk.store) l.walk.last l.next };
 }
 
-// The next buffer of which a record is sought, with the moment of its latest.
-fn next_latest<'a>(walk: &mut BufferWalk<'a>, sought: &Sought<'_>) -> Option<(&'a Buffer, Moment)>
-    ensures first { IsFirst buffer_cmp (all_past sought.now walk.old.last
-        (history_in walk.old.store)) (option_map (λ found. found.0.now) result) }
-    ensures moment { IfSome result (λ found.
-        found.1 ≡ latest_moment (history_in walk.old.store) found.0.now) }
-    ensures walked { IfSome result (λ found.
-        walk.new ≡ walk_after walk.old.store (Some found.0.now)) }
-{
-    let (buffer, mut newest) = walk.next_sought(sought)?;
-    let at = match newest.next() {
-        Some(post) => post.at(),
-        None => first_moment(),
-    };
-    Some((buffer, at))
-}
-
 impl<'a> Iterator for Latest<'a> {
     type Item = (&'a Buffer, Moment);
 
@@ -67,7 +44,7 @@ impl<'a> Iterator for Latest<'a> {
         };
         let (buffer, at) = (*buffer, *at);
         let network = Sought::OfNetwork(buffer.account(), buffer.network());
-        self.next = next_latest(&mut self.walk, &network);
+        self.next = self.walk.next_sought(&network);
         Some((buffer, at))
     }
 }
@@ -78,7 +55,7 @@ impl State {
         ensures { result ≡ latest_in self.now.history account.now network.now }
     {
         let mut walk = self.store.walk();
-        let next = next_latest(&mut walk, &Sought::OfNetwork(account, network));
+        let next = walk.next_sought(&Sought::OfNetwork(account, network));
         Latest { walk, next }
     }
 }

@@ -1,15 +1,15 @@
-use Rattle.std.proofs.Common.{◌∙◌, sym, ap, subst, reverse, Some, None, Option}
+use Rattle.std.proofs.Common.{◌∙◌, sym, ap, subst, Some, None, Option}
 use Rattle.std.specs.Map.Iter.{deref}
 use Rattle.std.specs.Option.{option_map}
 use Rattle.chat_change.specs.Buffer.{Buffer}
 use Rattle.chat_change.specs.Order.{buffer_cmp}
 use Rattle.chat_history.specs.Choice.{IsFirst}
-use Rattle.chat_history.specs.Visible.{records_in}
+use Rattle.chat_history.specs.Latest.{latest_moment}
 use Rattle.chat_buffers.specs.Ahead.{Entries, IsAhead}
-use Rattle.chat_buffers.specs.BufferWalk.{Walk, walk_after}
+use Rattle.chat_buffers.specs.BufferWalk.{Walk}
 use Rattle.chat_buffers.specs.Sought.{all_past}
 use Rattle.chat_buffers.specs.Store.{Store, history_in}
-use Rattle.chat_buffers.proofs.SoughtLemmas.{IsLeft, ahead_left, ahead_step, newest_here, nothing_left, all_behind, of_one_buffer, passed_over, found_first}
+use Rattle.chat_buffers.proofs.SoughtLemmas.{IsLeft, ahead_left, ahead_step, latest_here, nothing_left, all_behind, are_of, passed_over, found_first}
 use Rattle.chat_buffers.proofs.buffer_walk.BufferWalk.next_sought.Goals as goal
 
 pub loop-buffer-init : goal.loop-buffer-init
@@ -29,15 +29,22 @@ loop-buffer-preserved c =
     let from = c.args.self.now.last in
     let last : Option Buffer = option_map deref c.loop-buffer.self-inside.last in
     let ahead = subst (λ (es : Entries). IsAhead h last es) c.in-Some.ensures.steps c.loop-buffer.invariant.0 in
-    let left = subst (λ (es : Entries). IsLeft h s from es) c.in-Some.ensures.steps c.loop-buffer.invariant.1 in
-    let one = of_one_buffer h s from c.in-Some.buffer.now c.in-Some.held.now c.next.new.self left in (
+    let left = subst (λ (es : Entries). IsLeft h s from es) c.in-Some.ensures.steps c.loop-buffer.invariant.1 in (
       ahead_step h last c.in-Some.buffer.now c.in-Some.held.now c.next.new.self ahead,
-      passed_over h s from c.in-Some.buffer.now c.in-Some.held.now c.next.new.self left (c.is_any_sought.ensures.none c.if-is_any_sought.false one),
+      passed_over h s from c.in-Some.buffer.now c.in-Some.held.now c.next.new.self left (c.is_any_sought.ensures.none c.if-is_any_sought.false),
       c.loop-buffer.invariant.2,
     )
 
-pub invariant_of-self : goal.invariant_of-self
-invariant_of-self c =
+pub is_any_sought-requires : goal.is_any_sought-requires
+is_any_sought-requires c =
+    let h = history_in c.loop-buffer.self-inside.buffers.now in
+    let s = c.args.sought.now in
+    let from = c.args.self.now.last in
+    let left = subst (λ (es : Entries). IsLeft h s from es) c.in-Some.ensures.steps c.loop-buffer.invariant.1 in
+    record { of = are_of h s from c.in-Some.buffer.now c.in-Some.held.now c.next.new.self left }
+
+pub invariant_of-self-then-is_behind : goal.invariant_of-self-then-is_behind
+invariant_of-self-then-is_behind c =
     let h = history_in c.loop-buffer.self-inside.buffers.now in
     let last : Option Buffer = option_map deref c.loop-buffer.self-inside.last in
     let ahead = subst (λ (es : Entries). IsAhead h last es) c.in-Some.ensures.steps c.loop-buffer.invariant.0 in
@@ -68,17 +75,13 @@ returns-then-is_any_sought-clause-first c =
     subst (λ (x : Store). IsFirst buffer_cmp (all_past s from (history_in x)) (Some c.in-Some.buffer.now)) (sym c.loop-buffer.invariant.2)
     (found_first h s from c.in-Some.buffer.now c.in-Some.held.now c.next.new.self left (c.is_any_sought.ensures.some c.if-is_any_sought.true))
 
-pub returns-then-is_any_sought-clause-records : goal.returns-then-is_any_sought-clause-records
-returns-then-is_any_sought-clause-records c =
+pub returns-then-is_any_sought-clause-latest : goal.returns-then-is_any_sought-clause-latest
+returns-then-is_any_sought-clause-latest c =
     let h = history_in c.loop-buffer.self-inside.buffers.now in
     let last : Option Buffer = option_map deref c.loop-buffer.self-inside.last in
     let ahead = subst (λ (es : Entries). IsAhead h last es) c.in-Some.ensures.steps c.loop-buffer.invariant.0 in
-    newest_here h last c.in-Some.buffer.now c.in-Some.held.now c.next.new.self ahead c.down.result c.down.ensures
-    ∙ ap (λ (x : Store). reverse (records_in (history_in x) c.in-Some.buffer.now)) (sym c.loop-buffer.invariant.2)
-
-pub returns-then-is_any_sought-clause-walked : goal.returns-then-is_any_sought-clause-walked
-returns-then-is_any_sought-clause-walked c =
-    ap (λ (x : Store). walk_after x (Some c.in-Some.buffer.now)) (sym c.loop-buffer.invariant.2)
+    latest_here h last c.in-Some.buffer.now c.in-Some.held.now c.next.new.self ahead c.in_ok-latest.field-0 c.in_ok-latest.ensures
+    ∙ ap (λ (x : Store). latest_moment (history_in x) c.in-Some.buffer.now) (sym c.loop-buffer.invariant.2)
 
 pub returns-clause-first : goal.returns-clause-first
 returns-clause-first c =

@@ -6,11 +6,11 @@ use Rattle.chat_state.proofs.state.State.latest.Goals as goal
 
 pub invariant_of-result : goal.invariant_of-result
 invariant_of-result c =
-    let next = c.next_latest-next in
-    at_next c.walk-walk.result next.new.walk c.args.account c.args.network next.result next.ensures.first next.ensures.moment next.ensures.walked
+    let next = c.next_sought-next in
+    at_next c.walk-walk.result next.new.self c.args.account c.args.network next.result next.ensures.first next.ensures.latest next.ensures.walked
 
 pub returns : goal.returns
 returns c =
-    let next = c.next_latest-next in
-    latest_all c.self.inside.store c.walk-walk.result next.new.walk c.walk-walk.ensures c.args.account c.args.network next.result next.ensures.first next.ensures.walked
+    let next = c.next_sought-next in
+    latest_all c.self.inside.store c.walk-walk.result next.new.self c.walk-walk.ensures c.args.account c.args.network next.result next.ensures.first next.ensures.walked
     ∙ ap (λ (s : StateValue). latest_in s.history c.args.account.now c.args.network.now) c.self.view_is
