@@ -5,7 +5,6 @@ mod TestLemmas
 mod WordsLemmas
 mod NumberLemmas
 mod PostLineLemmas
-mod MakingLemmas
 mod ReadBackLemmas
 mod SpellingLemmas
 pub mod CallerLemmas

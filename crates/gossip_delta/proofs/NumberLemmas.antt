@@ -1,9 +1,10 @@
 -- A number has one spelling, its decimal digits, and so has a moment.
-use Rattle.std.proofs.Common.{◌≡◌, ℕ, zero, suc, ◌^◌, ◌≤◌, ◌<◌, Bool, true, false, not, ◌&&◌, cond, Some, None, List, [], ◌∷◌, length, get_or, refl, sym, ◌∙◌, ap, subst, arith, rules}
+use Rattle.std.proofs.Common.{◌≡◌, ℕ, zero, suc, ◌+◌, ◌-◌, ◌*◌, ◌^◌, ◌≤◌, ◌<◌, Bool, true, false, not, ◌&&◌, cond, Some, None, List, [], ◌∷◌, ◌++◌, length, get_or, take, refl, sym, ◌∙◌, ap, subst, arith, rules}
 use Rattle.std.specs.Prelude.{◌==◌, nat_lt, nat_le, decimal}
 use Rattle.std.specs.List.{list_all}
 use Rattle.std.proofs.lemmas.Bool.{false≢true, cond-true}
 use Rattle.std.proofs.lemmas.Bool.Decides.{nat_tests}
+use Rattle.std.proofs.lemmas.List.{take_more}
 use Rattle.std.proofs.lemmas.Fmt.{decimal_digit, decimal_nonempty, first_decimal, digits_decimal, digits_value-decimal, decimal-digits_value}
 use Rattle.std.proofs.lemmas.Str.Parse.{IsNumeralModel, numerals_by_fold}
 use Rattle.irc_time.specs.Time.{greatest}
@@ -14,6 +15,17 @@ use Rattle.gossip_delta.proofs.TestLemmas.{both, left, right, not_false, not_tru
 
 own : IsNumeralModel (λ ds. list_all is_digit ds ≡ true) (value_from 0)
 own = numerals_by_fold (λ ds. list_all is_digit ds ≡ true) (search rules) value_from (search rules)
+
+-- ---- digits by digit
+
+pub value_from-append : (n : ℕ) (xs ys : List ℕ) → value_from n (xs ++ ys) ≡ value_from (value_from n xs) ys
+value_from-append n [] ys = refl
+value_from-append n (x ∷ xs) ys = value_from-append (n * 10 + (x - 48)) xs ys
+
+-- the value with one digit more
+pub one_digit_more : (text : List ℕ) (i d n : ℕ) → i < length text → n ≡ value (take i text) → (digit : ℕ) → digit ≡ get_or text i d - 48 → n * 10 + digit ≡ value (take (i + 1) text)
+one_digit_more text i d n h e digit g =
+    (λ j. e j * 10 + g j) ∙ sym (ap value (take_more text i d h) ∙ value_from-append 0 (take i text) (get_or text i d ∷ []))
 
 no_zero_first : (xs : List ℕ) → 48 < get_or xs 0 0 → begins_with 48 xs ≡ false
 no_zero_first [] h = refl

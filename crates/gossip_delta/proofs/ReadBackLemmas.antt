@@ -43,6 +43,13 @@ folded_bytes (b ∷ t) h =
     let rest : lower_case_of t ≡ t = cc h in
     both (is_folded_byte b) (is_folded t) (eq-eqb (to_ascii_lowercase b) b first) (folded_bytes t rest)
 
+-- lawful names, of which the target stands folded, are those of a buffer
+pub lawful_names : (b : BufferFields) → is_name b.account ≡ true → is_name b.network ≡ true → is_target b.target ≡ true → lower_case_of b.target ≡ b.target → is_buffer b ≡ true
+lawful_names b account network target folded =
+    both (is_name b.account && is_name b.network && is_target b.target) (is_folded b.target)
+    (both (is_name b.account && is_name b.network) (is_target b.target) (both (is_name b.account) (is_name b.network) account network) target)
+    (folded_bytes b.target folded)
+
 module _ (b : Buffer) (lawful : IsLawfulBuffer b) (k : List ℕ) (bare : has_space k ≡ false) (other : is_text k (codes "AFLOOR") ≡ false) (more : List (List ℕ)) (last : List ℕ) where
   abbrev line : List ℕ
   line = words_text (buffer_words k b more) ++ last
@@ -75,10 +82,7 @@ module _ (b : Buffer) (lawful : IsLawfulBuffer b) (k : List ℕ) (bare : has_spa
   named = let t = lawful.folded in λ i. record { account = b.account; network = b.network; target = t i }
 
   is_one : is_buffer fields ≡ true
-  is_one =
-      both (is_name b.account && is_name b.network && is_target b.target) (is_folded b.target)
-      (both (is_name b.account && is_name b.network) (is_target b.target) (both (is_name b.account) (is_name b.network) lawful.account lawful.network) lawful.target)
-      (folded_bytes b.target lawful.folded)
+  is_one = lawful_names fields lawful.account lawful.network lawful.target lawful.folded
 
   are_names : has_names fields ≡ true
   are_names =

@@ -12,6 +12,6 @@ pub mod Growth
 -- ---- what only the proofs use of the code: what its values stand for
 
 pub mod BufferFields
-pub mod Making
+pub mod NamedBuffer
 pub mod Reading
 pub mod Turn

@@ -15,6 +15,7 @@ mod delta;
 mod fault;
 mod fields;
 pub mod laws;
+mod named_buffer;
 mod number;
 mod post_line;
 mod reading;

@@ -1,5 +1,5 @@
 //! Decimal numbers in lines, and moments.
-ghost use Rattle.std.specs.Prelude.{◌≡◌, ◌≤◌, ◌-◌, min};
+ghost use Rattle.std.specs.Prelude.{◌≡◌, ◌-◌, ◌<◌, ◌≤◌, ◌^◌, length, true, SomeIff};
 ghost use Rattle.std.specs.List.{list_all};
 ghost use Rattle.gossip_delta.specs.Number as spec;
 
@@ -32,23 +32,41 @@ fn has_leading_zero(text: &[u8]) -> bool
 }
 
 // What a digit counts.
-fn digit_value(b: u8) -> u128
-    ensures value { result ≡ b - 48 }
-    ensures bound { result ≤ 255 }
+fn digit_value(b: u8) -> u64
+    ensures { result ≡ b - 48 }
 {
-    b.saturating_sub(b'0') as u128
+    b.saturating_sub(b'0') as u64
 }
 
-// The value of the digits, or `most` where it is above that.
-fn value_to(most: u128, text: &[u8]) -> u128
-    requires { most ≤ 18446744073709551616 }
-    ensures { result ≡ min most (spec.value text.now) }
+// So many digits have a value below 2^64.
+const FEW: usize = 19;
+
+// The value of few digits.
+fn value_of_few(text: &[u8]) -> u64
+    requires few { length text.now ≤ FEW }
+    requires digits { list_all spec.is_digit text.now ≡ true }
+    ensures { result ≡ spec.value text.now }
 {
-    let mut n = 0u128;
+    let mut n = 0u64;
     'digits: for b in text {
-        n = (n * 10 + digit_value(*b)).min(most);
+        n = n * 10 + (*b - b'0') as u64;
     }
     n
+}
+
+// The value of digits, where it is below 2^64.
+fn value_of(text: &[u8]) -> Option<u64>
+    requires { list_all spec.is_digit text.now ≡ true }
+    ensures { SomeIff result (spec.value text.now < 2 ^ 64) (spec.value text.now) }
+{
+    if text.len() <= FEW {
+        return Some(value_of_few(text));
+    }
+    let mut n = 0u64;
+    'digits: for b in text {
+        n = n.checked_mul(10)?.checked_add(digit_value(*b))?;
+    }
+    Some(n)
 }
 
 /// The number up to `most` that the text spells: one or more decimal digits without a leading zero (`0` itself is
@@ -60,12 +78,8 @@ pub fn number_to(most: u64, text: &[u8]) -> Option<u64>
     if !is_digits(text) || has_leading_zero(text) {
         return None;
     }
-    let n = value_to(most as u128 + 1, text);
-    if n <= most as u128 {
-        Some(n as u64)
-    } else {
-        None
-    }
+    let n = value_of(text)?;
+    if n <= most { Some(n) } else { None }
 }
 
 /// The moment that the text spells, as milliseconds after 1970 began.

@@ -1,26 +1,28 @@
 //! The line of a post behind the names of its buffer: its fields as they are read, the parts of the post that they say, and
 //! its words as they are written. What a post has is spelled here alone.
-ghost use Rattle.std.specs.Prelude.{◌≡◌, ◌++◌, ◌∷◌, drop, None, IfOk, IfErr};
-ghost use Rattle.std.specs.Option.{option_and_then};
+ghost use Rattle.std.specs.Prelude.{◌≡◌, ◌++◌, ◌∷◌, drop, true, IfOk};
+ghost use Rattle.std.specs.Option.{option_map, option_and_then};
+ghost use Rattle.std.specs.Map.Iter.{deref};
 ghost use Rattle.byte_text.specs.Writes.{Writes};
 ghost use Rattle.chat_change.specs.Buffer as buffer;
-ghost use Rattle.chat_change.specs.Faults.{fault_or_no_memory};
 ghost use Rattle.chat_change.specs.Lawful.{IsLawfulRecord};
 ghost use Rattle.chat_change.specs.Message as message;
 ghost use Rattle.chat_change.specs.declared.change.Change.TheVariants as change;
 ghost use Rattle.gossip_delta.specs.Words.{words_text};
 ghost use Rattle.gossip_delta.specs.PostLine as spec;
-ghost use Rattle.gossip_delta.specs.Making as making;
-ghost use Rattle.gossip_delta.specs.Making.{IsMakersAnswer};
+ghost use Rattle.gossip_delta.specs.BufferFields as fields;
+ghost use Rattle.gossip_delta.specs.ChangeLine.{is_buffer, buffer_named};
+ghost use Rattle.gossip_delta.specs.NamedBuffer.{IsNamed};
 ghost use Rattle.gossip_delta.specs.ChangeText.{line_of, line_end, buffer_words};
 
-use crate::fault::ChangeLineFault;
+use crate::fields::BufferFields;
+use crate::named_buffer::buffer_for;
 use crate::number::moment_of;
 use crate::words::{begins_with, is_filled, is_text, put_line, put_word, put_words, split_word};
 use chat_change::{
-    Buffer, ChangeFault, Kind, Message, Moment, MsgId, Record, is_id, is_message, is_tags,
+    Buffer, Kind, Message, Moment, Record, is_id, is_message, is_tags, lawful_id, lawful_record,
 };
-use std::alloc::Global;
+use std::alloc::{AllocError, Global};
 use std::io;
 use std::io::Write;
 
@@ -152,67 +154,31 @@ pub(crate) fn is_lawful_post(post: &PostParts<'_>) -> bool
     is_id(post.id) && may_be_tags(post.tags) && is_message(post.message)
 }
 
-// The fault of the line whose part a maker refused.
-fn fault_of(fault: ChangeFault) -> ChangeLineFault
-    ensures { result ≡ making.fault_of fault }
+// The record of the parts, in that buffer.
+fn new_record(alloc: Global, buffer: Buffer, post: &PostParts<'_>) -> Result<Record, AllocError>
+    requires { spec.are_lawful post.now ≡ true }
+    ensures { IfOk result (λ made. made ≡ spec.record_of buffer post.now) }
 {
-    match fault {
-        ChangeFault::NoMemory => ChangeLineFault::NoMemory,
-        _ => ChangeLineFault::BadField,
-    }
+    let id = lawful_id(alloc, post.id)?;
+    lawful_record(alloc, buffer, id, post.at, post.message, post.tags)
 }
 
-/// The id of that text, if it is one.
-pub(crate) fn new_id(alloc: Global, id: &[u8]) -> Result<MsgId, ChangeLineFault>
-    ensures { IsMakersAnswer (making.if_id id.now) result }
-{
-    match MsgId::new(alloc, id) {
-        Ok(made) => Ok(made),
-        Err(fault) => Err(fault_of(fault)),
-    }
-}
-
-// The post of an id, with tags or none.
-fn record_with(
+/// The post of these parts in the buffer of these names. They are lawful, so it fails for want of memory alone.
+pub(crate) fn new_post(
     alloc: Global,
-    buffer: Buffer,
-    id: MsgId,
+    known: Option<&Buffer>,
+    names: &BufferFields<'_>,
     post: &PostParts<'_>,
-) -> Result<Record, ChangeFault>
-    ensures made { IfOk result (λ made. made ≡ record {
-      buffer = buffer;
-      id = id;
-      at = post.now.at;
-      tags = post.now.tags.now;
-      message = message.value_of post.now.message;
-    }) }
-    ensures lawful { IfOk result (λ _. making.post_fault post.now.tags.now
-        (message.value_of post.now.message) ≡ None) }
-    ensures refused { IfErr result (λ fault. fault ≡ fault_or_no_memory
-        (making.post_fault post.now.tags.now (message.value_of post.now.message))) }
+) -> Result<Record, AllocError>
+    requires known { IsNamed (option_map deref known) (fields.value_of names.now) }
+    requires names { is_buffer (fields.value_of names.now) ≡ true }
+    requires post { spec.are_lawful post.now ≡ true }
+    ensures { IfOk result (λ made.
+        made ≡ spec.record_of (buffer_named (fields.value_of names.now)) post.now) }
 {
-    if is_filled(post.tags) {
-        Record::new_tagged(alloc, buffer, id, post.at, post.message, post.tags)
-    } else {
-        Record::new(alloc, buffer, id, post.at, post.message)
-    }
-}
-
-/// The post of the parts, if they are lawful.
-pub(crate) fn new_record(
-    alloc: Global,
-    buffer: Buffer,
-    post: &PostParts<'_>,
-) -> Result<Record, ChangeLineFault>
-    ensures { IsMakersAnswer (spec.if_lawful (spec.record_of buffer post.now)) result }
-{
-    let id = match new_id(alloc, post.id) {
-        Ok(id) => id,
-        Err(fault) => return Err(fault),
-    };
-    match record_with(alloc, buffer, id, post) {
-        Ok(record) => Ok(record),
-        Err(fault) => Err(fault_of(fault)),
+    match buffer_for(alloc, known, names) {
+        Ok(buffer) => new_record(alloc, buffer, post),
+        Err(fault) => Err(fault),
     }
 }
 

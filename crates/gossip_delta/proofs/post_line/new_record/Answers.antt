@@ -1,18 +1,26 @@
-use Rattle.std.proofs.Common.{ℕ, Some, Err, List, sym, ap, ◌∙◌, subst}
-use Rattle.gossip_delta.specs.Making.{IsMakersAnswer}
-use Rattle.gossip_delta.specs.PostLine.{record_of, if_lawful}
-use Rattle.gossip_delta.proofs.MakingLemmas.{id_is, post_made, post_refused}
+use Rattle.std.proofs.Common.{◌≡◌, true, ◌&&◌, Option, Some, None, refl}
+use Rattle.std.specs.Prelude.{is_none}
+use Rattle.std.proofs.lemmas.Bool.{false≢true}
+use Rattle.chat_change.specs.Words.{is_id}
+use Rattle.chat_change.specs.Faults.{is_message, record_fault}
+use Rattle.chat_change.specs.Message as message
+use Rattle.chat_change.specs.declared.faults.ChangeFault.{ChangeFault}
+use Rattle.gossip_delta.specs.PostLine.{may_be_tags}
+use Rattle.gossip_delta.proofs.TestLemmas.{left, right, tags_that_pass}
 use Rattle.gossip_delta.proofs.post_line.new_record.Goals as goal
 
-pub returns-in-Ok-record_with : goal.returns-in-Ok-record_with
-returns-in-Ok-record_with c =
-    let r = record_of c.args.buffer c.args.post.now in
-    let id = id_is r.id c.in-Ok.id c.in-Ok.ensures in
-    post_made r id.0 c.in-Ok-record_with.ensures.lawful
-    ∙ ap Some (ap (λ (i : List ℕ). record r { id = i }) (sym id.1) ∙ sym c.in-Ok-record_with.ensures.made)
+no_fault : (o : Option ChangeFault) → is_none o ≡ true → o ≡ None
+no_fault None h = refl
+no_fault (Some fault) h = absurd (false≢true h)
 
-pub returns-in-Err-record_with : goal.returns-in-Err-record_with
-returns-in-Err-record_with c =
-    let r = record_of c.args.buffer c.args.post.now in
-    subst (λ f. IsMakersAnswer (if_lawful r) (Err f)) (sym c.fault_of.ensures)
-    (post_refused r c.in-Err-record_with.fault c.in-Err-record_with.ensures.refused)
+pub lawful_record-requires-clause-message : goal.lawful_record-requires-clause-message
+lawful_record-requires-clause-message c =
+    let p = c.args.post.now in
+    let m = message.value_of p.message in
+    no_fault (record_fault m) (right (is_id p.id.now && may_be_tags p.tags.now) (is_message m) c.requires)
+
+pub lawful_record-requires-clause-tags : goal.lawful_record-requires-clause-tags
+lawful_record-requires-clause-tags c =
+    let p = c.args.post.now in
+    let first = left (is_id p.id.now && may_be_tags p.tags.now) (is_message (message.value_of p.message)) c.requires in
+    tags_that_pass p.tags.now (right (is_id p.id.now) (may_be_tags p.tags.now) first)
