@@ -53,6 +53,10 @@ arrives arrived = record { gather = None; answer = Ok (Some arrived) }
 abbrev pub waits : Gathering → Pushed
 waits g = record { gather = Some g; answer = Ok None }
 
+-- a packet of which all changes came
+abbrev pub packet_arrived : Gathering → Arrived
+packet_arrived g = Packet (packet_of g.head g.changes)
+
 -- after one more change a packet is whole, and arrives, or it waits for others
 abbrev pub with_change : Head → List change.Change → Pushed
 with_change head changes =

@@ -2,7 +2,8 @@
 ghost use Rattle.std.specs.Prelude.{◌≡◌, ◌++◌, ◌∷◌, [], None, IfOk, OnOk, OnErr};
 ghost use Rattle.std.specs.Option.{option_map};
 ghost use Rattle.std.specs.Map.Iter.{deref};
-ghost use Rattle.peer_lines.specs.Gather.{pushed, with_change, IsAnswerFor, buffer_of};
+ghost use Rattle.peer_lines.specs.declared.peer_line.PeerLine.TheVariants as of_line;
+ghost use Rattle.peer_lines.specs.Gather.{pushed, IsAnswerFor, buffer_of};
 
 use crate::fault::LinkFault;
 use crate::life::Life;
@@ -77,45 +78,6 @@ fn begun(alloc: Global, line: PeerLine) -> (Option<Gathering>, Result<Option<Arr
     }
 }
 
-// What becomes of a packet once its last change came, which is the newest of these.
-fn grown(head: Head, changes: Vec<Change>) -> (Option<Gathering>, Option<Arrived>)
-    ensures gather { result.0 ≡ (with_change head changes.items).gather }
-    ensures answer { Ok result.1 ≡ (with_change head changes.items).answer }
-{
-    if changes.len() as u64 == head.count {
-        (None, Some(Arrived::Packet(head.with_changes(changes))))
-    } else {
-        (Some(Gathering { head, changes }), None)
-    }
-}
-
-// What a line adds to a packet that is under way.
-fn continued(
-    gathering: Gathering,
-    line: PeerLine,
-) -> (Option<Gathering>, Result<Option<Arrived>, LinkFault>)
-    ensures answer { IsAnswerFor (pushed (Some gathering) line).answer result.1 }
-    ensures gather { OnOk result.1 (result.0 ≡ (pushed (Some gathering) line).gather) }
-    ensures empty { OnErr result.1 (result.0 ≡ None) }
-{
-    match line {
-        PeerLine::Change(change) => {
-            let Gathering { head, mut changes } = gathering;
-            match changes.push(change) {
-                Ok(()) => {
-                    let (gathering, arrived) = grown(head, changes);
-                    (gathering, Ok(arrived))
-                }
-                Err(_) => (None, Err(LinkFault::NoMemory)),
-            }
-        }
-        other => {
-            drop(other);
-            (None, Err(LinkFault::BadForm))
-        }
-    }
-}
-
 // The buffer that a change speaks of, where it speaks of one.
 fn buffer_of(change: &Change) -> Option<&Buffer>
     ensures { option_map deref result ≡ buffer_of change.now }
@@ -145,6 +107,36 @@ impl Gather {
         buffer_of(gathering.changes.last()?)
     }
 
+    // The packet that isn't whole yet, as one that is.
+    fn finish(&mut self) -> Option<Arrived>
+        ensures answer { result ≡ option_map spec.packet_arrived self.old }
+        ensures empty { self.new ≡ None }
+    {
+        let Gathering { head, changes } = self.gathering.take()?;
+        Some(Arrived::Packet(head.with_changes(changes)))
+    }
+
+    // Takes a change. It is put where the others are, since most lines of a packet are such.
+    fn push_change(&mut self, change: Change) -> Result<Option<Arrived>, LinkFault>
+        ensures answer { IsAnswerFor (pushed self.old (of_line.Change change)).answer result }
+        ensures gather { OnOk result (self.new ≡ (pushed self.old (of_line.Change change)).gather) }
+        ensures empty { OnErr result (self.new ≡ None) }
+    {
+        let Some(gathering) = &mut self.gathering else {
+            drop(change);
+            return Err(LinkFault::BadForm);
+        };
+        if gathering.changes.push(change).is_err() {
+            self.gathering = None;
+            return Err(LinkFault::NoMemory);
+        }
+        if gathering.changes.len() as u64 == gathering.head.count {
+            Ok(self.finish())
+        } else {
+            Ok(None)
+        }
+    }
+
     /// Takes the next line. A word, a hello and an acknowledgement arrive by themselves, and a packet arrives exactly with
     /// the last of its changes; before that nothing does.
     ///
@@ -155,10 +147,14 @@ impl Gather {
         ensures gather { OnOk result (self.new ≡ (pushed self.old line).gather) }
         ensures empty { OnErr result (self.new ≡ None) }
     {
-        let (gathering, answer) = match self.gathering.take() {
-            None => begun(alloc, line),
-            Some(gathering) => continued(gathering, line),
-        };
+        if let PeerLine::Change(change) = line {
+            return self.push_change(change);
+        }
+        if self.gathering.take().is_some() {
+            drop(line);
+            return Err(LinkFault::BadForm);
+        }
+        let (gathering, answer) = begun(alloc, line);
         self.gathering = gathering;
         answer
     }
