@@ -114,12 +114,16 @@ fn main(rt: HostRuntime) -> ExitCode {
     let handle = &rt;
     let read = move |path: &str| -> io::Result<Vec<u8>> { fs::read(handle, path) };
     let serve = move |config: &Config| -> Result<Vec<WorkEnd>, ServeFault> {
-        let Prepared {
-            intake,
-            beginnings,
-            floors,
-        } = prepare(handle, config)?;
-        run_prepared(handle, intake, beginnings, floors, boxed)
+        match prepare(handle, config) {
+            Ok(
+                Prepared {
+                    intake,
+                    beginnings,
+                    floors,
+                },
+            ) => run_prepared(handle, intake, beginnings, floors, boxed),
+            Err(fault) => Err(fault),
+        }
     };
     let done = end_of_program(alloc, &words, &mut rt.stdin(), &mut output, read, serve);
     exit(&rt, done)

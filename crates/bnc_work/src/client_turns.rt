@@ -1,13 +1,12 @@
 //! The turns of clients.
-use crate::mail::Mail;
 use crate::work_port::WorkPort;
 use crate::worker::Worker;
-use crate::worker_config::WorkEnd;
 use attach::Attachment;
 use bnc_ports::Reason;
 use chat_change::Change;
-use passed_lines::SaidLine;
+use passed_lines::{Mail, SaidLine};
 use work_clients::{ClientEffect, ClientPut, ClientStep};
+use worker_io::WorkEnd;
 use worker_node::Node;
 
 /// So many steps a client has before the others have their turn.

@@ -9,7 +9,6 @@
 
 mod client_turns;
 mod floor_turns;
-mod mail;
 mod mail_turns;
 mod marker_turns;
 mod peer_turns;
@@ -18,11 +17,10 @@ mod server_turns;
 mod starting;
 mod work_port;
 mod worker;
-mod worker_config;
 
 pub use bnc_ports::{Gate, Lobby, Port};
-pub use mail::Mail;
+pub use passed_lines::Mail;
 pub use starting::{StartFault, work_all};
 pub use work_port::WorkPort;
 pub use worker::work;
-pub use worker_config::{WorkEnd, WorkerConfig};
+pub use worker_io::{WorkEnd, WorkerConfig};

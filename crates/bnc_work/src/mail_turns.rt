@@ -1,11 +1,10 @@
 //! What workers tell each other, and what is done for the whole node.
-use crate::mail::Mail;
 use crate::work_port::WorkPort;
 use crate::worker::Worker;
-use crate::worker_config::WorkEnd;
 use attach::Attachment;
-use passed_lines::NetworkEntry;
+use passed_lines::{Mail, NetworkEntry};
 use work_servers::Standing;
+use worker_io::WorkEnd;
 use worker_node::Node;
 
 impl<N: Node, X: Attachment, P: WorkPort> Worker<N, X, P> {

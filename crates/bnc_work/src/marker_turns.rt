@@ -1,11 +1,11 @@
 //! Sessions are told of read markers (IRCv3 draft/read-marker).
-use crate::mail::Mail;
 use crate::work_port::WorkPort;
 use crate::worker::Worker;
-use crate::worker_config::WorkEnd;
 use attach::Attachment;
 use byte_text::Text;
 use chat_change::{Buffer, Change};
+use passed_lines::Mail;
+use worker_io::WorkEnd;
 use worker_node::{MarkAhead, Node};
 
 impl<N: Node, X: Attachment, P: WorkPort> Worker<N, X, P> {

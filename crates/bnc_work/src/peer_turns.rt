@@ -1,13 +1,13 @@
 //! The turns of peers.
-use crate::mail::Mail;
 use crate::work_port::WorkPort;
 use crate::worker::Worker;
-use crate::worker_config::WorkEnd;
 use attach::Attachment;
 use bnc_ports::Reason;
 use byte_text::NoMemory;
+use passed_lines::Mail;
 use peer_session::{Outcome, changes_of};
 use work_peers::PeerStep;
+use worker_io::WorkEnd;
 use worker_node::{MarkAhead, Node, marks_ahead};
 
 /// So many lines of a peer are taken before the others have their turn.

@@ -1,14 +1,15 @@
 //! The turns of networks' servers.
-use crate::mail::Mail;
 use crate::work_port::WorkPort;
 use crate::worker::Worker;
-use crate::worker_config::WorkEnd;
 use attach::Attachment;
 use bnc_ports::{Port, Reason};
 use byte_text::NoMemory;
-use passed_lines::{Deed, Live, LiveMessage, Passed, PassedLine, Said, ServerEffects, ServerPut};
+use passed_lines::{
+    Deed, Live, LiveMessage, Mail, Passed, PassedLine, Said, ServerEffects, ServerPut,
+};
 use shared_node::PutFault;
 use work_servers::{SaidStep, ServerStep};
+use worker_io::WorkEnd;
 use worker_node::Node;
 
 /// So many lines of a server are taken before the others have their turn: about as many as one read brings, so that what

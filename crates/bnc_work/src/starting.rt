@@ -1,7 +1,6 @@
 //! All workers of a node, each on a thread of its own.
 use crate::work_port::WorkPort;
 use crate::worker::try_work;
-use crate::worker_config::{WorkEnd, WorkerConfig};
 use attach::Attachment;
 use bnc_ports::{Carries, Gate};
 use byte_text::NoMemory;
@@ -14,6 +13,7 @@ use thiserror::Error;
 use work_clients::ToClient;
 use work_peers::ToPeer;
 use work_servers::ToServer;
+use worker_io::{WorkEnd, WorkerConfig};
 
 /// Why not all workers were started. Those that were have run to their end.
 #[derive(Clone, Copy, Debug, PartialEq, Eq, Error)]

@@ -1,6 +1,6 @@
 //! What a worker's port is.
-use crate::mail::Mail;
 use bnc_ports::{Carries, Port};
+use passed_lines::Mail;
 use work_clients::ToClient;
 use work_peers::ToPeer;
 use work_servers::ToServer;

@@ -1,19 +1,18 @@
 //! One worker: what comes, and who has something to do.
-use crate::mail::Mail;
 use crate::work_port::WorkPort;
-use crate::worker_config::{WorkEnd, WorkerConfig};
 use attach::Attachment;
 use bnc_ports::{Carries, Connection, Dial, Gate, Happening, Lobby};
 use byte_text::NoMemory;
 use chat_change::Moment;
 use gossip_link::NodeName;
+use passed_lines::Mail;
 use shared_node::{Naming, NodeTaker, Pass, SharedNode};
 use std::alloc::Global;
 use std::sync::{Arc, Wait};
 use work_clients::{Clients, ToClient};
 use work_peers::{Peers, ToPeer};
 use work_servers::{Servers, ToServer};
-use worker_io::{ClockWatch, Context, NodeView, Timer, clock};
+use worker_io::{ClockWatch, Context, NodeView, Timer, WorkEnd, WorkerConfig, clock};
 use worker_node::{GatedNode, Node};
 
 /// A worker looks after its timers at least so often, in milliseconds.

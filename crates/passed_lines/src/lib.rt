@@ -6,14 +6,15 @@
 //! with the server of that account's network puts that or passes it on (`IsPutBy`, `IsPassedOn`). A [`Live`] is a message that
 //! such a session put, and a [`NetworkEntry`] how one stands.
 //!
-//! A [`SaidLine`], a [`LiveMessage`], a [`NetworkEntry`] and a [`PassedLine`] are these on their way to another worker. The crate
-//! stands on `upstream_session`, `client_session` and `worker_io`. Read [`NetworkSession`] first.
+//! A [`SaidLine`], a [`LiveMessage`], a [`NetworkEntry`] and a [`PassedLine`] are these on their way to another worker, which
+//! gets them as [`Mail`]. The crate stands on `upstream_session`, `client_session` and `worker_io`. Read [`NetworkSession`] first.
 #![tactic(auto)]
 
 mod effects;
 mod entry;
 pub mod laws;
 mod live;
+mod mail;
 mod passed;
 mod said;
 mod session;
@@ -21,6 +22,7 @@ mod session;
 pub use effects::{Deed, ServerEffects, ServerPut};
 pub use entry::NetworkEntry;
 pub use live::{Live, LiveMessage};
+pub use mail::Mail;
 pub use passed::{Passed, PassedLine};
 pub use said::{Said, SaidLine};
 pub use session::{NetworkSession, SayFault};

@@ -1,10 +1,10 @@
 //! What the parts of a worker share: its view of the node and of the time, its port, its timers, and lines for other workers.
 //!
-//! A [`Context`] is lent to the part that has its turn: the servers, the clients or the peers. Its [`NodeView`] is what the node's
-//! configuration and directory say; its [`Schedule`] rings when a connection is to be tried again, is silent, or a floor is
-//! due; its [`Shortage`] counts what is closed for want of memory. [`Closing`] says whether a connection stays, and a
-//! [`ClockWatch`] whether the wall clock keeps time. [`Connections`] is the table of the clients, of the servers and of the
-//! peers, with the queue of those that have something to do.
+//! A worker begins with a [`WorkerConfig`], and ends with a [`WorkEnd`]. A [`Context`] is lent to the part that has its turn: the
+//! servers, the clients or the peers. Its [`NodeView`] is what the node's configuration and directory say; its [`Schedule`] rings
+//! when a connection is to be tried again, is silent, or a floor is due; its [`Shortage`] counts what is closed for want of
+//! memory. [`Closing`] says whether a connection stays, and a [`ClockWatch`] whether the wall clock keeps time. [`Connections`]
+//! is the table of the clients, of the servers and of the peers, with the queue of those that have something to do.
 //!
 //! [`Timers`] is a value and reads no clock: its caller sets and clears timers, waits until the moment that [`Timers::next`] tells,
 //! and then takes the due ones out, the earliest first. [`Lines::share`] puts a line's bytes into a block that all who get the
@@ -26,6 +26,7 @@ mod shortage;
 mod timer;
 mod timers;
 mod waits;
+mod worker_config;
 
 pub use clock_watch::{BETWEEN_LOOKS, ClockWatch};
 pub use closing::Closing;
@@ -39,3 +40,4 @@ pub use shortage::Shortage;
 pub use timer::Timer;
 pub use timers::Timers;
 pub use waits::{PATIENCE, RETRY};
+pub use worker_config::{WorkEnd, WorkerConfig};

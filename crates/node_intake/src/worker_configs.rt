@@ -1,11 +1,10 @@
 //! What each worker begins with.
 ghost use Rattle.std.specs.Prelude.{◌≡◌, IfOk, map};
-ghost use Rattle.bnc_node.specs.WorkerConfigs as spec;
+ghost use Rattle.node_intake.specs.WorkerConfigs as spec;
 ghost use Rattle.node_config.specs.Beginnings.{directory_of, names_of};
 
 use attach::Attachment;
 use bnc_ports::Lobby;
-use bnc_work::WorkerConfig;
 use byte_text::{NoMemory, Text};
 use gossip_link::{PeerTerms, Terms};
 use node_config::{Config, Network, Peer};
@@ -13,6 +12,7 @@ use peer_lines::{Life, LinkFault, SharedWord};
 use std::alloc::Global;
 use upstream_session as upstream;
 use upstream_session::Channels;
+use worker_io::WorkerConfig;
 
 fn copies_of(alloc: Global, texts: &[Text]) -> Result<Vec<Text>, NoMemory>
     ensures { IfOk result (λ copies. copies.items ≡ texts.now) }

@@ -2,7 +2,6 @@
 ghost use Rattle.std.specs.Prelude.{◌≡◌, ◌≢◌, ◌↔◌};
 
 use attach::PlacesFault;
-use bnc_work::StartFault;
 use byte_text::NoMemory;
 use shared_node::{NodeFault, PutFault};
 use std::alloc::AllocError;
@@ -72,7 +71,7 @@ impl From<io::Error> for ServeFault {
 
 impl From<AllocError> for ServeFault {
     ghost use Rattle.std.specs.Prelude.{◌≡◌};
-    ghost use Rattle.bnc_node.specs.declared.fault.ServeFault.TheVariants as fault_case;
+    ghost use Rattle.node_intake.specs.declared.fault.ServeFault.TheVariants as fault_case;
 
     ghost from_gives = { λ _ fault. fault ≡ fault_case.NoMemory };
 
@@ -83,7 +82,7 @@ impl From<AllocError> for ServeFault {
 
 impl From<NoMemory> for ServeFault {
     ghost use Rattle.std.specs.Prelude.{◌≡◌};
-    ghost use Rattle.bnc_node.specs.declared.fault.ServeFault.TheVariants as fault_case;
+    ghost use Rattle.node_intake.specs.declared.fault.ServeFault.TheVariants as fault_case;
 
     ghost from_gives = { λ _ fault. fault ≡ fault_case.NoMemory };
 
@@ -94,7 +93,7 @@ impl From<NoMemory> for ServeFault {
 
 impl From<NodeFault> for ServeFault {
     ghost use Rattle.std.specs.Prelude.{◌≡◌};
-    ghost use Rattle.bnc_node.specs.Fault.{fault_of_node};
+    ghost use Rattle.node_intake.specs.Fault.{fault_of_node};
 
     ghost from_gives = { λ part fault. fault ≡ fault_of_node part };
 
@@ -109,7 +108,7 @@ impl From<NodeFault> for ServeFault {
 
 impl From<PlacesFault> for ServeFault {
     ghost use Rattle.std.specs.Prelude.{◌≡◌};
-    ghost use Rattle.bnc_node.specs.Fault.{fault_of_places};
+    ghost use Rattle.node_intake.specs.Fault.{fault_of_places};
 
     ghost from_gives = { λ part fault. fault ≡ fault_of_places part };
 
@@ -123,26 +122,12 @@ impl From<PlacesFault> for ServeFault {
 
 impl From<PutFault> for ServeFault {
     ghost use Rattle.std.specs.Prelude.{◌≡◌};
-    ghost use Rattle.bnc_node.specs.declared.fault.ServeFault.TheVariants as fault_case;
+    ghost use Rattle.node_intake.specs.declared.fault.ServeFault.TheVariants as fault_case;
 
     ghost from_gives = { λ _ fault. fault ≡ fault_case.NoMemory };
 
     // A node that begins has numbers left.
     fn from(_: PutFault) -> ServeFault {
         ServeFault::NoMemory
-    }
-}
-
-impl From<StartFault> for ServeFault {
-    ghost use Rattle.std.specs.Prelude.{◌≡◌};
-    ghost use Rattle.bnc_node.specs.Fault.{fault_of_start};
-
-    ghost from_gives = { λ part fault. fault ≡ fault_of_start part };
-
-    fn from(fault: StartFault) -> ServeFault {
-        match fault {
-            StartFault::NoMemory => ServeFault::NoMemory,
-            StartFault::NoThread => ServeFault::NoThread,
-        }
     }
 }

@@ -1,20 +1,22 @@
 //! The workers of a node, before they begin, and the intakes for new connections.
 ghost use Rattle.std.specs.Prelude.{◌≡◌, IfOk, map};
 
+use crate::client_places::ClientPlaces;
 use crate::fault::ServeFault;
 use crate::worker_configs::worker_config_of;
 use attach::Attachment;
-use bnc_ports::{Arrival, Lobby, Waiting};
+use bnc_ports::{Arrival, Lobby};
 use bnc_sockets::{Addresses, Delivery, Mailbox, Newcomer, SocketPort, WorkerIntake, waker_of};
-use bnc_work::{Mail, WorkerConfig};
 use crossbeam_channel::{Receiver, Sender, unbounded};
 use mio::Poll;
 use node_config::{Config, Network, Peer};
+use passed_lines::Mail;
 use std::alloc::{AllocError, Global};
 use std::io::Eprint;
 use std::net::{Net, SocketAddr};
 use std::sync::Wait;
 use std::time::Clock;
+use worker_io::WorkerConfig;
 
 // The workers of a node, and where connections are handed in to them.
 #[derive(Drop)]
@@ -23,8 +25,8 @@ pub(crate) struct Workers<R: Wait + Drop, X: Drop> {
     pub(crate) beginnings: Vec<(WorkerConfig<X>, SocketPort<R, Mail>)>,
     // An intake for each worker.
     pub(crate) intakes: Vec<WorkerIntake<Mail, X>>,
-    // Which clients wait to be registered.
-    pub(crate) waiting: Waiting,
+    // The places of the workers' clients.
+    pub(crate) places: ClientPlaces,
 }
 
 // Where a worker waits, and where what is handed in to it arrives.
@@ -73,7 +75,9 @@ fn setups_of<R: Net + AllocGlobal>(rt: &R, count: usize) -> Result<Vec<WorkerSet
     let mut setups = Vec::new(rt.alloc());
     for _ in 0..count {
         let setup = setup_of(rt)?;
-        setups.push(setup).map_err(AllocError::from)?;
+        if setups.push(setup).is_err() {
+            return Err(ServeFault::NoMemory);
+        }
     }
     Ok(setups)
 }
@@ -148,9 +152,9 @@ fn port_of<R: Net + Wait + Clock + Eprint + AllocGlobal + Copy + Drop>(
 // A lobby for a worker's clients, and where their attachments are sent.
 fn lobby_of<X: Attachment>(
     alloc: Global,
-    waiting: &Waiting,
+    places: &ClientPlaces,
 ) -> Result<(Sender<Arrival<X>>, Lobby<X>), ServeFault> {
-    let waiting = waiting.try_clone()?;
+    let waiting = places.share_waiting()?;
     let (sender, arrivals) = unbounded(alloc)?;
     Ok((sender, Lobby::new(arrivals, waiting)))
 }
@@ -165,10 +169,11 @@ impl<R: Net + Wait + Clock + Eprint + AllocGlobal + Copy + Drop, X: Attachment> 
         let alloc = rt.alloc();
         let addresses = addresses_of(alloc, config)?;
         let setups = setups_of(rt, config.limits.workers)?;
+        let places = ClientPlaces::new(alloc, config.limits.places)?;
         let mut workers = Workers {
-            waiting: Waiting::new(alloc, config.limits.places)?,
             beginnings: Vec::new(alloc),
             intakes: Vec::new(alloc),
+            places,
         };
         workers.add_all(rt, config, incarnation, &addresses, setups)?;
         Ok(workers)
@@ -205,25 +210,27 @@ impl<R: Net + Wait + Clock + Eprint + AllocGlobal + Copy + Drop, X: Attachment> 
             mailbox,
             entrance,
         } = setup;
-        let lobby = self.add_door(rt.alloc(), mailbox, entrance)?;
+        let lobby = self.add_intake(rt.alloc(), mailbox, entrance)?;
         let port = port_of(rt, addresses, mailboxes, inbox)?;
         let worker_config = worker_config_of(rt.alloc(), config, incarnation, lobby)?;
-        self.beginnings
-            .push((worker_config, port))
-            .map_err(AllocError::from)?;
+        if self.beginnings.push((worker_config, port)).is_err() {
+            return Err(ServeFault::NoMemory);
+        }
         Ok(())
     }
 
-    // Adds a intake to a worker. It answers the lobby where the clients that come in by it arrive.
-    fn add_door(
+    // Adds an intake to a worker. It answers the lobby where the clients that come in by it arrive.
+    fn add_intake(
         &mut self,
         alloc: Global,
         mailbox: Mailbox<Mail>,
         entrance: Sender<Newcomer>,
     ) -> Result<Lobby<X>, ServeFault> {
-        let (arrivals, lobby) = lobby_of(alloc, &self.waiting)?;
+        let (arrivals, lobby) = lobby_of(alloc, &self.places)?;
         let intake = WorkerIntake::new(mailbox, entrance, arrivals);
-        self.intakes.push(intake).map_err(AllocError::from)?;
+        if self.intakes.push(intake).is_err() {
+            return Err(ServeFault::NoMemory);
+        }
         Ok(lobby)
     }
 }

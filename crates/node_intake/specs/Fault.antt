@@ -1,10 +1,8 @@
 -- What is told where a part of a node can't begin: the part's own fault, by the same name.
 use Rattle.attach.specs.declared.places.PlacesFault.{PlacesFault}
 use Rattle.attach.specs.declared.places.PlacesFault.TheVariants as places_case
-use Rattle.bnc_node.specs.declared.fault.ServeFault.{ServeFault}
-use Rattle.bnc_node.specs.declared.fault.ServeFault.TheVariants.{NoMemory, NoThread, BadCount, NoReader}
-use Rattle.bnc_work.specs.declared.starting.StartFault.{StartFault}
-use Rattle.bnc_work.specs.declared.starting.StartFault.TheVariants as start_case
+use Rattle.node_intake.specs.declared.fault.ServeFault.{ServeFault}
+use Rattle.node_intake.specs.declared.fault.ServeFault.TheVariants.{NoMemory, BadCount, NoReader}
 use Rattle.shared_node.specs.declared.faults.NodeFault.{NodeFault}
 use Rattle.shared_node.specs.declared.faults.NodeFault.TheVariants as node_case
 
@@ -18,8 +16,3 @@ fault_of_node node_case.NoReader = NoReader
 abbrev pub fault_of_places : PlacesFault → ServeFault
 fault_of_places places_case.BadCount = BadCount
 fault_of_places places_case.NoMemory = NoMemory
-
--- where a worker can't begin
-abbrev pub fault_of_start : StartFault → ServeFault
-fault_of_start start_case.NoMemory = NoMemory
-fault_of_start start_case.NoThread = NoThread

@@ -1,7 +1,7 @@
 //! The floors that are put before the workers of a node begin.
 ghost use Rattle.std.specs.Prelude.{◌≡◌, ◌++◌, IfOk, IsTrue};
 ghost use Rattle.std.specs.Option.{option_to_list};
-ghost use Rattle.bnc_node.specs.WorkerConfigs as spec;
+ghost use Rattle.node_intake.specs.WorkerConfigs as spec;
 
 use crate::fault::ServeFault;
 use bnc_ports::Event;

@@ -1,5 +1,6 @@
 //! The places of clients, and who gives way where each is taken.
-use attach::{ClaimFault, Clerk, Stand};
+use crate::fault::ServeFault;
+use attach::{ClaimFault, Clerk, Places, Stand};
 use bnc_ports::Waiting;
 use std::alloc::{AllocError, Global};
 
@@ -29,35 +30,37 @@ struct Seat {
 pub(crate) struct ClientPlaces {
     clerk: Clerk,
     waiting: Waiting,
-    setups: Vec<Option<Seat>>,
+    seats: Vec<Option<Seat>>,
     // How many were handed in.
     count: u64,
 }
 
-// So many setups, at which nobody was.
+// So many seats, at which nobody was.
 fn empty_seats(alloc: Global, places: usize) -> Result<Vec<Option<Seat>>, AllocError> {
-    let mut setups = Vec::new(alloc);
+    let mut seats = Vec::new(alloc);
     for _ in 0..places {
-        setups.push(None).map_err(AllocError::from)?;
+        seats.push(None)?;
     }
-    Ok(setups)
+    Ok(seats)
 }
 
 impl ClientPlaces {
-    // The clerk's places, so many. Nobody is there. Who waits to be registered is shared with the workers.
-    pub(crate) fn new(
-        alloc: Global,
-        clerk: Clerk,
-        waiting: Waiting,
-        places: usize,
-    ) -> Result<ClientPlaces, AllocError> {
-        let setups = empty_seats(alloc, places)?;
+    // So many places, which are all free.
+    pub(crate) fn new(alloc: Global, places: usize) -> Result<ClientPlaces, ServeFault> {
+        let waiting = Waiting::new(alloc, places)?;
+        let clerk = Places::new(alloc, places)?;
+        let seats = empty_seats(alloc, places)?;
         Ok(ClientPlaces {
             clerk,
             waiting,
-            setups,
+            seats,
             count: 0,
         })
+    }
+
+    // Who waits to be registered, for a worker that has clients here.
+    pub(crate) fn share_waiting(&self) -> Result<Waiting, AllocError> {
+        self.waiting.try_clone()
     }
 
     // A place that is free.
@@ -72,22 +75,22 @@ impl ClientPlaces {
 
     // The client at that place was handed in.
     pub(crate) fn note(&mut self, place: usize, handed: Handed) {
-        let setup = Seat {
+        let seat = Seat {
             handed,
             before: self.count,
             asked_at: None,
         };
         self.count = self.count.saturating_add(1);
-        if let Some(kept) = self.setups.get_mut(place) {
-            *kept = Some(setup);
+        if let Some(kept) = self.seats.get_mut(place) {
+            *kept = Some(seat);
         }
     }
 
     // How many were asked to go a short while ago, and may be about to.
     pub(crate) fn count_leaving(&self, now: u64) -> usize {
         let mut count: usize = 0;
-        for (place, setup) in self.setups.iter().enumerate() {
-            if is_leaving(setup, now) && self.waiting.waits(place) {
+        for (place, seat) in self.seats.iter().enumerate() {
+            if is_leaving(seat, now) && self.waiting.waits(place) {
                 count = count.saturating_add(1);
             }
         }
@@ -96,25 +99,26 @@ impl ClientPlaces {
 
     // The place of who has waited longest to be registered, of those that weren't asked to go.
     fn longest(&self) -> Option<usize> {
-        let mut first: Option<(u64, usize)> = None;
-        for (place, setup) in self.setups.iter().enumerate() {
-            if let Some(number) = number_of(setup) {
-                let is_first = first.is_none_or(|(least, _)| number < least);
-                if is_first && self.waiting.waits(place) {
-                    first = Some((number, place));
+        let mut least = u64::MAX;
+        let mut first = None;
+        for (place, seat) in self.seats.iter().enumerate() {
+            if let Some(number) = number_of(seat) {
+                if number < least && self.waiting.waits(place) {
+                    least = number;
+                    first = Some(place);
                 }
             }
         }
-        first.map(|(_, place)| place)
+        first
     }
 
     // Who has waited longest to be registered, of those that weren't asked to go. It is to be asked now.
     pub(crate) fn ask_longest(&mut self, now: u64) -> Option<Handed> {
         let place = self.longest()?;
-        match self.setups.get_mut(place) {
-            Some(Some(setup)) => {
-                setup.asked_at = Some(now);
-                Some(setup.handed)
+        match self.seats.get_mut(place) {
+            Some(Some(seat)) => {
+                seat.asked_at = Some(now);
+                Some(seat.handed)
             }
             _ => None,
         }
@@ -122,8 +126,8 @@ impl ClientPlaces {
 }
 
 // Whether it was asked to go a short while ago.
-fn is_leaving(setup: &Option<Seat>, now: u64) -> bool {
-    match setup {
+fn is_leaving(seat: &Option<Seat>, now: u64) -> bool {
+    match seat {
         Some(
             Seat {
                 asked_at: Some(at),
@@ -135,8 +139,8 @@ fn is_leaving(setup: &Option<Seat>, now: u64) -> bool {
 }
 
 // How many were handed in before it, where it wasn't asked to go.
-fn number_of(setup: &Option<Seat>) -> Option<u64> {
-    match setup {
+fn number_of(seat: &Option<Seat>) -> Option<u64> {
+    match seat {
         Some(
             Seat {
                 before,

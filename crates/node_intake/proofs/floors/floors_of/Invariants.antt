@@ -1,7 +1,7 @@
 use Rattle.std.proofs.Common.{◌≡◌, take}
 use Rattle.std.specs.List.{filter_map}
-use Rattle.bnc_node.specs.WorkerConfigs.{floor_of}
-use Rattle.bnc_node.proofs.floors.floors_of.Given as goal
+use Rattle.node_intake.specs.WorkerConfigs.{floor_of}
+use Rattle.node_intake.proofs.floors.floors_of.Given as goal
 
 -- the floors of the accounts so far
 abbrev pub invariant-loop-account : goal.invariant-loop-account

@@ -1,6 +1,9 @@
 //! What workers tell each other.
+use crate::entry::NetworkEntry;
+use crate::live::LiveMessage;
+use crate::passed::PassedLine;
+use crate::said::SaidLine;
 use byte_text::Text;
-use passed_lines::{LiveMessage, NetworkEntry, PassedLine, SaidLine};
 
 /// What a worker tells another, each with what gives it the right to. Networks are those of the configuration, counted from 0.
 #[derive(Drop)]

@@ -43,6 +43,15 @@ fn listener_at<R: Net>(rt: &R, address: SocketAddr) -> Result<TcpListener, Serve
     }
 }
 
+// A poll that tells of both.
+fn poll_of<R: Net>(rt: &R, clients: &mut TcpListener, peers: &mut TcpListener) -> io::Result<Poll> {
+    let poll = Poll::new(rt)?;
+    let registry = poll.registry();
+    registry.register(clients, CLIENTS, Interest::READABLE)?;
+    registry.register(peers, PEERS, Interest::READABLE)?;
+    Ok(poll)
+}
+
 // The sockets on which a node accepts clients and peers.
 #[derive(Drop)]
 pub(crate) struct Listeners {
@@ -62,23 +71,18 @@ impl Listeners {
         clients: SocketAddr,
         peers: SocketAddr,
     ) -> Result<Listeners, ServeFault> {
-        let mut listeners = Listeners {
-            clients: listener_at(rt, clients)?,
-            peers: listener_at(rt, peers)?,
-            poll: Poll::new(rt)?,
-            events: Events::with_capacity(rt.alloc(), EVENTS)?,
+        let mut clients = listener_at(rt, clients)?;
+        let mut peers = listener_at(rt, peers)?;
+        let poll = poll_of(rt, &mut clients, &mut peers)?;
+        let events = Events::with_capacity(rt.alloc(), EVENTS)?;
+        Ok(Listeners {
+            poll,
+            events,
+            clients,
+            peers,
             is_failing: false,
             was_failing: false,
-        };
-        listeners.register()?;
-        Ok(listeners)
-    }
-
-    // Has the poll tell of both.
-    fn register(&mut self) -> io::Result<()> {
-        let registry = self.poll.registry();
-        registry.register(&mut self.clients, CLIENTS, Interest::READABLE)?;
-        registry.register(&mut self.peers, PEERS, Interest::READABLE)
+        })
     }
 
     // Tells the operator where the node listens.

@@ -1,0 +1,77 @@
+//! The node before its workers begin, and what each of them begins with.
+ghost use Rattle.shared_node.specs.Names.{IsNamed};
+
+use crate::fault::ServeFault;
+use crate::floors::put_floors;
+use crate::intake::Intake;
+use attach::{Attachment, RingClient};
+use bnc_ports::Port;
+use chat_change::Change;
+use shared_node::{Naming, Pass, SharedNode, Unnamed};
+use std::alloc::{AllocError, Global};
+use std::io::Eprint;
+use std::sync::Wait;
+use std::thread::Threads;
+use std::time::Clock;
+use worker_io::WorkerConfig;
+
+/// What a worker begins with: its pass, its configuration and its port.
+pub type Job<J, X, P> = (Pass<J>, WorkerConfig<X>, P);
+
+/// Begins a node of that name: puts the floors, and takes connections in from then on, on a thread of its own. It answers the
+/// node, and a job for each of its passes.
+///
+/// `boxed` makes of a client the attachment that its worker keeps; none where there is no memory.
+pub fn begin_node<'a, J, R, X, P, F>(
+    rt: &'a R,
+    name: Unnamed,
+    intake: Intake<X>,
+    beginnings: Vec<(WorkerConfig<X>, P)>,
+    floors: Vec<Change>,
+    boxed: F,
+) -> Result<(SharedNode<J, &'a R>, Vec<Job<J, X, P>>), ServeFault>
+where
+    J: Naming,
+    R: Threads + Wait + Clock + Eprint + AllocGlobal + Copy + Send + Drop + 'static,
+    X: Attachment + Send + 'static,
+    P: Port,
+    F: Fn(RingClient) -> Option<X> + Send + Drop + 'static,
+    requires named { IsNamed J.book J.name J.parts name }
+    requires callable { F.IsAlwaysCallable boxed }
+{
+    let (node, passes) = node_with::<J, R>(rt, name, &floors)?;
+    let jobs = jobs_of(rt.alloc(), passes, beginnings)?;
+    intake.begin(rt, boxed)?;
+    Ok((node, jobs))
+}
+
+// A node of that name, in which the floors are put, and its passes.
+fn node_with<'a, J, R>(
+    rt: &'a R,
+    name: Unnamed,
+    floors: &[Change],
+) -> Result<(SharedNode<J, &'a R>, Vec<Pass<J>>), ServeFault>
+where
+    J: Naming,
+    R: Wait + Clock + Eprint + AllocGlobal + Drop,
+    requires { IsNamed J.book J.name J.parts name }
+{
+    let (node, mut passes) = SharedNode::<J, &R>::new(rt.alloc(), rt, name)?;
+    if let Some(pass) = passes.first_mut() {
+        put_floors(rt, &node, pass, floors)?;
+    }
+    Ok((node, passes))
+}
+
+// A job for each pass, in their order.
+fn jobs_of<J: Naming, X: Attachment, P: Port>(
+    alloc: Global,
+    passes: Vec<Pass<J>>,
+    beginnings: Vec<(WorkerConfig<X>, P)>,
+) -> Result<Vec<Job<J, X, P>>, AllocError> {
+    let mut jobs = Vec::new(alloc);
+    for (pass, (worker_config, port)) in passes.into_iter().zip(beginnings) {
+        jobs.push((pass, worker_config, port))?;
+    }
+    Ok(jobs)
+}

@@ -1,0 +1,177 @@
+//! Where connections are taken in.
+use crate::client_places::ClientPlaces;
+use crate::fault::ServeFault;
+use crate::listeners::{Caller, Entrance, Listeners};
+use crate::queue::{MOST_QUEUED, Queue};
+use crate::worker_intakes::WorkerIntakes;
+use attach::{Attachment, Boxed, RingClient, Stand};
+use bnc_ports::Reason;
+use bnc_sockets::{WorkerIntake, monotonic_ms};
+use passed_lines::Mail;
+use std::alloc::Global;
+use std::io::Eprint;
+use std::sync::Wait;
+use std::thread;
+use std::thread::Threads;
+use std::time::Clock;
+
+/// Where connections come in, and where they are handed to the workers: clients, of whom each has a place, to the workers in
+/// turn, and peers to worker 0. Where each place is taken those give way who have waited longest to be registered.
+#[derive(Drop)]
+pub struct Intake<X = Boxed> {
+    listeners: Listeners,
+    queue: Queue,
+    places: ClientPlaces,
+    workers: WorkerIntakes<X>,
+    // How many bytes may be owed to a client.
+    bound: usize,
+}
+
+// A client at that place, with room for so many bytes that it may be owed.
+fn attachment_at<X, F: Fn(RingClient) -> Option<X>>(
+    alloc: Global,
+    stand: Stand,
+    bound: usize,
+    boxed: &F,
+) -> Option<X>
+    requires { F.IsAlwaysCallable boxed.now }
+{
+    match RingClient::new(alloc, stand, bound) {
+        Ok(client) => boxed(client),
+        Err(_) => None,
+    }
+}
+
+impl<X: Attachment> Intake<X> {
+    // Nobody is there, and nobody waits.
+    pub(crate) fn new(
+        alloc: Global,
+        listeners: Listeners,
+        places: ClientPlaces,
+        intakes: Vec<WorkerIntake<Mail, X>>,
+        bound: usize,
+    ) -> Intake<X> {
+        Intake {
+            listeners,
+            queue: Queue::new(alloc),
+            places,
+            workers: WorkerIntakes::new(intakes),
+            bound,
+        }
+    }
+
+    // Takes connections in from now on, on a thread of its own. Once the system can't wait for them the workers are told to end.
+    pub(crate) fn begin<R, F>(self, rt: &R, boxed: F) -> Result<(), ServeFault>
+    where
+        R: Threads + Wait + Clock + Eprint + AllocGlobal + Copy + Send + Drop + 'static,
+        X: Send + 'static,
+        F: Fn(RingClient) -> Option<X> + Send + Drop + 'static,
+        requires { F.IsAlwaysCallable boxed }
+    {
+        self.listeners.tell(rt);
+        if receive_in_a_thread(*rt, self, boxed) {
+            Ok(())
+        } else {
+            Err(ServeFault::NoThread)
+        }
+    }
+
+    // Takes connections in for as long as the system can wait for them. Then the workers are told to end.
+    fn receive<R: Wait + Clock + Eprint + AllocGlobal, F: Fn(RingClient) -> Option<X>>(
+        &mut self,
+        rt: &R,
+        boxed: &F,
+    )
+        requires { F.IsAlwaysCallable boxed.now }
+    {
+        for _ in rt.forever() {
+            let was_client = self.queue.take_client(rt, &mut self.listeners);
+            let was_peer = self.take_peer(rt);
+            self.seat_all(rt, boxed);
+            if !was_client && !was_peer && !self.queue.wait(&mut self.listeners) {
+                break;
+            }
+            self.queue.tell_refusals(rt);
+        }
+        self.workers.stop(rt);
+    }
+
+    // Hands the next node that connected to worker 0. False where none waited.
+    fn take_peer<R: Wait + Clock + Eprint>(&mut self, rt: &R) -> bool {
+        match self.listeners.accept(rt, Entrance::Peers) {
+            Caller::Nobody => false,
+            Caller::Gone => true,
+            Caller::Connected(stream, address) => {
+                self.workers.hand_peer(rt, stream, address);
+                true
+            }
+        }
+    }
+
+    // Hands in those who wait for a place, in their order and as far as places are free.
+    fn seat_all<R: Wait + Clock + Eprint + AllocGlobal, F: Fn(RingClient) -> Option<X>>(
+        &mut self,
+        rt: &R,
+        boxed: &F,
+    )
+        requires { F.IsAlwaysCallable boxed.now }
+    {
+        for _ in 0..MOST_QUEUED {
+            if self.queue.len() == 0 {
+                return;
+            }
+            let Ok(stand) = self.places.claim() else {
+                return self.make_way(rt);
+            };
+            let place = stand.place();
+            let attachment = attachment_at(rt.alloc(), stand, self.bound, boxed);
+            self.seat_next(rt, place, attachment);
+        }
+    }
+
+    // Hands in who has waited longest for a place, with its attachment. Where there was no memory for that it is closed.
+    fn seat_next<R: Wait + Clock + Eprint>(&mut self, rt: &R, place: usize, attachment: Option<X>) {
+        let Some((stream, address)) = self.queue.pop() else {
+            return;
+        };
+        let Some(attachment) = attachment else {
+            return self.queue.tell_refused(rt, address, Reason::NoMemory);
+        };
+        self.places.begin(place);
+        if let Some(handed) = self.workers.hand_client(rt, stream, address, attachment) {
+            self.places.note(place, handed);
+        }
+    }
+
+    // Each place is taken. For each who waits for one, who has waited longest to be registered is asked to go. Where nobody is
+    // left to be asked, those who wait for a place are closed.
+    fn make_way<R: Wait + Clock + Eprint>(&mut self, rt: &R) {
+        let now = monotonic_ms(rt).unwrap_or(0);
+        for _ in self.places.count_leaving(now)..self.queue.len() {
+            match self.places.ask_longest(now) {
+                Some(handed) => self.workers.ask_to_leave(rt, handed),
+                None => break,
+            }
+        }
+        if self.places.count_leaving(now) == 0 {
+            self.queue.refuse_all(rt);
+        }
+    }
+}
+
+// Takes connections in on a thread of its own. False where the system gives no thread.
+fn receive_in_a_thread<R, X, F>(rt: R, intake: Intake<X>, boxed: F) -> bool
+where
+    R: Threads + Wait + Clock + Eprint + AllocGlobal + Copy + Send + Drop + 'static,
+    X: Attachment + Send + 'static,
+    F: Fn(RingClient) -> Option<X> + Send + Drop + 'static,
+    requires { F.IsAlwaysCallable boxed }
+{
+    let run = move ||
+        requires { F.IsAlwaysCallable boxed }
+    {
+        let mut intake = intake;
+        intake.receive(&rt, &boxed);
+    };
+    thread::spawn(&rt, run).is_ok()
+}

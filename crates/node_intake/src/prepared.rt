@@ -1,0 +1,71 @@
+//! What is made before a node runs.
+use crate::fault::ServeFault;
+use crate::floors::floors_of;
+use crate::intake::Intake;
+use crate::listeners::Listeners;
+use crate::workers::Workers;
+use attach::{Attachment, Boxed};
+use bnc_ports::Event;
+use bnc_sockets::{SocketPort, now_ms, report};
+use chat_change::Change;
+use node_config::Config;
+use passed_lines::Mail;
+use std::alloc::Global;
+use std::io::Eprint;
+use std::net::Net;
+use std::sync::Wait;
+use std::time::Clock;
+use worker_io::WorkerConfig;
+
+/// What is made before a node runs.
+#[derive(Drop)]
+pub struct Prepared<R: Wait + Drop, X: Drop = Boxed> {
+    /// Where connections come in.
+    pub intake: Intake<X>,
+    /// What each worker begins with, but for its pass.
+    pub beginnings: Vec<(WorkerConfig<X>, SocketPort<R, Mail>)>,
+    /// The floors of accounts that are put before the workers begin.
+    pub floors: Vec<Change>,
+}
+
+/// Listens at the addresses of the configuration, and makes what its workers begin with. The node's incarnation is the clock's
+/// milliseconds.
+pub fn prepare<R: Net + Wait + Clock + Eprint + AllocGlobal + Copy + Drop, X: Attachment>(
+    rt: &R,
+    config: &Config,
+) -> Result<Prepared<R, X>, ServeFault> {
+    let listeners = Listeners::open(rt, config.listen, config.peer_listen)?;
+    let Some(incarnation) = now_ms(rt) else {
+        return Err(ServeFault::NoClock);
+    };
+    let workers = Workers::new(rt, config, incarnation)?;
+    let floors = floors_of(rt.alloc(), &config.accounts)?;
+    tell_retention(rt, config.limits.retain_days);
+    Ok(prepared_of(config, rt.alloc(), listeners, workers, floors))
+}
+
+fn prepared_of<R: Wait + Drop, X: Attachment>(
+    config: &Config,
+    alloc: Global,
+    listeners: Listeners,
+    workers: Workers<R, X>,
+    floors: Vec<Change>,
+) -> Prepared<R, X> {
+    let Workers {
+        beginnings,
+        intakes,
+        places,
+    } = workers;
+    Prepared {
+        intake: Intake::new(alloc, listeners, places, intakes, config.limits.bound),
+        beginnings,
+        floors,
+    }
+}
+
+// Tells the operator for how many days messages are kept, where that isn't for ever.
+fn tell_retention<R: Clock + Eprint>(rt: &R, days: u32) {
+    if days > 0 {
+        report(rt, &Event::Retention { days });
+    }
+}

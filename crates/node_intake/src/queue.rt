@@ -1,0 +1,122 @@
+//! Clients that wait for a place.
+use crate::listeners::{Caller, Entrance, Listeners};
+use bnc_ports::{Event, Reason, Refusals};
+use bnc_sockets::{monotonic_ms, report};
+use mio::net::TcpStream;
+use std::alloc::Global;
+use std::collections::VecDeque;
+use std::io::Eprint;
+use std::net::SocketAddr;
+use std::time::Clock;
+use worker_io::Shortage;
+
+// So many clients at most wait for a place.
+pub(crate) const MOST_QUEUED: usize = 16;
+
+// After so many milliseconds it is looked whether a place is free by now.
+const PATIENCE: u64 = 10;
+
+// Clients that connected and have no place yet, in their order, and what the operator is to be told of those that were closed.
+#[derive(Drop)]
+pub(crate) struct Queue {
+    clients: VecDeque<(TcpStream, SocketAddr)>,
+    // Those that were closed before they were handed in.
+    refusals: Refusals,
+    // Those of them for which there was no memory.
+    shortage: Shortage,
+}
+
+impl Queue {
+    // Nobody waits.
+    pub(crate) fn new(alloc: Global) -> Queue {
+        Queue {
+            clients: VecDeque::new(alloc),
+            refusals: Refusals::new(),
+            shortage: Shortage::new(),
+        }
+    }
+
+    pub(crate) fn len(&self) -> usize {
+        self.clients.len()
+    }
+
+    // The client that has waited longest.
+    pub(crate) fn pop(&mut self) -> Option<(TcpStream, SocketAddr)> {
+        self.clients.pop_front()
+    }
+
+    // Takes in the next client that connected, which waits for a place from now on. False where none did.
+    pub(crate) fn take_client<R: Clock + Eprint>(
+        &mut self,
+        rt: &R,
+        listeners: &mut Listeners,
+    ) -> bool {
+        match listeners.accept(rt, Entrance::Clients) {
+            Caller::Nobody => false,
+            Caller::Gone => true,
+            Caller::Connected(stream, address) => {
+                self.push(rt, stream, address);
+                true
+            }
+        }
+    }
+
+    // A client waits for a place. Where too many do it is closed.
+    fn push<R: Clock + Eprint>(&mut self, rt: &R, stream: TcpStream, address: SocketAddr) {
+        if self.clients.len() >= MOST_QUEUED {
+            self.tell_refused(rt, address, Reason::NoPlace);
+        } else if self.clients.push_back((stream, address)).is_err() {
+            self.tell_refused(rt, address, Reason::NoMemory);
+        }
+    }
+
+    // Waits until somebody connects, until a place may be free, or until the operator is to be told something. False where the
+    // system can't wait.
+    pub(crate) fn wait(&self, listeners: &mut Listeners) -> bool {
+        let most = if self.clients.is_empty() {
+            self.refusals.patience().or(self.shortage.patience())
+        } else {
+            Some(PATIENCE)
+        };
+        listeners.wait(most)
+    }
+
+    // Closes those who wait for a place.
+    pub(crate) fn refuse_all<R: Clock + Eprint>(&mut self, rt: &R) {
+        for _ in 0..MOST_QUEUED {
+            let Some((stream, address)) = self.clients.pop_front() else {
+                return;
+            };
+            drop(stream);
+            self.tell_refused(rt, address, Reason::NoPlace);
+        }
+    }
+
+    // The operator is told that a client was closed before it was handed to a worker, or that there was one more of many.
+    pub(crate) fn tell_refused<R: Clock + Eprint>(
+        &mut self,
+        rt: &R,
+        address: SocketAddr,
+        reason: Reason,
+    ) {
+        let address = Some(address);
+        let event = Event::ClientRefused { address, reason };
+        if self.shortage.is_told(&event) && self.refusals.add() {
+            report(rt, &event);
+        }
+    }
+
+    // The operator is told once a minute how many more clients were refused than were told one by one, and how many for want of
+    // memory.
+    pub(crate) fn tell_refusals<R: Clock + Eprint>(&mut self, rt: &R) {
+        let Some(now) = monotonic_ms(rt) else {
+            return;
+        };
+        if let Some(count) = self.refusals.take_untold(now) {
+            report(rt, &Event::ClientsRefused { count });
+        }
+        if let Some(count) = self.shortage.take(now) {
+            report(rt, &Event::OutOfMemory { count });
+        }
+    }
+}
