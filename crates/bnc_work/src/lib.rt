@@ -8,12 +8,12 @@
 #![tactic(auto)]
 
 mod client_turns;
-mod floor_turns;
-mod mail_turns;
 mod marker_turns;
+mod news;
 mod peer_turns;
 mod putting;
 mod server_turns;
+mod standings;
 mod starting;
 mod work_port;
 mod worker;

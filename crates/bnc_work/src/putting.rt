@@ -1,47 +1,51 @@
-//! What a worker puts into its node. What only waits to be published is tried again a second later.
-use crate::work_port::WorkPort;
-use crate::worker::Worker;
-use attach::Attachment;
-use chat_change::Change;
-use passed_lines::ServerPut;
+//! What a worker puts when it is due. What only waits to be published is tried again a second later.
+use bnc_ports::{Event, Port};
 use shared_node::PutFault;
-use work_clients::ClientPut;
-use worker_io::Timer;
-use worker_node::{Node, publish_waiting, put_of_client, put_of_server};
+use worker_io::{BETWEEN_LOOKS, ClockWatch, Context, Timer};
+use worker_node::{Node, publish_waiting, put_due_floors};
 
 /// What waits to be published is tried again after so many milliseconds.
 const SECOND: u64 = 1000;
 
-impl<N: Node, X: Attachment, P: WorkPort> Worker<N, X, P> {
-    /// Puts what the session of a client puts, once, and answers what that is.
-    pub(crate) fn put_of_client(&mut self, put: ClientPut) -> Result<Change, PutFault> {
-        let done = put_of_client(&mut self.node, &self.context.view, put);
-        if let Err(PutFault::Waiting) = &done {
-            self.publish_later();
-        }
-        done
-    }
+/// Tries a second later to publish what waits.
+pub(crate) fn publish_later<P: Port>(context: &mut Context<P>) {
+    context.set_timer(Timer::Publish, SECOND);
+}
 
-    /// Puts what the session with a network's server puts.
-    pub(crate) fn put_of_server(&mut self, put: &ServerPut<'_>) -> Result<(), PutFault> {
-        let done = put_of_server(&mut self.node, &self.context.view, put);
-        if done == Err(PutFault::Waiting) {
-            self.publish_later();
-        }
-        done
+/// Publishes what waits, or tries that again a second later. True where the peers are to have it now.
+pub(crate) fn publish_now<N: Node, P: Port>(node: &mut N, context: &mut Context<P>) -> bool {
+    match publish_waiting(node, &context.view) {
+        Ok(()) => return true,
+        Err(PutFault::Waiting) => publish_later(context),
+        Err(PutFault::NoMemory { .. } | PutFault::Exhausted) => {}
     }
+    false
+}
 
-    /// Tries a second later to publish what waits.
-    pub(crate) fn publish_later(&mut self) {
-        self.context.set_timer(Timer::Publish, SECOND);
+/// Puts the floors that are due, tells the operator, and looks again in an hour: what is older than the node keeps messages is let
+/// go. A floor can't be taken back: where the clock leapt since the last look, none is put this time, and the operator is told
+/// that. True where something was put that the peers are to have.
+pub(crate) fn put_floors<N: Node, P: Port>(
+    node: &mut N,
+    context: &mut Context<P>,
+    watch: &mut ClockWatch,
+) -> bool {
+    context.set_timer(Timer::Floors, BETWEEN_LOOKS);
+    if let Some(leap) = watch.look(context.view.clocks()) {
+        context.port.report(&Event::ClockLeapt(leap));
+        return false;
     }
-
-    /// Publishes what waits, or tries that again a second later.
-    pub(crate) fn publish_waiting(&mut self) {
-        match publish_waiting(&mut self.node, &self.context.view) {
-            Ok(()) => self.publish(),
-            Err(PutFault::Waiting) => self.publish_later(),
-            Err(PutFault::NoMemory { .. } | PutFault::Exhausted) => {}
-        }
+    let Some(due) = put_due_floors(node, &context.view) else {
+        return false;
+    };
+    if due.is_waiting {
+        publish_later(context);
     }
+    if due.count > 0 {
+        context.port.report(&Event::FloorsPut {
+            count: due.count,
+            at: due.at,
+        });
+    }
+    true
 }

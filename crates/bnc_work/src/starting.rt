@@ -51,7 +51,7 @@ where
     <P as Carries<ToPeer>>::Connection: Send,
     G: Gate,
 {
-    each_numbered(
+    each_of_parts(
         rt,
         all,
         &|worker: usize, pass: Pass<J>, config: WorkerConfig<X>, port: P| {
@@ -60,9 +60,9 @@ where
     )
 }
 
-// Calls `f` for each, with its place in the list, on a thread of its own, and joins the threads. (The parts of a job are type
-// parameters, since a tuple of what they are here isn't found to be Send.)
-fn each_numbered<R, A, B, C, X, F>(rt: &R, all: Vec<(A, B, C)>, f: &F) -> Result<Vec<X>, StartFault>
+// Calls `f` for each as [`each_in_a_thread`] does. (The parts of a job are type parameters, since a tuple of what they are here
+// isn't found to be Send.)
+fn each_of_parts<R, A, B, C, X, F>(rt: &R, all: Vec<(A, B, C)>, f: &F) -> Result<Vec<X>, StartFault>
 where
     R: Threads + Wait + AllocGlobal + Sync,
     A: Send + Drop,
@@ -72,27 +72,23 @@ where
     F: Fn(usize, A, B, C) -> Result<X, NoMemory> + Sync,
     requires { F.IsAlwaysCallable f.now }
 {
-    let mut jobs = Vec::with_capacity(rt.alloc(), all.len())?;
-    for (number, (a, b, c)) in all.into_iter().enumerate() {
-        jobs.push((number, a, b, c)).map_err(AllocError::from)?;
-    }
     each_in_a_thread(
         rt,
-        jobs,
-        &|job: (usize, A, B, C)| -> Result<X, NoMemory>
+        all,
+        &|number: usize, job: (A, B, C)| -> Result<X, NoMemory>
             requires { F.IsAlwaysCallable f.now }
-        { f(job.0, job.1, job.2, job.3) },
+        { f(number, job.0, job.1, job.2) },
     )
 }
 
-// Calls `f` at each job, on a thread of its own, and joins the threads. What was started runs to its end before a refusal
-// is answered.
+// Calls `f` for each job, with its place in the list, on a thread of its own, and joins the threads. What was started runs to
+// its end before a refusal is answered.
 fn each_in_a_thread<R, J, X, F>(rt: &R, jobs: Vec<J>, f: &F) -> Result<Vec<X>, StartFault>
 where
     R: Threads + Wait + AllocGlobal + Sync,
     J: Send + Drop,
     X: Send + Drop,
-    F: Fn(J) -> Result<X, NoMemory> + Sync,
+    F: Fn(usize, J) -> Result<X, NoMemory> + Sync,
     requires { F.IsAlwaysCallable f.now }
 {
     let alloc = rt.alloc();
@@ -105,21 +101,17 @@ where
             requires { F.IsAlwaysCallable f.now }
         {
             let mut fault = None;
-            for job in jobs {
+            for (number, job) in jobs.into_iter().enumerate() {
                 let run = move || -> Result<X, NoMemory>
                     requires { F.IsAlwaysCallable f.now }
-                { f(job) };
-                match scope.spawn(run) {
-                    Ok(handle) => {
-                        if handles.push(handle).is_err() {
-                            fault = Some(StartFault::NoMemory);
-                            break;
-                        }
-                    }
-                    Err(_) => {
-                        fault = Some(StartFault::NoThread);
-                        break;
-                    }
+                { f(number, job) };
+                let Ok(handle) = scope.spawn(run) else {
+                    fault = Some(StartFault::NoThread);
+                    break;
+                };
+                if handles.push(handle).is_err() {
+                    fault = Some(StartFault::NoMemory);
+                    break;
                 }
             }
             let ends = join_all(rt, handles, ends)?;

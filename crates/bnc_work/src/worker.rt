@@ -1,7 +1,11 @@
 //! One worker: what comes, and who has something to do.
+use crate::marker_turns::tell_mark;
+use crate::news::is_another_behind;
+use crate::putting::{publish_now, put_floors};
+use crate::standings::{keep_entry, spread, tell_entry};
 use crate::work_port::WorkPort;
 use attach::Attachment;
-use bnc_ports::{Carries, Connection, Dial, Gate, Happening, Lobby};
+use bnc_ports::{Carries, Connection, Dial, Gate, Happening, Lobby, Port};
 use byte_text::NoMemory;
 use chat_change::Moment;
 use gossip_link::NodeName;
@@ -23,9 +27,6 @@ const HAPPENINGS: usize = 64;
 
 /// So many timers are looked after in one turn.
 const TIMERS: usize = 64;
-
-/// A worker that has more mail before it than this is behind.
-const MOST_MAIL: usize = 1024;
 
 /// A worker whose servers wait for one that is behind looks again after so many milliseconds.
 const PAUSE: u64 = 1;
@@ -113,17 +114,7 @@ fn view_of<X: Attachment>(
     (now, moment): (u64, Moment),
     config: WorkerConfig<X>,
 ) -> Result<(NodeView, Lobby<X>, Vec<NodeName>), NoMemory> {
-    let WorkerConfig {
-        lobby,
-        cluster,
-        maximum,
-        directory,
-        networks,
-        terms,
-        peers,
-        retain_days,
-    } = config;
-    let Ok(terms) = Arc::new(alloc, terms) else {
+    let Ok(terms) = Arc::new(alloc, config.terms) else {
         return Err(NoMemory);
     };
     let view = NodeView {
@@ -132,14 +123,44 @@ fn view_of<X: Attachment>(
         workers,
         now,
         moment,
-        cluster,
-        maximum,
-        directory,
-        networks,
+        cluster: config.cluster,
+        maximum: config.maximum,
+        directory: config.directory,
+        networks: config.networks,
         terms,
-        retain_days,
+        retain_days: config.retain_days,
     };
-    Ok((view, lobby, peers))
+    Ok((view, config.lobby, config.peers))
+}
+
+// What happens next, for which the port may wait so long. The clocks are read then.
+fn next_happening<P: Port>(
+    context: &mut Context<P>,
+    patience: u64,
+) -> Result<Happening<P::Mail>, WorkEnd> {
+    let Ok(happening) = context.port.next(patience) else {
+        return Err(WorkEnd::Failed);
+    };
+    if context.read_clock() {
+        Ok(happening)
+    } else {
+        Err(WorkEnd::Failed)
+    }
+}
+
+// A connection that was dialed could not be made.
+fn refused<S: Connection, E: Connection, P: Port>(
+    context: &mut Context<P>,
+    servers: &mut Servers<S>,
+    peers: &mut Peers<E>,
+    number: usize,
+    what: Dial,
+) {
+    context.port.give_up(number);
+    match what {
+        Dial::Network(network) => servers.retry(context, network),
+        Dial::Peer(place) => peers.retry(context, place),
+    }
 }
 
 // A worker's servers and its peers, of these names, without a connection.
@@ -177,51 +198,20 @@ impl<N: Node, X: Attachment, P: WorkPort> Worker<N, X, P> {
         })
     }
 
-    // Works until the gate shuts, or the port ends or fails.
+    // Connects to the servers of this worker's networks, and works until the gate shuts, or the port ends or fails. The first
+    // worker connects to peers too, and has the floors put.
     fn run<W: Wait>(&mut self, rt: &W) -> WorkEnd {
-        self.open();
+        self.servers.dial_all(&mut self.context);
+        if self.context.view.worker == 0 {
+            self.context.set_timer(Timer::Floors, 0);
+            self.peers.dial_all(&mut self.context);
+        }
         for _ in rt.forever() {
             if let Err(end) = self.turn() {
                 return end;
             }
         }
         unreachable!()
-    }
-
-    // Connects to the servers of this worker's networks. The first worker connects to peers too, and has the floors put.
-    fn open(&mut self) {
-        let Worker {
-            context,
-            servers,
-            peers,
-            ..
-        } = self;
-        servers.dial_all(context);
-        if context.view.worker == 0 {
-            context.set_timer(Timer::Floors, 0);
-            peers.dial_all(context);
-        }
-    }
-
-    /// Asks the gate whether an answer may go out.
-    pub(crate) fn ask_gate(&self) -> Result<(), WorkEnd> {
-        if self.node.may_answer(self.context.view.worker) {
-            Ok(())
-        } else {
-            Err(WorkEnd::GateShut)
-        }
-    }
-
-    /// Whether another worker is behind with its mail. That grows by what servers say, so their lines wait then: nothing of it
-    /// is dropped, and each worker goes on reading its own.
-    pub(crate) fn is_another_behind(&self) -> bool {
-        let view = &self.context.view;
-        for worker in 0..view.workers {
-            if worker != view.worker && self.context.port.backlog(worker) > MOST_MAIL {
-                return true;
-            }
-        }
-        false
     }
 
     // How long the port may wait.
@@ -233,7 +223,11 @@ impl<N: Node, X: Attachment, P: WorkPort> Worker<N, X, P> {
             return 0;
         }
         if self.servers.connections.is_busy() {
-            return if self.is_another_behind() { PAUSE } else { 0 };
+            return if is_another_behind(&self.context) {
+                PAUSE
+            } else {
+                0
+            };
         }
         match self.context.timers.next() {
             Some(at) => at.saturating_sub(self.context.view.now).min(LONGEST),
@@ -241,23 +235,11 @@ impl<N: Node, X: Attachment, P: WorkPort> Worker<N, X, P> {
         }
     }
 
-    // What happens next, for which the port may wait so long. The clocks are read then.
-    fn next(&mut self, patience: u64) -> Result<Happening<Mail>, WorkEnd> {
-        let Ok(happening) = self.context.port.next(patience) else {
-            return Err(WorkEnd::Failed);
-        };
-        if self.context.read_clock() {
-            Ok(happening)
-        } else {
-            Err(WorkEnd::Failed)
-        }
-    }
-
     // What happened, what is due, and the turns of one server, and of each client and each peer that has something to do. So a
     // client or a peer waits for one turn of a server, however many lines that has.
     fn turn(&mut self) -> Result<(), WorkEnd> {
         self.take_happenings()?;
-        self.look_after_timers()?;
+        self.look_after_timers();
         self.clients.tell_refusals(&mut self.context);
         self.peers.tell_refusals(&mut self.context);
         self.context.begin_turn();
@@ -265,51 +247,22 @@ impl<N: Node, X: Attachment, P: WorkPort> Worker<N, X, P> {
             self.serve_server(number)?;
         }
         self.serve_clients()?;
-        self.tell_published();
         self.serve_peers()
     }
 
-    // Messages that came are told, and those clients that have something to do by now have a turn each.
-    fn serve_clients(&mut self) -> Result<(), WorkEnd> {
-        self.clients.tell_untold(&mut self.context);
-        for _ in 0..self.clients.connections.busy_count() {
-            if let Some(number) = self.clients.connections.next_busy() {
-                self.serve_client(number)?;
-            }
-        }
-        Ok(())
-    }
-
-    // Those peers that have something to do by now have a turn each.
-    fn serve_peers(&mut self) -> Result<(), WorkEnd> {
-        for _ in 0..self.peers.connections.busy_count() {
-            if let Some(number) = self.peers.connections.next_busy() {
-                self.serve_peer(number)?;
-            }
-        }
-        Ok(())
-    }
-
-    // What happened, as far as it is there at once.
+    // What happened, as far as it is there at once. What mail brings is kept once it is told.
     fn take_happenings(&mut self) -> Result<(), WorkEnd> {
         let mut patience = self.patience();
         for _ in 0..HAPPENINGS {
-            let happening = self.next(patience)?;
-            if !self.take(happening)? {
+            let happening = next_happening(&mut self.context, patience)?;
+            let done = self.act_on(&happening);
+            keep_entry(&mut self.context.view, happening);
+            if !done? {
                 return Ok(());
             }
             patience = 0;
         }
         Ok(())
-    }
-
-    // Does what comes of it, and keeps what mail brings. False where nothing happened.
-    fn take(&mut self, happening: Happening<Mail>) -> Result<bool, WorkEnd> {
-        let done = self.act_on(&happening);
-        if let Happening::Mail(mail) = happening {
-            self.keep_entry(mail);
-        }
-        done
     }
 
     // Does what comes of it. False where nothing happened.
@@ -322,23 +275,29 @@ impl<N: Node, X: Attachment, P: WorkPort> Worker<N, X, P> {
             Happening::Leave { ticket } => self.clients.give_way(&mut self.context, *ticket),
             Happening::Peer { number } => self.peers.begin(&mut self.context, *number, None),
             Happening::Opened { number, what } => self.opened(*number, *what)?,
-            Happening::Refused { number, what } => self.refused(*number, *what),
+            Happening::Refused { number, what } => {
+                refused(
+                    &mut self.context,
+                    &mut self.servers,
+                    &mut self.peers,
+                    *number,
+                    *what,
+                );
+            }
             Happening::Ready {
                 number,
                 readable,
                 writable,
-            } => self.mark(*number, *readable, *writable),
+            } => {
+                let _ = self.clients.connections.mark(*number, *readable, *writable)
+                    || self.servers.connections.mark(*number, *readable, *writable)
+                    || self.peers.connections.mark(*number, *readable, *writable);
+            }
             Happening::Mail(mail) => self.read_mail(mail)?,
             Happening::Nothing => return Ok(false),
             Happening::Ended => return Err(WorkEnd::Ended),
         }
         Ok(true)
-    }
-
-    fn mark(&mut self, number: usize, readable: bool, writable: bool) {
-        let _ = self.clients.connections.mark(number, readable, writable)
-            || self.servers.connections.mark(number, readable, writable)
-            || self.peers.connections.mark(number, readable, writable);
     }
 
     // A connection that was dialed is there.
@@ -357,38 +316,62 @@ impl<N: Node, X: Attachment, P: WorkPort> Worker<N, X, P> {
         }
     }
 
-    // A connection that was dialed could not be made.
-    fn refused(&mut self, number: usize, what: Dial) {
-        self.context.port.give_up(number);
-        match what {
-            Dial::Network(network) => self.servers.retry(&mut self.context, network),
-            Dial::Peer(place) => self.peers.retry(&mut self.context, place),
+    // Does what another worker tells.
+    fn read_mail(&mut self, mail: &Mail) -> Result<(), WorkEnd> {
+        let Worker {
+            node,
+            context,
+            clients,
+            servers,
+            has_published,
+            ..
+        } = self;
+        match mail {
+            Mail::Entry {
+                network,
+                entry,
+                is_passed_on,
+            } => tell_entry(context, clients, *network, entry, *is_passed_on),
+            Mail::Live { network, live } => clients.tell_message(context, *network, &live.lend()),
+            Mail::Relay { network, line } => clients.pass_on(context, *network, &line.lend()),
+            Mail::Say { network, said } => {
+                let step = servers.say(context, *network, &said.lend());
+                return self.do_said(step);
+            }
+            Mail::Marked { network, target } => {
+                return tell_mark(node, context, clients, *network, target.as_bytes(), None);
+            }
+            Mail::Published => *has_published = true,
         }
+        Ok(())
     }
 
     // What is due now.
-    fn look_after_timers(&mut self) -> Result<(), WorkEnd> {
+    fn look_after_timers(&mut self) {
         for _ in 0..TIMERS {
             let Some(timer) = self.context.timers.take_due(self.context.view.now) else {
-                return Ok(());
+                return;
             };
             self.look_after(timer);
         }
-        Ok(())
     }
 
     fn look_after(&mut self, timer: Timer) {
         let Worker {
             node,
             context,
+            watch,
             clients,
             servers,
             peers,
-            ..
+            has_published,
         } = self;
         match timer {
             Timer::RetryNetwork(network) => servers.dial(context, network),
-            Timer::QuietUpstream(number) => self.check_quiet(number),
+            Timer::QuietUpstream(number) => {
+                let standing = servers.check_quiet(context, number);
+                spread(context, clients, standing, false);
+            }
             Timer::Unregistered(number) => {
                 clients.check_registered(context, number);
                 peers.check_greeted(context, number);
@@ -397,8 +380,8 @@ impl<N: Node, X: Attachment, P: WorkPort> Worker<N, X, P> {
             Timer::UnansweredPacket(number) => peers.check_answered(context, number, node.pass()),
             Timer::QuietPeer(number) => peers.check_quiet(context, number),
             Timer::AbsentPeer(place) => peers.check_absent(context, place),
-            Timer::Floors => self.look_after_floors(),
-            Timer::Publish => self.publish_waiting(),
+            Timer::Floors => *has_published |= put_floors(node, context, watch),
+            Timer::Publish => *has_published |= publish_now(node, context),
         }
     }
 }
