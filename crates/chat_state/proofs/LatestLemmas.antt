@@ -1,5 +1,5 @@
 -- The walk over the buffers of an account on a network, and the latest moment of each.
-use Rattle.std.proofs.Common.{◌≡◌, ℕ, Bool, true, false, cond, not, ◌&&◌, Option, Some, None, List, ◌∷◌, map, refl, sym, ◌∙◌, ap, subst, Bor, arith}
+use Rattle.std.proofs.Common.{◌≡◌, ℕ, Bool, true, false, cond, not, ◌&&◌, Option, Some, None, List, ◌∷◌, map, refl, sym, ◌∙◌, ap, subst, Bor}
 use Rattle.std.proofs.lemmas.Bool.{false≢true}
 use Rattle.std.specs.Ordering.{is_lt, is_eq}
 use Rattle.std.specs.Cmp.{Equal-is}
