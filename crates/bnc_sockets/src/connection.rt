@@ -1,8 +1,7 @@
 //! A connection as its worker has it.
 ghost use Rattle.std.specs.Prelude.{◌≡◌, ◌++◌, []};
 
-use bnc_ports::Connection;
-use journal::{Journal, Piece};
+use bnc_ports::{Connection, Journal, Piece};
 
 /// A connection of a [`SocketPort`](crate::SocketPort). At run time it is its number.
 #[derive(Drop)]
