@@ -2,9 +2,9 @@
 ghost use Rattle.std.specs.Prelude.{◌≡◌, [], None, IfSome, IfErr, OnOk};
 ghost use Rattle.std.specs.Io.KnownBytes.{Appends, IsAtEnd};
 ghost use Rattle.std.specs.Io.Buffered.{writer_buffer, writer_inner};
-ghost use Rattle.bnc.specs.Words.{names_of};
-ghost use Rattle.bnc.specs.Replaying.{names_fault, refusal_of, world_of, text_of};
-ghost use Rattle.bnc.specs.Replaying.{IsAnswerEnd, Replays};
+ghost use Rattle.bnc_commands.specs.Words.{names_of};
+ghost use Rattle.bnc_commands.specs.Replaying.{names_fault, refusal_of, world_of, text_of};
+ghost use Rattle.bnc_commands.specs.Replaying.{IsAnswerEnd, Replays};
 
 use crate::ending::End;
 use crate::words::Names;
