@@ -19,7 +19,7 @@ use Rattle.chat_history.specs.Choice.{Among}
 use Rattle.chat_history.specs.Visible.{spot_cmp}
 use Rattle.chat_history.proofs.CallerLemmas.{spot_total}
 
-abbrev Listed : Type 0
+abbrev pub Listed : Type 0
 Listed = ℕ × List ℕ
 
 -- ---- only equal pairs tie
@@ -29,7 +29,7 @@ then_equal Less b e = cc
 then_equal Equal b e = (refl, e)
 then_equal Greater b e = cc
 
-spot_exact : (x y : Listed) → spot_cmp x y ≡ Equal → x ≡ y
+pub spot_exact : (x y : Listed) → spot_cmp x y ≡ Equal → x ≡ y
 spot_exact x y e =
     let both = then_equal (nat_cmp x.0 y.0) (text_cmp x.1 y.1) e in
     let moments = nat_cmp-IsAntisymmetric x.0 y.0 both.0 in

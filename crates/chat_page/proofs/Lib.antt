@@ -11,4 +11,5 @@ mod PlaceLemmas
 mod AnswerLemmas
 mod KnownLemmas
 mod BufferLemmas
+mod KeptLemmas
 pub mod CallerLemmas

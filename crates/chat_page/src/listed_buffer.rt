@@ -1,13 +1,14 @@
 //! Lists of buffers.
-ghost use Rattle.std.specs.Prelude.{◌≡◌, IfOk, filter, length};
+ghost use Rattle.std.specs.Prelude.{◌≡◌, ◌≤◌, IfOk, OnOk, length, take, if◌then◌else◌};
 ghost use Rattle.std.specs.Iterator.{at_most};
+ghost use Rattle.std.specs.BTreeSet.{btree_set_len, insert_key};
 ghost use Rattle.std.specs.Map.Iter.{TakesFirst};
 ghost use Rattle.std.proofs.Common.{rules};
 ghost use Rattle.std.specs.Cmp.Rules.{comparing};
 ghost use Rattle.std.specs.Ordering.{as_partial_cmp, eq_by_cmp};
 ghost use Rattle.chat_history.specs.Visible.{spot_cmp};
 ghost use Rattle.chat_page.specs.ListedBuffer.{listed_total};
-ghost use Rattle.chat_page.specs.Page.{buffers_in, lies_between, targets_cut};
+ghost use Rattle.chat_page.specs.Page.{buffers_in, last, lies_between, targets_cut};
 
 use crate::scope::Scope;
 use chat_change::Moment;
@@ -142,21 +143,96 @@ fn lies_between(one: Moment, other: Moment, buffer: &ListedBuffer<'_>) -> bool
     low < buffer.at.ms() && buffer.at.ms() < high
 }
 
-/// The buffers of a scope whose latest visible records lie strictly between two moments, in their order.
+/// Adds a buffer to at most `n` others and keeps the first `n`. A buffer behind `n` others costs one comparison.
+fn keep_first<'a>(
+    kept: &mut BTreeSet<ListedBuffer<'a>>,
+    n: usize,
+    buffer: ListedBuffer<'a>,
+) -> Result<(), AllocError>
+    requires { btree_set_len kept.old ≤ n }
+    ensures { OnOk result (kept.new.keys
+        ≡ take n (insert_key spot_cmp kept.old.keys buffer.entry)) }
+{
+    if kept.len() >= n {
+        let Some(end) = kept.last() else {
+            return Ok(());
+        };
+        if buffer.order(end).is_ge() {
+            return Ok(());
+        }
+    }
+    kept.insert(buffer)?;
+    if kept.len() > n {
+        kept.pop_last();
+    }
+    Ok(())
+}
+
+/// Adds a buffer to at most `n` others and keeps the last `n`. A buffer before `n` others costs one comparison.
+fn keep_last<'a>(
+    kept: &mut BTreeSet<ListedBuffer<'a>>,
+    n: usize,
+    buffer: ListedBuffer<'a>,
+) -> Result<(), AllocError>
+    requires { btree_set_len kept.old ≤ n }
+    ensures { OnOk result (kept.new.keys
+        ≡ last n (insert_key spot_cmp kept.old.keys buffer.entry)) }
+{
+    if kept.len() >= n {
+        let Some(end) = kept.first() else {
+            return Ok(());
+        };
+        if buffer.order(end).is_le() {
+            return Ok(());
+        }
+    }
+    kept.insert(buffer)?;
+    if kept.len() > n {
+        kept.pop_first();
+    }
+    Ok(())
+}
+
+/// Adds a buffer to at most `n` others and keeps the first `n`, or the last `n` where it is not forward.
+fn keep<'a>(
+    kept: &mut BTreeSet<ListedBuffer<'a>>,
+    forward: bool,
+    n: usize,
+    buffer: ListedBuffer<'a>,
+) -> Result<(), AllocError>
+    requires { btree_set_len kept.old ≤ n }
+    ensures { OnOk result (
+        let all = insert_key spot_cmp kept.old.keys buffer.entry in
+        kept.new.keys ≡ (if forward then take n all else last n all)) }
+{
+    if forward {
+        keep_first(kept, n, buffer)
+    } else {
+        keep_last(kept, n, buffer)
+    }
+}
+
+/// The first `n` of the buffers of a scope whose latest visible records lie strictly between two moments, and the last `n`
+/// where the first moment is not the lower one. No more than `n + 1` are held at a time.
 fn found_between<'a>(
     alloc: Global,
     state: &'a State,
     scope: &Scope<'_>,
     one: Moment,
     other: Moment,
+    n: usize,
 ) -> Result<BTreeSet<ListedBuffer<'a>>, AllocError>
-    ensures { IfOk result (λ found. found.keys ≡ filter (lies_between one other)
+    ensures { IfOk result (λ found. found.keys ≡ targets_cut n one other
         (buffers_in state.now.history scope.now)) }
 {
     let latest = state.latest(scope.account(), scope.network());
-    Listing { latest }
-        .filter(|buffer| lies_between(one, other, buffer))
-        .collect(alloc)
+    let between = Listing { latest }.filter(|buffer| lies_between(one, other, buffer));
+    let forward = one.ms() < other.ms();
+    let mut found = BTreeSet::new(alloc);
+    for buffer in between {
+        keep(&mut found, forward, n, buffer)?;
+    }
+    Ok(found)
 }
 
 /// The first `n` of the buffers whose latest visible records lie strictly between two moments, and the last `n` where the
@@ -172,11 +248,7 @@ pub(crate) fn listed_between<'a>(
     ensures { IfOk result (λ page. page.items ≡ targets_cut n one other
         (buffers_in state.now.history scope.now)) }
 {
-    let found = found_between(alloc, state, scope, one, other)?;
-    if one.ms() < other.ms() {
-        found.into_iter().take(n).collect(alloc)
-    } else {
-        let skipped = found.len().saturating_sub(n);
-        found.into_iter().skip(skipped).collect(alloc)
-    }
+    found_between(alloc, state, scope, one, other, n)?
+        .into_iter()
+        .collect(alloc)
 }
