@@ -259,6 +259,7 @@ def targets():
     session.ask_targets(0, 1000, 1)
     yield session.case("no buffers")
     yield more_buffers_than_a_list_has()
+    yield from buffers_in_each_order()
 
 
 def more_buffers_than_a_list_has():
@@ -272,6 +273,23 @@ def more_buffers_than_a_list_has():
         for limit in [99, 100, 101, 1000]:
             session.ask_targets(a, b, limit)
     return session.case("a list of more buffers than it may have, both ways")
+
+
+def buffers_in_each_order():
+    """Twelve buffers, three of each moment, whose moments rise or fall with their targets, or do neither: whichever way they are
+    come upon, a list has those that are first, or last."""
+    for name, place in [
+        ("rise with", lambda number: number), ("fall with", lambda number: 11 - number),
+        ("go up and down with", lambda number: number * 7 % 12),
+    ]:
+        history = History()
+        for number in range(12):
+            history.post(f"#c{number:02}", f"m{number}", 1000 + place(number) // 3, "x")
+        session = Session(history)
+        for a, b in [(0, 9000), (9000, 0), (1000, 1003), (1003, 1000)]:
+            for limit in [1, 2, 5, 6, 7, 11, 12, 13]:
+                session.ask_targets(a, b, limit)
+        yield session.case(f"buffers whose moments {name} their targets, cut at either end")
 
 
 # What may be wrong with each parameter of a query, in the order in which it is told.
