@@ -327,13 +327,13 @@ def the_command_of_the_kit_is_needed_to_build(fixture):
 @test
 def the_plan_proves_each_crate_after_those_below(fixture):
     """`./build --plan`: each crate that the program stands on, and no crate of tests, begins once those that it names have
-    ended; and never are more proved at once than there are processors."""
+    ended; and never are there more processes at once than processors."""
     ran = subprocess.run([os.path.join(TOP, "build"), "--plan"], capture_output=True, text=True, check=True,
                          timeout=fixture.patience())
     *rows, last = ran.stdout.splitlines()
-    runs = [re.fullmatch(r" *([0-9.]+) to +([0-9.]+)  (\w+)  on ([0-9]+)", row).groups() for row in rows]
+    runs = [re.fullmatch(r" *([0-9.]+) to +([0-9.]+)  by ([0-9]+)  (\w+)", row).groups() for row in rows]
     named = dict(re.findall(r"^(\w+)(?: may_wait=\d+)?: *(.*)$", text_of_file("crates.txt"), re.M))
-    ends = {name: float(end) for _, end, name, _ in runs}
+    ends = {name: float(end) for _, end, _, name in runs}
     reached = set()
 
     def reach(name):
@@ -344,12 +344,12 @@ def the_plan_proves_each_crate_after_those_below(fixture):
 
     reach("bnc")
     expect("the crates", sorted(reached), sorted(ends))
-    for begin, _, name, _ in runs:
+    for begin, _, _, name in runs:
         for below in named[name].split():
             if ends.get(below, 0) > float(begin) + 0.1:
                 raise Failed(f"{name} begins at {begin}, and {below} ends at {ends[below]}")
     lanes = int(re.fullmatch(r"[0-9]+ minutes on ([0-9]+) processors of the table's machine", last)[1])
     for at, _, _, _ in runs:
-        most = sum(int(jobs) for begin, end, _, jobs in runs if float(begin) <= float(at) < float(end))
+        most = sum(int(processes) for begin, end, processes, _ in runs if float(begin) <= float(at) < float(end))
         if most > lanes:
-            raise Failed(f"at {at} there are {most} at work on {lanes} processors")
+            raise Failed(f"at {at} there are {most} processes on {lanes} processors")
