@@ -275,6 +275,14 @@ def the_picture_of_the_layers_is_true(fixture):
     expect("./layers --check", (0, "", ""), (ran.returncode, ran.stdout, ran.stderr))
 
 
+@test
+def the_table_of_goals_is_true(fixture):
+    """The table of goals in docs/PERFORMANCE.md is as `bench/goals.py` makes it of the tables below it."""
+    ran = subprocess.run([os.path.join(TOP, "bench", "goals.py"), "--check"], capture_output=True, text=True, check=False,
+                         timeout=fixture.patience())
+    expect("bench/goals.py --check", (0, "", ""), (ran.returncode, ran.stdout, ran.stderr))
+
+
 def run_bnc(fixture, *words):
     """Runs a copy of `./bnc` in the test's folder."""
     tree(fixture, ["bnc"])
