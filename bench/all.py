@@ -18,7 +18,7 @@ def calls(program, test_state):
     """The scripts with their words, and whether time that they wait for a processor would count."""
     return (
         (("beside_plain.py", test_state, "5"), False),
-        (("beside_replay.py", program, "5"), False),
+        (("beside_replay.py", program, "7"), False),
         (("beside_znc.py", "turns", program, "9"), True),
         (("beside_znc.py", "both", program, "3"), True),
         (("latency.py", program, "9"), True),
