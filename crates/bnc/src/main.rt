@@ -15,7 +15,6 @@ use attach::{Boxed, RingClient};
 use bnc_commands::{End, end_of_program};
 use bnc_node::{Prepared, ServeFault, WorkEnd, prepare, run_prepared};
 use node_config::Config;
-use std::alloc::Global;
 use std::io::BufWriter;
 use std::process::ExitCode;
 use std::{env, fs, io};
