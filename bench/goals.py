@@ -20,7 +20,7 @@ GOALS = (
     (".. to 100 clients", "clients", "ZNC : bnc", "100", "at least 20"),
     ("a line beside 1,500 silent clients of another account : beside none", "a line", "ratio", ".*1,500.*", "1.1"),
     ("playback, lines for a processor second : ZNC's", "what", "ratio of the medians", "playback.*", "at least 14"),
-    ("99 of 100 lines are relayed to 10 clients within : ZNC's", "a line to one of 10 clients", "99 of 100 : ZNC's", "bnc", "0.5"),
+    ("99 of 100 lines to 10 clients take at most : ZNC's", "a line to one of 10 clients", "99 of 100 : ZNC's", "bnc", "0.5"),
     ("a line that comes alone : a loop in C", "lines at once", "ratio, and its range", "1", "4"),
     (".. 20 lines at once", "lines at once", "ratio, and its range", "20", "4"),
     (".. 200 lines at once", "lines at once", "ratio, and its range", "200", "4"),
