@@ -6,14 +6,14 @@ use Rattle.std.specs.List.{filter, filter_map}
 use Rattle.chat_change.specs.Buffer.{Buffer}
 use Rattle.chat_change.specs.Order.{buffer_cmp}
 use Rattle.chat_change.proofs.CallerLemmas.{buffer_total}
-use Rattle.chat_store.specs.Sought.{Sought}
+use Rattle.chat_buffers.specs.declared.sought.Sought.{Sought}
 use Rattle.chat_history.specs.History.{History, changes_of}
 use Rattle.chat_history.specs.Choice.{keep, Among, IsFirst}
-use Rattle.chat_store.specs.Sought.{sought_in, sought_buffers, is_past, sought_past, all_past}
+use Rattle.chat_buffers.specs.Sought.{sought_in, sought_buffers, is_past, sought_past, all_past}
 use Rattle.chat_history.proofs.CallerLemmas.{among-filter_map, among_made}
 use Rattle.chat_history.proofs.CallerLemmas.{in_order_member, member_in_order, buffers_sorted}
 use Rattle.chat_history.proofs.CallerLemmas.{from_member, passing_from, none_passing}
-use Rattle.chat_store.proofs.CallerLemmas.{kept_passes, past_closed, filter_all}
+use Rattle.chat_buffers.proofs.CallerLemmas.{kept_passes, past_closed, filter_all}
 
 -- ---- a step of the walk
 

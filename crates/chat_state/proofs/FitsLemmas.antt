@@ -14,9 +14,10 @@ use Rattle.chat_history.specs.Form.{IsNoFloor, is_later, raises, renews, new_for
 use Rattle.chat_history.specs.History.{norm, changes_of}
 use Rattle.chat_history.specs.Retention.{at_or_above}
 use Rattle.chat_history.proofs.CallerLemmas.{Bears, contained, held_change, not_below}
-use Rattle.chat_store.specs.Form.{form}
-use Rattle.chat_store.specs.Store.{Store, history_in, change_at, floor_in, FitsStore}
-use Rattle.chat_store.proofs.CallerLemmas.{get-history}
+use Rattle.chat_state.specs.Form.{form}
+use Rattle.chat_buffers.specs.Store.{Store, history_in, change_at, floor_in}
+use Rattle.chat_buffers.specs.Entering.{FitsStore}
+use Rattle.chat_buffers.proofs.CallerLemmas.{get-history}
 use Rattle.chat_state.proofs.StateLemmas.{keyed, floor_is_in, change_bears, no_floor_either, formed}
 
 -- a redaction names no moment below the floor

@@ -12,14 +12,15 @@ use Rattle.chat_change.specs.declared.change.Change.{Change}
 use Rattle.chat_change.specs.declared.change.Change.TheVariants.{Post, Redact, Mark, Floor, AccountFloor}
 use Rattle.chat_change.proofs.CallerLemmas.{text_exact, buffer_total}
 use Rattle.chat_history.specs.Choice.{Among, IsFirst}
-use Rattle.chat_store.specs.Sought.{OfNetwork}
+use Rattle.chat_buffers.specs.declared.sought.Sought.TheVariants.{OfNetwork}
 use Rattle.chat_history.specs.History.{History, changes_of}
 use Rattle.chat_history.specs.Latest.{latest_moment, with_moment, network_buffers, latest_in}
 use Rattle.chat_state.specs.Latest.{latest_from, next_of, IsAtBuffer}
 use Rattle.chat_history.specs.Buffers.{is_of_network, buffer_where}
-use Rattle.chat_store.specs.Sought.{is_past, all_past, Walk, walk_after}
-use Rattle.chat_store.specs.Store.{Store, history_in}
-use Rattle.chat_store.proofs.CallerLemmas.{past_closed, filter_all}
+use Rattle.chat_buffers.specs.Sought.{is_past, all_past}
+use Rattle.chat_buffers.specs.BufferWalk.{Walk, walk_after}
+use Rattle.chat_buffers.specs.Store.{Store, history_in}
+use Rattle.chat_buffers.proofs.CallerLemmas.{past_closed, filter_all}
 use Rattle.chat_history.proofs.CallerLemmas.{among-filter_map}
 use Rattle.chat_history.proofs.CallerLemmas.{from_member, passing_from}
 use Rattle.chat_history.proofs.CallerLemmas.{in_order_member, buffers_sorted}

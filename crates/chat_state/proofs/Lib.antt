@@ -1,3 +1,7 @@
+mod IndexLemmas
+mod SweepLemmas
+mod AccountSweepLemmas
+mod WalkLemmas
 mod StateLemmas
 mod FitsLemmas
 mod TakeLemmas

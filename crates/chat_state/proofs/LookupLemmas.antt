@@ -14,11 +14,11 @@ use Rattle.chat_change.specs.Key.{Key, FloorOf, MarkerOf, MessageOf, key_of, bea
 use Rattle.chat_history.specs.History.{History, own_floor, floor, mark, is_gone, position_of, floor_moment, marker_moment, message_moment, is_redaction, norm, changes_of, IsKeyed}
 use Rattle.chat_history.specs.Lookups.{position_in, is_redacted, is_posted, IsShown}
 use Rattle.chat_history.specs.StateValue.{StateValue}
-use Rattle.chat_store.specs.Store.{Store, change_at}
+use Rattle.chat_buffers.specs.Store.{Store, change_at}
 use Rattle.chat_state.specs.State.{value_of, IsSound}
 use Rattle.chat_history.proofs.CallerLemmas.{bearers_of-changes_of}
 use Rattle.chat_state.proofs.StateLemmas.{keyed}
-use Rattle.chat_store.proofs.CallerLemmas.{get-history}
+use Rattle.chat_buffers.proofs.CallerLemmas.{get-history}
 use Rattle.chat_history.proofs.CallerLemmas.{mark-norm, floor-norm}
 use Rattle.chat_history.proofs.CallerLemmas.{among, contained}
 use Rattle.chat_history.proofs.CallerLemmas.{among-bearers_of}

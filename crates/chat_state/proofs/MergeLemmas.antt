@@ -22,15 +22,14 @@ use Rattle.chat_history.specs.Choice.{Among, IsFirst}
 use Rattle.chat_history.specs.StateValue.{StateValue, IsStoppedAt, IsPastTheLast}
 use Rattle.chat_history.specs.History.{norm, changes_of, SameSet, join}
 use Rattle.chat_history.specs.Merging.{number_in, IsByNumber}
-use Rattle.chat_store.specs.Store.{Store, Numbered, history_in, numbers_in, by_number, pieces_above}
+use Rattle.chat_buffers.specs.Store.{Store, Numbered, history_in, numbers_in, by_number, pieces_above}
 use Rattle.chat_state.specs.State.{value_of, IsSound}
 use Rattle.chat_history.proofs.CallerLemmas.{valued, value_among, got, get_entry, ordered_member, member_ordered, ordered_by_key}
 use Rattle.chat_history.proofs.CallerLemmas.{among, contained, among-filter, among_passing, mapped, image}
-use Rattle.chat_store.proofs.CallerLemmas.{by_number_total}
 use Rattle.chat_history.proofs.CallerLemmas.{norm_of_set}
 use Rattle.chat_history.proofs.CallerLemmas.{filter_alike, from_member, passing_from, none_passing}
 use Rattle.chat_state.proofs.StateLemmas.{keyed, change_bears}
-use Rattle.chat_store.proofs.CallerLemmas.{get-history, get-numbers_in}
+use Rattle.chat_buffers.proofs.CallerLemmas.{by_number_total, get-history, get-numbers_in}
 use Rattle.chat_history.proofs.CallerLemmas.{change_held, held_change}
 
 abbrev pub change : Numbered → Change

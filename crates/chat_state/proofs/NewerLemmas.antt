@@ -13,14 +13,14 @@ use Rattle.chat_change.specs.declared.change.Change.{Change}
 use Rattle.chat_change.proofs.CallerLemmas.{key_total, key_exact}
 use Rattle.chat_history.specs.Choice.{Among}
 use Rattle.chat_history.specs.Newer.{HasPiece, IsNewer, AreFirstNewer}
-use Rattle.chat_store.specs.Piece.{numbered_of, entry_of}
-use Rattle.chat_store.specs.declared.piece.Piece.{Piece}
-use Rattle.chat_store.specs.Store.{Store, Numbered, by_number}
+use Rattle.chat_state.specs.Piece.{numbered_of, entry_of}
+use Rattle.chat_state.specs.declared.store.piece.Piece.{Piece}
+use Rattle.chat_buffers.specs.Store.{Store, Numbered, by_number}
 use Rattle.chat_state.specs.State.{value_of, IsSound}
 use Rattle.chat_history.proofs.CallerLemmas.{value_among, got}
 use Rattle.chat_history.proofs.CallerLemmas.{among, contained, among-filter, among_passing, mapped, image}
 use Rattle.chat_state.proofs.MergeLemmas.{change, number, turn, left, held_at, number_of, in_turn, turn_sorted, once_in, rising_at, some_of}
-use Rattle.chat_store.proofs.CallerLemmas.{get-history, get-numbers_in}
+use Rattle.chat_buffers.proofs.CallerLemmas.{get-history, get-numbers_in}
 
 abbrev entry : Numbered → ℕ × Change
 entry p = (p.number, p.change)

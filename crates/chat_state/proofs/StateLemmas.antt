@@ -15,10 +15,10 @@ use Rattle.chat_history.specs.StateValue.{state_after}
 use Rattle.chat_history.specs.Numbering as numbering
 use Rattle.chat_history.specs.Numbering.{has_piece, numbers_after, front, numbers}
 use Rattle.chat_history.specs.Retention.{outlasts, remainder}
-use Rattle.chat_store.specs.Store.{Store, Numbered, history_in, numbers_in, change_at, own_floor_in, floor_in, piece_left, piece_above, piece_after, Places}
+use Rattle.chat_buffers.specs.Store.{Store, Numbered, history_in, numbers_in, change_at, own_floor_in, floor_in, piece_left, piece_above, piece_after, Places}
 use Rattle.chat_state.specs.State.{value_of, AreNumbers, IsSound}
 use Rattle.chat_history.specs.Form.{IsNoFloor, renews, new_form, first_form, next_piece, form_at}
-use Rattle.chat_store.specs.Form.{form}
+use Rattle.chat_state.specs.Form.{form}
 use Rattle.chat_change.proofs.CallerLemmas.{key_total, key_exact, same_key_itself, same_key_is}
 use Rattle.chat_history.proofs.CallerLemmas.{Bears, norm_keyed, piece_bears, get-norm, piece_none}
 use Rattle.chat_history.proofs.CallerLemmas.{norm-changes_of}
@@ -26,7 +26,7 @@ use Rattle.chat_history.proofs.CallerLemmas.{get-numbers_after, get-numbers}
 use Rattle.chat_history.proofs.CallerLemmas.{floor_set}
 use Rattle.chat_history.proofs.CallerLemmas.{get_after, get_floor, low_floor, own_floor_is, get_is_piece, new_form_differs, first_form_bears, new_form_bears}
 use Rattle.chat_history.proofs.CallerLemmas.{held_counted, held_same}
-use Rattle.chat_store.proofs.CallerLemmas.{get-history, get-numbers_in, placed-plain}
+use Rattle.chat_buffers.proofs.CallerLemmas.{get-history, get-numbers_in, placed-plain}
 
 abbrev change : Numbered → Change
 change p = p.change

@@ -2,7 +2,19 @@
 
 -- where a run through deltas stops that is refused
 pub mod Run
+-- a piece that is lent
+pub mod Piece
 -- ---- what only the proofs use of the code
 
 pub mod State
 pub mod Latest
+-- the store below a state: the form in which a change counts, and the pieces by rising number
+pub mod Form
+pub mod Walk
+-- numbers as keys of the index, the greatest first
+pub mod Number
+-- what each piece is known by, under its number
+pub mod PieceName
+pub mod Index
+-- how what lies below a floor goes, piece by piece
+pub mod Sweeping

@@ -4,7 +4,7 @@ use Rattle.std.specs.FinMap as finite
 use Rattle.chat_change.specs.Key.{Key, key_cmp}
 use Rattle.chat_history.specs.StateValue.{StateValue}
 use Rattle.chat_history.specs.History.{norm, changes_of}
-use Rattle.chat_store.specs.Store.{Store, history_in, numbers_in}
+use Rattle.chat_buffers.specs.Store.{Store, history_in, numbers_in}
 
 -- what a state with these pieces is seen as
 abbrev pub value_of : Store → ℕ → StateValue

@@ -5,9 +5,9 @@ ghost use Rattle.chat_history.specs.Cut.{after, before};
 ghost use Rattle.chat_history.specs.Visible.{records_in};
 
 use crate::state::State;
+use chat_buffers::{Down, Up};
 use chat_change::Buffer;
 use chat_history::Cut;
-use chat_store::{Down, Up};
 
 impl State {
     /// The visible records of a buffer after a cut, by rising (moment, id).

@@ -6,8 +6,8 @@ ghost use Rattle.std.specs.Map.Iter.{TakesFirst};
 ghost use Rattle.chat_history.specs.Latest.{latest_in};
 
 use crate::state::State;
+use chat_buffers::{BufferWalk, Sought};
 use chat_change::{Buffer, Moment};
-use chat_store::{BufferWalk, Sought};
 use std::marker::Model;
 
 /// Buffers that have a visible record, each with the moment of its latest, by target. It is seen as the list of what is
@@ -22,7 +22,7 @@ impl<'a> Model for Latest<'a> {
     ghost use Rattle.std.specs.Prelude.{List, ℕ};
     ghost use Rattle.chat_change.specs.Buffer as spec;
     ghost use Rattle.chat_state.specs.Latest.{latest_from, next_of, IsAtBuffer};
-    ghost use Rattle.chat_store.specs.Store.{history_in};
+    ghost use Rattle.chat_buffers.specs.Store.{history_in};
 
     ghost Value = { List (spec.Buffer × ℕ) };
 

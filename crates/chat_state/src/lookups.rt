@@ -6,8 +6,8 @@ ghost use Rattle.chat_history.specs.History as spec;
 ghost use Rattle.chat_history.specs.Lookups.{IsShown};
 
 use crate::state::State;
+use chat_buffers::MessageRef;
 use chat_change::{Buffer, Extent, Moment, MsgId};
-use chat_store::MessageRef;
 
 // The moment at which 1970 began.
 pub(crate) fn first_moment() -> Moment

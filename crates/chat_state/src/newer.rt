@@ -1,12 +1,12 @@
 //! The pieces that are newer than a number.
 
 ghost use Rattle.std.specs.Prelude.{◌≡◌, map, IfOk};
-ghost use Rattle.chat_store.specs.Piece.{entry_of};
+ghost use Rattle.chat_state.specs.Piece.{entry_of};
 ghost use Rattle.chat_history.specs.Newer.{AreFirstNewer};
 
 use crate::state::State;
+use crate::store::Piece;
 use byte_text::NoMemory;
-use chat_store::Piece;
 use std::alloc::Global;
 
 impl State {

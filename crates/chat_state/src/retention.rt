@@ -3,12 +3,13 @@
 ghost use Rattle.std.specs.Prelude.{◌≡◌, ◌++◌, ◌∷◌, [], IfOk, if◌then◌else◌, map};
 ghost use Rattle.chat_history.specs.History.{IsKeyed};
 ghost use Rattle.chat_history.specs.Retention as spec;
-ghost use Rattle.chat_store.specs.Store.{history_in};
+ghost use Rattle.chat_buffers.specs.Store.{history_in};
 
 use crate::state::State;
+use crate::store::Store;
 use byte_text::NoMemory;
+use chat_buffers::Sought;
 use chat_change::{Buffer, Change, Moment};
-use chat_store::{Sought, Store};
 use std::alloc::Global;
 
 const DAY_LENGTH: u64 = 86_400_000;

@@ -8,9 +8,9 @@ ghost use Rattle.chat_change.specs.ChangeRef.{change_of};
 ghost use Rattle.chat_state.specs.declared.faults.StateFault.TheVariants as fault;
 
 use crate::faults::{StateFault, TakeFault};
+use crate::store::{Store, form_of, piece_in};
 use byte_text::NoMemory;
-use chat_change::{Change, Extent};
-use chat_store::{ChangeRef, Store, form_of, piece_in};
+use chat_change::{Change, ChangeRef, Extent};
 use std::alloc::Global;
 use std::marker::Model;
 

@@ -23,8 +23,8 @@ use Rattle.chat_history.specs.StateValue.{StateValue, state_after}
 use Rattle.chat_history.specs.Newer.{HasPiece, IsNewer, AreFirstNewer}
 use Rattle.chat_history.specs.Numbering as numbering
 use Rattle.chat_history.specs.Numbering.{number, numbers, newer, delta, delta_from, delta_limit}
-use Rattle.chat_store.specs.Piece.{entry_of}
-use Rattle.chat_store.specs.declared.piece.Piece.{Piece}
+use Rattle.chat_state.specs.Piece.{entry_of}
+use Rattle.chat_state.specs.declared.store.piece.Piece.{Piece}
 use Rattle.chat_change.proofs.CallerLemmas.{same_key_itself}
 use Rattle.chat_history.proofs.CallerLemmas.{get-numbers, Bears, get-norm, piece_bears, number_tells}
 use Rattle.gossip_delta.specs.Turn.{number_at, change_at}

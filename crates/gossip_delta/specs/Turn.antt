@@ -3,8 +3,8 @@ use Rattle.std.specs.Prelude.{ℕ, List, map}
 use Rattle.std.specs.Option.{unwrap_or}
 use Rattle.chat_change.specs.declared.change.Change.{Change}
 use Rattle.chat_history.specs.Choice.{greatest}
-use Rattle.chat_store.specs.Piece.{change_of}
-use Rattle.chat_store.specs.declared.piece.Piece.{Piece}
+use Rattle.chat_state.specs.Piece.{change_of}
+use Rattle.chat_state.specs.declared.store.piece.Piece.{Piece}
 
 abbrev pub number_at : Piece → ℕ
 number_at p = p.number

@@ -4,7 +4,7 @@ ghost use Rattle.std.specs.Prelude.{if◌then◌else◌};
 ghost use Rattle.std.specs.List.Sorted.{IsNonDecreasingBy};
 ghost use Rattle.chat_change.specs.declared.change.Change as value;
 ghost use Rattle.chat_history.specs.StateValue.{state_after};
-ghost use Rattle.chat_store.specs.Piece.{entry_of};
+ghost use Rattle.chat_state.specs.Piece.{entry_of};
 ghost use Rattle.chat_history.specs.Numbering.{delta, delta_from, delta_limit};
 ghost use Rattle.gossip_delta.specs.Turn.{number_at, change_at, greatest_number};
 

@@ -4,10 +4,11 @@ use Rattle.chat_change.specs.Buffer.{Buffer}
 use Rattle.chat_change.specs.Order.{buffer_cmp}
 use Rattle.chat_change.specs.declared.change.Change.{Change}
 use Rattle.chat_change.specs.declared.change.Change.TheVariants.{Floor}
-use Rattle.chat_store.specs.Sought.{Outdated}
-use Rattle.chat_store.specs.Store.{Store, history_in}
+use Rattle.chat_buffers.specs.declared.sought.Sought.TheVariants.{Outdated}
+use Rattle.chat_buffers.specs.Store.{Store, history_in}
 use Rattle.chat_history.specs.Choice.{IsFirst}
-use Rattle.chat_store.specs.Sought.{sought_buffers, is_past, all_past, Walk}
+use Rattle.chat_buffers.specs.Sought.{sought_buffers, is_past, all_past}
+use Rattle.chat_buffers.specs.BufferWalk.{Walk}
 use Rattle.chat_state.proofs.BuffersLemmas.{IsMade, made_none, made_more, made_all, walk_step, walk_end}
 use Rattle.chat_state.proofs.retention.floors_at.Goals as goal
 

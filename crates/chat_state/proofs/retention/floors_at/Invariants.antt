@@ -2,9 +2,9 @@ use Rattle.std.proofs.Common.{◌≡◌, length}
 use Rattle.std.specs.List.{filter}
 use Rattle.chat_change.specs.Buffer.{Buffer}
 use Rattle.chat_change.specs.declared.change.Change.TheVariants.{Floor}
-use Rattle.chat_store.specs.Sought.{Outdated}
-use Rattle.chat_store.specs.Store.{history_in}
-use Rattle.chat_store.specs.Sought.{sought_buffers, is_past}
+use Rattle.chat_buffers.specs.declared.sought.Sought.TheVariants.{Outdated}
+use Rattle.chat_buffers.specs.Store.{history_in}
+use Rattle.chat_buffers.specs.Sought.{sought_buffers, is_past}
 use Rattle.chat_state.proofs.BuffersLemmas.{IsMade}
 use Rattle.chat_state.proofs.retention.floors_at.Given as goal
 

@@ -1,7 +1,7 @@
 use Rattle.std.proofs.Common.{sym, ◌∙◌, ◌<◌, length, ap, subst, arith, Option, Bor, ℕ}
 use Rattle.chat_change.specs.Buffer.{Buffer}
 use Rattle.chat_state.specs.Latest.{latest_from, next_of, IsAtBuffer}
-use Rattle.chat_store.specs.Store.{history_in}
+use Rattle.chat_buffers.specs.Store.{history_in}
 use Rattle.chat_state.proofs.LatestLemmas.{at_next, latest_step}
 use Rattle.chat_state.proofs.latest.LatestIterator.next.Goals as goal
 

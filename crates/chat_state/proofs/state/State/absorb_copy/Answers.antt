@@ -3,11 +3,11 @@ use Rattle.std.specs.Option.{option_map}
 use Rattle.chat_change.specs.Key.{key_of}
 use Rattle.chat_history.specs.History.{norm, changes_of}
 use Rattle.chat_history.specs.StateValue.{StateValue}
-use Rattle.chat_store.specs.Form.{form}
-use Rattle.chat_store.specs.Form.{piece_in}
+use Rattle.chat_state.specs.Form.{form}
+use Rattle.chat_state.specs.Form.{piece_in}
 use Rattle.chat_change.specs.ChangeRef.{change_of}
 use Rattle.chat_history.specs.Numbering.{numbers_after}
-use Rattle.chat_store.specs.Store.{history_in}
+use Rattle.chat_buffers.specs.Store.{history_in}
 use Rattle.chat_state.proofs.FitsLemmas.{formed_fits}
 use Rattle.chat_state.proofs.StateLemmas.{next_is}
 use Rattle.chat_state.proofs.StateLemmas.{unformed, formed_differs, new_history, new_numbers, new_sound, new_held, kept_held}

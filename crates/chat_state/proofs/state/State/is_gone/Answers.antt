@@ -1,7 +1,7 @@
 use Rattle.std.proofs.Common.{Some, sym, ◌∙◌, ap}
 use Rattle.std.specs.Option.{option_map}
 use Rattle.chat_change.specs.Key.{MessageOf}
-use Rattle.chat_store.specs.MessageRef.{message_change}
+use Rattle.chat_buffers.specs.MessageRef.{message_change}
 use Rattle.chat_history.specs.Lookups.{is_redacted}
 use Rattle.chat_state.proofs.LookupLemmas.{state_keyed, state_found, gone_found, gone_of_set}
 use Rattle.chat_state.proofs.state.State.is_gone.Goals as goal

@@ -2,7 +2,7 @@ use Rattle.std.proofs.Common.{Some, ◌∙◌, ap, subst}
 use Rattle.std.specs.Prelude.{◌↔◌, IsTrue, Bool}
 use Rattle.std.specs.Option.{option_map}
 use Rattle.chat_change.specs.Key.{MessageOf}
-use Rattle.chat_store.specs.MessageRef.{message_change}
+use Rattle.chat_buffers.specs.MessageRef.{message_change}
 use Rattle.chat_history.specs.Lookups.{is_posted, IsShown}
 use Rattle.chat_state.proofs.LookupLemmas.{state_keyed, state_found, shown_found}
 use Rattle.chat_state.proofs.state.State.is_shown.Goals as goal

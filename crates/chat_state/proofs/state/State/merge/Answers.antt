@@ -6,8 +6,8 @@ use Rattle.chat_state.specs.declared.faults.StateFault.TheVariants.{Exhausted}
 use Rattle.chat_history.specs.StateValue.{StateValue, HasTaken, IsPastTheLast}
 use Rattle.chat_history.specs.History.{norm, changes_of}
 use Rattle.chat_history.specs.Merging.{IsByNumber}
-use Rattle.chat_store.specs.Piece.{numbered_of}
-use Rattle.chat_store.specs.Store.{Numbered, by_number, pieces_above}
+use Rattle.chat_state.specs.Piece.{numbered_of}
+use Rattle.chat_buffers.specs.Store.{Numbered, by_number, pieces_above}
 use Rattle.chat_state.proofs.LookupLemmas.{state_normal}
 use Rattle.chat_state.proofs.MergeLemmas.{change, turn, left, left_all, left_some, left_none, is_above, by_number_is, drop_step, next_in, drop_end, stopped_at, merged}
 use Rattle.chat_state.proofs.TakeLemmas.{taken_none, taken_more, has_taken_none, has_taken_more}

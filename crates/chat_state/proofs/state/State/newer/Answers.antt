@@ -4,9 +4,9 @@ use Rattle.std.specs.Option.{option_map}
 use Rattle.chat_history.specs.Choice.{IsFirst}
 use Rattle.chat_history.specs.Newer.{AreFirstNewer}
 use Rattle.chat_history.specs.StateValue.{StateValue}
-use Rattle.chat_store.specs.Piece.{numbered_of, entry_of}
-use Rattle.chat_store.specs.declared.piece.Piece.{Piece}
-use Rattle.chat_store.specs.Store.{Numbered, by_number, pieces_above}
+use Rattle.chat_state.specs.Piece.{numbered_of, entry_of}
+use Rattle.chat_state.specs.declared.store.piece.Piece.{Piece}
+use Rattle.chat_buffers.specs.Store.{Numbered, by_number, pieces_above}
 use Rattle.chat_state.proofs.MergeLemmas.{left, left_some, left_none}
 use Rattle.chat_state.proofs.NewerLemmas.{lent_next, newer_all, newer_first}
 use Rattle.chat_state.proofs.state.State.newer.Goals as goal

@@ -1,5 +1,5 @@
 use Rattle.std.proofs.Common.{◌≡◌, ◌≤◌, ◌++◌, map, length}
-use Rattle.chat_store.specs.Piece.{numbered_of}
+use Rattle.chat_state.specs.Piece.{numbered_of}
 use Rattle.chat_state.proofs.MergeLemmas.{left}
 use Rattle.chat_state.proofs.state.State.newer.Given as goal
 

@@ -1,7 +1,7 @@
 use Rattle.std.proofs.Common.{Some, sym, ◌∙◌, ap}
 use Rattle.std.specs.Option.{option_map, option_and_then}
 use Rattle.chat_change.specs.Key.{MessageOf}
-use Rattle.chat_store.specs.MessageRef.{message_change}
+use Rattle.chat_buffers.specs.MessageRef.{message_change}
 use Rattle.chat_history.specs.History.{message_moment}
 use Rattle.chat_state.proofs.LookupLemmas.{state_keyed, state_found, state_normal, position_found, position_of_set}
 use Rattle.chat_state.proofs.state.State.position.Goals as goal

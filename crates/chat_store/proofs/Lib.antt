@@ -1,5 +1,0 @@
-mod IndexLemmas
-mod SweepLemmas
-mod AccountSweepLemmas
-mod WalkLemmas
-pub mod CallerLemmas
