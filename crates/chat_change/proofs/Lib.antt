@@ -1,8 +1,7 @@
 mod WordsLemmas
 mod TagsLemmas
-mod TextsLemmas
 mod OrderLemmas
 mod KeyLemmas
-mod IdTextLemmas
+mod ShortTextLemmas
 mod FaultsLemmas
 pub mod CallerLemmas

@@ -13,7 +13,6 @@ pub mod Faults
 pub mod Lawful
 pub mod ChangeRef
 -- ---- what only the proofs use of the code: how texts lie in memory
-pub mod Texts
 pub mod MessageTexts
-pub mod IdText
+pub mod CompactText
 pub mod ShortText

@@ -1,5 +1,10 @@
--- How the bytes of a short id lie, and the number that the first of them make.
+-- How the bytes of a short text lie, and the number that the first of them make.
 use Rattle.std.specs.Prelude.{ℕ, ◌≡◌, ◌≤◌, ◌<◌, ◌+◌, ◌*◌, ◌^◌, zero, suc, List, [], ◌∷◌, get_or, take}
+use Rattle.chat_change.specs.declared.short_text.TheConstants.{WORD}
+
+-- so many bytes are covered by two words, of which the one is the first bytes and the other the last
+abbrev pub CanBeRoom : ℕ → Type 0
+CanBeRoom n = (WORD ≤ n) × (n ≤ WORD + WORD)
 
 -- from that place on the bytes are zeros
 abbrev pub HasZerosFrom : ℕ → List ℕ → Type 0
@@ -15,6 +20,6 @@ leading (suc k) (b ∷ text) = b * 256 ^ k + leading k text
 abbrev pub AreBytes : List ℕ → Type 0
 AreBytes numbers = (i : ℕ) → get_or numbers i 0 < 256
 
--- the number that the first sixteen bytes of a text make
+-- the number that the first bytes of a text make, as many as a word has
 abbrev pub IsWordOf : List ℕ → ℕ → Type 0
-IsWordOf text n = (n ≡ leading 16 text) × AreBytes (take 16 text)
+IsWordOf text n = (n ≡ leading WORD text) × AreBytes (take WORD text)

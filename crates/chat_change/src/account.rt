@@ -5,29 +5,29 @@ ghost use Rattle.chat_change.specs.Faults.{account_fault, fault_or_no_memory};
 ghost use Rattle.chat_change.specs.Order.{text_cmp};
 
 use crate::faults::ChangeFault;
-use crate::words::is_name;
+use crate::short_text::ShortText;
+use crate::words::{NAME_LIMIT, is_name};
 use std::alloc::{AllocError, Global};
 use std::cmp::Ordering;
 use std::marker::Model;
-use std::sync::Arc;
 
-/// An account of the cluster, by its name. Contracts see it as the list of its bytes, by which accounts are ordered.
+/// An account of the cluster, by its name, which lies in the value itself. Contracts see it as the list of its bytes, by
+/// which accounts are ordered.
 #[derive(Drop)]
 pub struct Account {
-    // shared with every clone
-    name: Arc<Vec<u8>>,
+    name: ShortText<NAME_LIMIT>,
 }
 
 impl Model for Account {
     ghost Value = { List ℕ };
 
-    ghost view = { λ a. a.name.value.items };
+    ghost view = { λ a. a.name };
 
-    ghost invariant = { λ a. is_name a.name.value.items ≡ true };
+    ghost invariant = { λ a. is_name a.name ≡ true };
 }
 
 impl Account {
-    /// The account of that name.
+    /// The account of that name. It takes no memory.
     ///
     /// Refused with [`ChangeFault::BadName`] unless the name has 1 to 32 bytes of `a-z`, `0-9`, `-` and `_`.
     pub fn new(alloc: Global, name: &[u8]) -> Result<Account, ChangeFault>
@@ -36,24 +36,21 @@ impl Account {
         ensures refused { IfErr result (λ fault.
             fault ≡ fault_or_no_memory (account_fault name.now)) }
     {
-        if !is_name(name) {
-            return Err(ChangeFault::BadName);
-        }
-        match Account::from_lawful(alloc, name) {
-            Ok(account) => Ok(account),
-            Err(_) => Err(ChangeFault::NoMemory),
+        if is_name(name) {
+            Ok(Account::from_lawful(name))
+        } else {
+            Err(ChangeFault::BadName)
         }
     }
 
-    /// The account of what is a name. It fails for want of memory alone.
-    pub(crate) fn from_lawful(alloc: Global, name: &[u8]) -> Result<Account, AllocError>
+    /// The account of what is a name.
+    pub(crate) fn from_lawful(name: &[u8]) -> Account
         requires { is_name name.now ≡ true }
-        ensures { IfOk result (λ account. account ≡ name.now) }
+        ensures { result ≡ name.now }
     {
-        let mut bytes = Vec::with_capacity(alloc, name.len())?;
-        bytes.extend_from_slice(name)?;
-        let name = Arc::new(alloc, bytes)?;
-        Ok(Account { name })
+        Account {
+            name: ShortText::new(name),
+        }
     }
 
     /// Its name.
@@ -61,14 +58,14 @@ impl Account {
         ensures value { result.now ≡ self.now }
         ensures lawful { is_name result.now ≡ true }
     {
-        self.name.as_slice()
+        self.name.as_bytes()
     }
 
-    /// An equal account, which shares its memory. It takes none, and fails only where the account has 2^63 - 1 owners.
+    /// An equal account. It takes no memory, and never fails.
     pub fn try_clone(&self) -> Result<Account, AllocError>
         ensures { IfOk result (λ copy. copy ≡ self.now) }
     {
-        let name = Arc::try_clone(&self.name)?;
+        let name = self.name.copy();
         Ok(Account { name })
     }
 
@@ -76,14 +73,14 @@ impl Account {
     pub fn is_same(&self, other: &Account) -> bool
         ensures { IsTrue result ↔ (self.now ≡ other.now) }
     {
-        self.name() == other.name()
+        self.order(other).is_eq()
     }
 
-    // How two accounts compare: by their names, byte by byte.
-    fn order(&self, other: &Account) -> Ordering
+    /// How two accounts compare: by their names, byte by byte.
+    pub(crate) fn order(&self, other: &Account) -> Ordering
         ensures { result ≡ text_cmp self.now other.now }
     {
-        self.name().cmp(other.name())
+        self.name.order(&other.name)
     }
 }
 
@@ -139,7 +136,7 @@ impl Ord for Account {
     }
 }
 
-/// A clone shares its memory, as one by [`Account::try_clone`] does.
+/// A clone takes no memory, as one by [`Account::try_clone`].
 impl Clone for Account {
     ghost is_clone = { λ account copy. copy ≡ account };
 

@@ -2,12 +2,13 @@
 ghost use Rattle.std.specs.Prelude.{◌≡◌, ◌↔◌, IsTrue, true, IfOk, IfErr, None};
 ghost use Rattle.chat_change.specs.Words.{is_name, is_target, lower_case_of};
 ghost use Rattle.chat_change.specs.Faults.{buffer_fault, fault_or_no_memory};
-ghost use Rattle.chat_change.specs.Order.{text_cmp, buffer_cmp};
+ghost use Rattle.chat_change.specs.Order.{buffer_cmp};
 
 use crate::account::Account;
+use crate::compact_text::CompactText;
 use crate::faults::ChangeFault;
-use crate::texts::Texts;
-use crate::words::{is_name, is_target};
+use crate::short_text::ShortText;
+use crate::words::{NAME_LIMIT, is_name, is_target};
 use std::alloc::{AllocError, Global};
 use std::cmp::Ordering;
 use std::marker::Model;
@@ -19,33 +20,35 @@ use std::sync::Arc;
 /// buffer. Buffers are ordered by account, then network, then target, each compared byte by byte.
 #[derive(Drop)]
 pub struct Buffer {
-    // shared with every clone
+    // in one block, shared with every clone
     names: Arc<Names>,
 }
 
-// The names of a buffer.
+// The names of a buffer. A long target has a block of its own.
 #[derive(Drop)]
 struct Names {
     account: Account,
-    // the network and the folded target
-    texts: Texts,
+    network: ShortText<NAME_LIMIT>,
+    // folded
+    target: CompactText,
 }
 
 impl Model for Buffer {
     ghost use Rattle.chat_change.specs.Buffer as spec;
+    ghost use Rattle.chat_change.specs.CompactText.{bytes_of};
 
     ghost Value = { spec.Buffer };
 
     ghost view = { λ b. record {
       account = b.names.value.account;
-      network = b.names.value.texts.first;
-      target = b.names.value.texts.second;
+      network = b.names.value.network;
+      target = bytes_of b.names.value.target;
     } };
 
     ghost invariant = { λ b. spec.IsLawfulBuffer (record {
       account = b.names.value.account;
-      network = b.names.value.texts.first;
-      target = b.names.value.texts.second;
+      network = b.names.value.network;
+      target = bytes_of b.names.value.target;
     }) };
 }
 
@@ -92,10 +95,14 @@ impl Buffer {
         requires target { is_target target.now ≡ true }
         ensures { IfOk result (λ b. b ≡ buffer_of account.now network.now target.now) }
     {
-        let account = Account::from_lawful(alloc, account)?;
-        let mut texts = Texts::new(alloc, network, target)?;
-        texts.fold_second();
-        let names = Arc::new(alloc, Names { account, texts })?;
+        let mut target = CompactText::new(alloc, target)?;
+        target.fold();
+        let names = Names {
+            account: Account::from_lawful(account),
+            network: ShortText::new(network),
+            target,
+        };
+        let names = Arc::new(alloc, names)?;
         Ok(Buffer { names })
     }
 
@@ -119,7 +126,7 @@ impl Buffer {
         ensures value { result.now ≡ self.now.network }
         ensures lawful { is_name result.now ≡ true }
     {
-        self.names.texts.first()
+        self.names.network.as_bytes()
     }
 
     /// The folded target.
@@ -128,7 +135,7 @@ impl Buffer {
         ensures lawful { is_target result.now ≡ true }
         ensures folded { lower_case_of result.now ≡ result.now }
     {
-        self.names.texts.second()
+        self.names.target.as_bytes()
     }
 
     /// An equal buffer, which shares its memory. It takes none, and fails only where the buffer has 2^63 - 1 owners.
@@ -143,29 +150,22 @@ impl Buffer {
     pub fn is_same(&self, other: &Buffer) -> bool
         ensures { IsTrue result ↔ (self.now ≡ other.now) }
     {
-        self.account() == other.account()
-            && self.network() == other.network()
-            && self.target() == other.target()
+        self.order(other).is_eq()
     }
 
     // How two buffers compare: by account, network and target, byte by byte.
     fn order(&self, other: &Buffer) -> Ordering
         ensures { result ≡ buffer_cmp self.now other.now }
     {
-        let target = order(self.target(), other.target());
-        let network = order(self.network(), other.network()).then(target);
-        order(self.account(), other.account()).then(network)
-    }
-}
-
-// How two names compare, byte by byte. Mostly they are equal, which takes less to see than where they differ.
-fn order(name: &[u8], other: &[u8]) -> Ordering
-    ensures { result ≡ text_cmp name.now other.now }
-{
-    if name == other {
-        Ordering::Equal
-    } else {
-        name.cmp(other)
+        let account = self.names.account.order(&other.names.account);
+        if account.is_ne() {
+            return account;
+        }
+        let network = self.names.network.order(&other.names.network);
+        if network.is_ne() {
+            return network;
+        }
+        self.names.target.order(&other.names.target)
     }
 }
 

@@ -11,18 +11,19 @@
 //! can't stand in a line (RFC 1459 and RFC 2812, section 2.3; IRCv3 message-tags), each with the first [`ChangeFault`] that
 //! there is, so that every value of these types has lawful parts. Their tests are functions of their own, as [`is_target`] and [`is_message`], which take no memory.
 //!
-//! The makers take memory. Where there is none, a maker answers [`ChangeFault::NoMemory`] and leaves nothing behind. What
-//! they make lies in blocks that nobody writes to, which clones share: a `try_clone` takes no memory and copies no text, and
-//! fails only where a block has 2^63 - 1 owners.
+//! The makers take memory, except that of accounts. Where there is none, a maker answers [`ChangeFault::NoMemory`] and
+//! leaves nothing behind. What they make lies in blocks that nobody writes to, which clones share: a `try_clone` takes no
+//! memory and copies no text, and fails only where a block has 2^63 - 1 owners. The name of an account lies in the value
+//! itself, and a clone of it is a copy.
 #![tactic(auto)]
 
 mod account;
 mod buffer;
 mod change;
 mod change_ref;
+mod compact_text;
 mod extent;
 mod faults;
-mod id_text;
 mod key;
 mod lawful;
 pub mod laws;
@@ -31,7 +32,7 @@ mod message_texts;
 mod msg_id;
 mod order;
 mod record;
-mod texts;
+mod short_text;
 mod words;
 
 pub use account::Account;

@@ -2,11 +2,11 @@
 ghost use Rattle.std.specs.Prelude.{◌≡◌, ◌↔◌, IsTrue, true, ℕ, List, IfOk, IfErr, None};
 ghost use Rattle.chat_change.specs.Words as spec;
 ghost use Rattle.chat_change.specs.Faults.{id_fault, fault_or_no_memory};
-ghost use Rattle.chat_change.specs.IdText.{bytes_of};
+ghost use Rattle.chat_change.specs.CompactText.{bytes_of};
 ghost use Rattle.chat_change.specs.Order.{text_cmp, id_cmp};
 
+use crate::compact_text::CompactText;
 use crate::faults::ChangeFault;
-use crate::id_text::IdText;
 use crate::words::is_id;
 use std::alloc::{AllocError, Global};
 use std::cmp::Ordering;
@@ -17,7 +17,7 @@ use std::sync::Arc;
 #[derive(Drop)]
 pub struct MsgId {
     // shared with every clone
-    text: Arc<IdText>,
+    text: Arc<CompactText>,
 }
 
 impl Model for MsgId {
@@ -53,7 +53,7 @@ impl MsgId {
         requires { spec.is_id text.now ≡ true }
         ensures { IfOk result (λ id. id ≡ text.now) }
     {
-        let text = IdText::new(alloc, text)?;
+        let text = CompactText::new(alloc, text)?;
         let text = Arc::new(alloc, text)?;
         Ok(MsgId { text })
     }

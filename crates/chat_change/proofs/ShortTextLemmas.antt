@@ -1,13 +1,16 @@
--- Of two texts whose first bytes make different numbers, the one with the smaller number is the smaller.
-use Rattle.std.proofs.Common.{◌≡◌, ◌≢◌, refl, sym, ◌∙◌, ap, ℕ, ◌+◌, ◌*◌, ◌^◌, ◌<◌, ◌≤◌, List, [], ◌∷◌, length, take, drop, ◌++◌, zero, suc, arith}
+-- Of two texts whose first bytes make different numbers, the one with the smaller number is the smaller. Of two whose bytes
+-- all make the same, the shorter is the smaller.
+use Rattle.std.proofs.Common.{◌≡◌, ◌≢◌, refl, sym, ◌∙◌, ap, ℕ, ◌+◌, ◌-◌, ◌*◌, ◌^◌, ◌<◌, ◌≤◌, List, [], ◌∷◌, length, get_or, take, drop, ◌++◌, replicate, subst, zero, suc, arith}
 use Rattle.std.specs.declared.cmp.Ordering.{Ordering}
 use Rattle.std.specs.declared.cmp.Ordering.TheVariants.{Less, Equal, Greater}
+use Rattle.std.specs.Char.{to_ascii_lowercase}
 use Rattle.std.specs.Ordering.{nat_cmp, ordering_then}
 use Rattle.std.specs.Int.{from_be_bytes, w128}
 use Rattle.std.proofs.Math.Nat.{mul-le-mul_right}
 use Rattle.std.proofs.lemmas.Nat.{pow-add}
 use Rattle.chat_change.specs.Order.{text_cmp}
-use Rattle.chat_change.specs.ShortText.{HasZerosFrom, leading, AreBytes, IsWordOf}
+use Rattle.chat_change.specs.Words.{lower_case_of}
+use Rattle.chat_change.specs.ShortText.{CanBeRoom, HasZerosFrom, leading, AreBytes, IsWordOf}
 
 rest_are : (k x : ℕ) (xs : List ℕ) → AreBytes (take (suc k) (x ∷ xs)) → AreBytes (take k xs)
 rest_are k x xs b i = b (suc i)
@@ -32,6 +35,14 @@ below : (p x y w v : ℕ) → x < y → w < p → x * p + w < y * p + v
 below p x y w v l s =
     let up : suc x * p ≤ y * p = mul-le-mul_right p (omega (arith, l)) in
     omega (arith, up, s)
+
+same_first : (p x y w v : ℕ) → w < p → v < p → x * p + w ≡ y * p + v → x ≡ y
+same_first p x y w v s t e = by (nat_cmp x y) refl
+  where
+    by : (o : Ordering) → nat_cmp x y ≡ o → x ≡ y
+    by Less f = let apart = below p x y w v (grind (arith, f)) s in absurd (omega (arith, apart, e))
+    by Greater f = let apart = below p y x v w (grind (arith, f)) t in absurd (omega (arith, apart, e))
+    by Equal f = grind (arith, f)
 
 as_less : (m n : ℕ) → m < n → nat_cmp m n ≡ Less
 as_less m n l = grind (arith, l)
@@ -195,18 +206,8 @@ later_are (suc i) k (x ∷ s) b j = later_are i k s (rest_are (more i k) x s b) 
 
 -- texts whose first bytes make one number do so with fewer of them
 pub fewer_same : (i k : ℕ) (s t : List ℕ) → AreBytes (take (more i k) s) → AreBytes (take (more i k) t) → leading (more i k) s ≡ leading (more i k) t → leading i s ≡ leading i t
-fewer_same i k s t a b e = by (nat_cmp (leading i s) (leading i t)) refl
-  where
-    p : ℕ
-    p = 256 ^ k
-
-    both : leading i s * p + leading k (drop i s) ≡ leading i t * p + leading k (drop i t)
-    both = sym (in_two i k s) ∙ e ∙ in_two i k t
-
-    by : (o : Ordering) → nat_cmp (leading i s) (leading i t) ≡ o → leading i s ≡ leading i t
-    by Less f = let apart = below p (leading i s) (leading i t) (leading k (drop i s)) (leading k (drop i t)) (grind (arith, f)) (within k (drop i s) (later_are i k s a)) in absurd (omega (arith, apart, both))
-    by Greater f = let apart = below p (leading i t) (leading i s) (leading k (drop i t)) (leading k (drop i s)) (grind (arith, f)) (within k (drop i t) (later_are i k t b)) in absurd (omega (arith, apart, both))
-    by Equal f = grind (arith, f)
+fewer_same i k s t a b e =
+    same_first (256 ^ k) (leading i s) (leading i t) (leading k (drop i s)) (leading k (drop i t)) (within k (drop i s) (later_are i k s a)) (within k (drop i t) (later_are i k t b)) (sym (in_two i k s) ∙ e ∙ in_two i k t)
 
 pub no_bytes : (s : List ℕ) → AreBytes (take 0 s)
 no_bytes s i = omega arith
@@ -226,23 +227,89 @@ words_tell i s t m n a b same f g apart = shifted head m n ∙ (λ j. nat_cmp (o
     differ : leading (more i 16) s ≢ leading (more i 16) t
     differ e = let is : head + m ≡ head + n = own ∙ e ∙ sym others in apart (omega (arith, is))
 
+-- what stands in front of the second of two words that cover n bytes
+pub in_front : (n m : ℕ) (s t : List ℕ) → CanBeRoom n → IsWordOf s m → IsWordOf t m → AreBytes (take (n - 16) s) × AreBytes (take (n - 16) t) × (leading (n - 16) s ≡ leading (n - 16) t)
+in_front n m s t room f g = (fewer_are i k s a, fewer_are i k t b, fewer_same i k s t a b same)
+  where
+    i : ℕ
+    i = n - 16
+
+    k : ℕ
+    k = 32 - n
+
+    word : 16 ≡ more i k
+    word = let sum : 16 ≡ i + k = omega (arith, room.0, room.1) in sum ∙ sym (more_is i k)
+
+    a : AreBytes (take (more i k) s)
+    a = subst (λ j. AreBytes (take j s)) word f.1
+
+    b : AreBytes (take (more i k) t)
+    b = subst (λ j. AreBytes (take j t)) word g.1
+
+    same : leading (more i k) s ≡ leading (more i k) t
+    same = subst (λ j. leading j s ≡ leading j t) word (sym f.0 ∙ g.0)
+
+-- ---- of texts whose bytes make one number the shorter is the smaller
+
+after_one : (m n : ℕ) → nat_cmp (suc m) (suc n) ≡ nat_cmp m n
+after_one m n = grind arith
+
+longer : (k : ℕ) (s t : List ℕ) → AreBytes (take k s) → AreBytes (take k t) → length s ≤ k → length t ≤ k → leading k s ≡ leading k t → nat_cmp (length s) (length t) ≡ text_cmp s t
+longer k [] [] a b l m e = refl
+longer k [] (y ∷ t) a b l m e = as_less 0 (length (y ∷ t)) (omega arith)
+longer k (x ∷ s) [] a b l m e = as_greater (length (x ∷ s)) 0 (omega arith)
+longer zero (x ∷ s) (y ∷ t) a b l m e = absurd (omega (arith, l))
+longer (suc k) (x ∷ s) (y ∷ t) a b l m e =
+    let rest = rest_are k x s a in
+    let others = rest_are k y t b in
+    let head : x ≡ y = same_first (256 ^ k) x y (leading k s) (leading k t) (within k s rest) (within k t others) e in
+    let front : x * 256 ^ k ≡ y * 256 ^ k = ap (λ z. z * 256 ^ k) head in
+    let later : leading k s ≡ leading k t = omega (arith, e, front) in
+    let tied : nat_cmp x y ≡ Equal = grind (arith, head) in
+    after_one (length s) (length t)
+    ∙ longer k s t rest others (omega (arith, l)) (omega (arith, m)) later
+    ∙ sym (ap (λ o. ordering_then o (text_cmp s t)) tied)
+
+pub lengths_tell : (n m l : ℕ) (s t : List ℕ) → CanBeRoom n → length s ≤ n → length t ≤ n → IsWordOf s m → IsWordOf t m → IsWordOf (drop (n - 16) s) l → IsWordOf (drop (n - 16) t) l → nat_cmp (length s) (length t) ≡ text_cmp s t
+lengths_tell n m l s t room fits others_fit f g h j = longer (more i 16) s t (joined i 16 s front.0 h.1) (joined i 16 t front.1 j.1) (omega (arith, fits, whole_is)) (omega (arith, others_fit, whole_is)) same
+  where
+    i : ℕ
+    i = n - 16
+
+    front : AreBytes (take i s) × AreBytes (take i t) × (leading i s ≡ leading i t)
+    front = in_front n m s t room f g
+
+    whole_is : more i 16 ≡ n
+    whole_is = let sum : i + 16 ≡ n = omega (arith, room.0) in more_is i 16 ∙ sum
+
+    same : leading (more i 16) s ≡ leading (more i 16) t
+    same = in_two i 16 s ∙ (λ z. front.2 z * 256 ^ 16 + (sym h.0 ∙ j.0) z) ∙ sym (in_two i 16 t)
+
 -- ---- a text that was copied over zeros
 
-abbrev pub zeros_of : ℕ → List ℕ
-zeros_of zero = []
-zeros_of (suc n) = 0 ∷ zeros_of n
-
-left_zeros : (n k : ℕ) → HasZerosFrom 0 (drop k (zeros_of n))
+left_zeros : (n k : ℕ) → HasZerosFrom 0 (drop k (replicate n 0))
 left_zeros zero zero i l = refl
 left_zeros zero (suc k) i l = refl
 left_zeros (suc n) zero zero l = refl
 left_zeros (suc n) zero (suc i) l = left_zeros n zero i (omega arith)
 left_zeros (suc n) (suc k) i l = left_zeros n k i l
 
-pub copied : (text : List ℕ) (n k : ℕ) → HasZerosFrom (length text) (text ++ drop k (zeros_of n))
+pub copied : (text : List ℕ) (n k : ℕ) → HasZerosFrom (length text) (text ++ drop k (replicate n 0))
 copied [] n k i l = left_zeros n k i l
 copied (x ∷ text) n k zero l = absurd (omega (arith, l))
 copied (x ∷ text) n k (suc i) l = copied text n k i (omega (arith, l))
+
+-- ---- a text that is folded where it lies
+
+folded_at : (xs : List ℕ) (i : ℕ) → get_or (lower_case_of xs) i 0 ≡ to_ascii_lowercase (get_or xs i 0)
+folded_at [] i = refl
+folded_at (x ∷ xs) zero = refl
+folded_at (x ∷ xs) (suc i) = folded_at xs i
+
+pub folded_zeros : (n : ℕ) (xs : List ℕ) → HasZerosFrom n xs → HasZerosFrom n (lower_case_of xs)
+folded_zeros n xs z i l = folded_at xs i ∙ ap to_ascii_lowercase (z i l)
+
+-- ---- the bytes of an array
 
 pub first_are : (k : ℕ) (xs : List ℕ) → AreBytes xs → AreBytes (take k xs)
 first_are zero xs b i = omega arith

@@ -1,7 +1,7 @@
 use Rattle.std.proofs.Common.{rules, ◌≤◌, ◌∙◌, length}
 use Rattle.chat_change.specs.ShortText.{AreBytes}
-use Rattle.chat_change.proofs.IdTextLemmas.{from_word, first_are}
-use Rattle.chat_change.proofs.id_text.number_of.Goals as goal
+use Rattle.chat_change.proofs.ShortTextLemmas.{from_word, first_are}
+use Rattle.chat_change.proofs.short_text.number_of.Goals as goal
 
 pub returns : goal.returns
 returns c =

@@ -1,0 +1,11 @@
+use Rattle.std.proofs.Common.{◌≡◌, ◌∙◌, sym, ap}
+use Rattle.std.specs.Ordering.{is_eq}
+use Rattle.chat_change.specs.Order.{text_cmp}
+use Rattle.chat_change.proofs.OrderLemmas.{text_total, text_exact, equal_is_one}
+use Rattle.chat_change.proofs.account.Account.is_same.Goals as goal
+
+pub returns : goal.returns
+returns c =
+    let same : c.is_eq.result ≡ is_eq (text_cmp c.args.self.now c.args.other.now) = c.is_eq.ensures ∙ ap is_eq c.order.ensures in
+    let one = equal_is_one text_cmp text_total text_exact c.args.self.now c.args.other.now in
+    (λ e. one.0 (sym same ∙ e), λ e. same ∙ one.1 e)
