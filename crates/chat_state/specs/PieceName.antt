@@ -29,4 +29,4 @@ name_in (Redacted name) =
     record { key = MessageOf name.value.buffer name.value.id; post = None }
 name_in (Marked b) = record { key = MarkerOf b; post = None }
 name_in (Floored b) = record { key = FloorOf (OfBuffer b); post = None }
-name_in (AccountFloored a) = record { key = FloorOf (OfAccount a); post = None }
+name_in (AccountFloored a) = record { key = FloorOf (OfAccount a.value); post = None }

@@ -28,7 +28,7 @@ enum Subject {
     // the buffer of a floor
     Floored(Buffer),
     // the account of a floor
-    AccountFloored(Account),
+    AccountFloored(Arc<Account>),
 }
 
 #[derive(Drop)]
@@ -70,7 +70,7 @@ impl Clone for PieceName {
             Subject::Redacted(name) => Subject::Redacted(Arc::try_clone(name)?),
             Subject::Marked(buffer) => Subject::Marked(buffer.try_clone()?),
             Subject::Floored(buffer) => Subject::Floored(buffer.try_clone()?),
-            Subject::AccountFloored(account) => Subject::AccountFloored(account.try_clone()?),
+            Subject::AccountFloored(account) => Subject::AccountFloored(Arc::try_clone(account)?),
         };
         Ok(PieceName { subject })
     }
@@ -85,7 +85,8 @@ fn message_name(alloc: Global, buffer: &Buffer, id: &MsgId) -> Result<Arc<Messag
     Ok(name)
 }
 
-/// What the piece of a change is known by. It shares the change's memory, and takes none but for a redaction.
+/// What the piece of a change is known by. It shares the change's memory, and takes none but for a redaction and for the
+/// floor of an account.
 pub(crate) fn name_of(alloc: Global, change: &Change) -> Result<PieceName, AllocError>
     ensures { IfOk result (λ p. p ≡ spec.name_of change.now) }
 {
@@ -94,7 +95,9 @@ pub(crate) fn name_of(alloc: Global, change: &Change) -> Result<PieceName, Alloc
         Change::Redact { buffer, id, .. } => Subject::Redacted(message_name(alloc, buffer, id)?),
         Change::Mark { buffer, .. } => Subject::Marked(buffer.try_clone()?),
         Change::Floor { buffer, .. } => Subject::Floored(buffer.try_clone()?),
-        Change::AccountFloor { account, .. } => Subject::AccountFloored(account.try_clone()?),
+        Change::AccountFloor { account, .. } => {
+            Subject::AccountFloored(Arc::new(alloc, account.try_clone()?)?)
+        }
     };
     Ok(PieceName { subject })
 }
