@@ -1,1 +1,5 @@
+mod PrefixLemmas
+mod AddLemmas
+mod StateLemmas
+mod ChainLemmas
 mod ReadLemmas

@@ -1,7 +1,7 @@
 -- What a put leaves.
 use Rattle.std.specs.Prelude.{◌≡◌, ℕ, ◌+◌, ◌^◌, ◌≤◌, List, ◌++◌, length, take}
 use Rattle.chat_change.specs.declared.change.Change.{Change}
-use Rattle.published_log.specs.Log.{LogValue, total}
+use Rattle.shared_node.specs.Log.{LogValue, total}
 use Rattle.shared_node.specs.declared.faults.PutFault.{PutFault}
 use Rattle.shared_node.specs.declared.faults.PutFault.TheVariants.{NoMemory, Waiting, Exhausted}
 use Rattle.shared_node.specs.Lists.{under}

@@ -1,15 +1,15 @@
 //! What stands under the lock.
 ghost use Rattle.std.specs.Prelude.{◌≡◌, ◌+◌, ◌<◌, ◌≤◌, ◌^◌, ◌++◌, [], length, IfOk, IfErr, OnOk, IsErr};
-ghost use Rattle.published_log.specs.Log.{all_put, log_value, total};
+ghost use Rattle.shared_node.specs.Log.{all_put, log_value, total};
 ghost use Rattle.shared_node.specs.Lists.{under};
 ghost use Rattle.shared_node.specs.Passes.{FollowsAll};
 ghost use Rattle.shared_node.specs.Puts.{LeavesWaiting};
 
+use crate::change_log::Naming;
 use crate::faults::PutFault;
 use crate::pass::{Pass, Receipt};
-use change_log::Naming;
+use crate::published_log::LogWriter;
 use chat_change::Change;
-use published_log::LogWriter;
 use std::marker::Model;
 use std::sync::Wait;
 use std::sync::ledger::{Book, Share};
@@ -26,7 +26,7 @@ pub struct WritingHalf<J: Naming, R: Wait + Drop> {
 
 impl<J: Naming, R: Wait + Drop> Model for WritingHalf<J, R> {
     ghost use Rattle.std.specs.Prelude.{◌≡◌};
-    ghost use Rattle.published_log.specs.Log.{LogValue, total};
+    ghost use Rattle.shared_node.specs.Log.{LogValue, total};
 
     ghost Value = { LogValue };
 

@@ -11,12 +11,14 @@
 //! [`Unnamed`], and calls a function that is generic in the name. What stands under the lock is in [`laws`].
 #![tactic(auto)]
 
+mod change_log;
 mod faults;
 mod half;
 pub mod laws;
 mod node;
 mod node_taker;
 mod pass;
+mod published_log;
 mod reads;
 mod seats;
 

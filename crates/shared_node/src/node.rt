@@ -1,18 +1,18 @@
 //! The node: the writing half under a lock, and its passes.
 ghost use Rattle.std.specs.Prelude.{◌≡◌, ◌≢◌, ◌+◌, ◌++◌, length, MatchResult, IfOk, IfErr, IsErrAnd, OnErr, vec_len};
 ghost use Rattle.std.specs.List.{sum_by};
-ghost use Rattle.published_log.specs.Log.{total};
+ghost use Rattle.shared_node.specs.Log.{total};
 ghost use Rattle.shared_node.specs.Lists.{under};
 ghost use Rattle.shared_node.specs.Names.{IsNamed};
 ghost use Rattle.shared_node.specs.Passes.{FollowsAll, IsBadCount, newcomers};
 ghost use Rattle.shared_node.specs.Puts.{appended_of};
 
+use crate::change_log::{Naming, Unnamed};
 use crate::faults::{NodeFault, PutFault};
 use crate::half::WritingHalf;
 use crate::pass::{Pass, Receipt};
-use change_log::{Naming, Unnamed};
+use crate::published_log::LogWriter;
 use chat_change::Change;
-use published_log::LogWriter;
 use std::alloc::Global;
 use std::sync::{Mutex, Wait};
 

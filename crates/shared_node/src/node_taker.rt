@@ -4,10 +4,10 @@ ghost use Rattle.shared_node.specs.Lists.{changes_in, under};
 ghost use Rattle.shared_node.specs.Passes.{FollowsAll};
 ghost use Rattle.shared_node.specs.Puts.{appended_of};
 
+use crate::change_log::Naming;
 use crate::faults::PutFault;
 use crate::node::SharedNode;
 use crate::pass::{Pass, Receipt};
-use change_log::Naming;
 use chat_change::Change;
 use gossip_delta::{NotTaken, Taker};
 use std::alloc::Global;

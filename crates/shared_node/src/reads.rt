@@ -9,9 +9,9 @@ ghost use Rattle.chat_batch.specs.Answers.{answer_of};
 ghost use Rattle.shared_node.specs.Lists.{changes_in};
 ghost use Rattle.shared_node.specs.Passes.{Reads};
 
+use crate::change_log::Naming;
 use crate::faults::AskFault;
 use crate::pass::Pass;
-use change_log::Naming;
 use chat_batch::{AnswerFault, Answered, Facts, answer};
 use chat_change::{Buffer, Change, Moment, MsgId};
 use chat_state::{NoEntry, Peek};

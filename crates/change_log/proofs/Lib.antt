@@ -1,5 +1,0 @@
-mod PrefixLemmas
-mod AddLemmas
-mod StateLemmas
-mod ChainLemmas
-pub mod CallerLemmas

@@ -1,0 +1,138 @@
+//! Prefixes of a node's history that were reached.
+ghost use Rattle.std.specs.Prelude.{◌≡◌, ◌+◌, ◌<◌, ◌^◌, ◌++◌, ◌∷◌, ◌⊎◌, [], length, MatchBool};
+ghost use mathlib.Core.List.{IsPrefix};
+
+use super::entry::Entry;
+use super::history::{Add, History, Law, Naming, Nothing};
+use logbook::{Offer, Seen};
+use std::marker::{Model, PhantomData};
+
+/// A prefix of the history of some node, with its length.
+#[derive(Drop)]
+pub(crate) struct AnyPrefix {
+    pub count: u64,
+    pub seen: Seen<Entry, u64, Law>,
+    pub ghost counted: { count ≡ length seen.log },
+}
+
+impl AnyPrefix {
+    pub(crate) fn again(&self) -> AnyPrefix
+        ensures { result ≡ self.now }
+    {
+        AnyPrefix {
+            count: self.count,
+            seen: self.seen.again(),
+        }
+    }
+}
+
+/// A prefix of the history of the node `J`. Contracts see it as its entries.
+#[derive(Drop)]
+pub(crate) struct Prefix<J: Naming> {
+    any: AnyPrefix,
+    of: PhantomData<J>,
+}
+
+impl<J: Naming> Model for Prefix<J> {
+    ghost use Rattle.std.specs.Prelude.{◌≡◌, List};
+    ghost use Rattle.shared_node.specs.declared.change_log.entry.Entry.{Entry};
+
+    ghost Value = { List Entry };
+
+    ghost view = { λ p. p.any.seen.log };
+
+    ghost invariant = { λ p. p.any.seen.book ≡ J.book };
+}
+
+impl<J: Naming> Prefix<J> {
+    pub(crate) fn empty(any: AnyPrefix) -> Prefix<J>
+        requires { any.seen.book ≡ J.book }
+        ensures { result ≡ any.seen.log }
+    {
+        Prefix {
+            any,
+            of: PhantomData,
+        }
+    }
+
+    /// The prefix of this node that it is.
+    pub(crate) fn of(any: &AnyPrefix) -> Prefix<J>
+        requires { any.now.seen.book ≡ J.book }
+        ensures { result ≡ any.now.seen.log }
+    {
+        Prefix {
+            any: any.again(),
+            of: PhantomData,
+        }
+    }
+
+    pub(crate) fn any(&self) -> AnyPrefix
+        ensures { (result.seen.log ≡ self.now) × (result.seen.book ≡ J.book) }
+    {
+        self.any.again()
+    }
+
+    /// How many entries it has.
+    pub(crate) fn len(&self) -> u64
+        ensures { result ≡ length self.now }
+    {
+        self.any.count
+    }
+
+    pub(crate) fn again(&self) -> Prefix<J>
+        ensures { result ≡ self.now }
+    {
+        Prefix {
+            any: self.any.again(),
+            of: PhantomData,
+        }
+    }
+
+    /// Whether this one begins with the other. Of any two prefixes of a history one begins with the other.
+    pub(crate) fn follows(&self, other: &Prefix<J>) -> bool
+        ensures { MatchBool result (IsPrefix other.now self.now)
+            (IsPrefix self.now other.now × (length self.now < length other.now)) }
+    {
+        let mut both = self.any.seen.again();
+        both.learn(&other.any.seen);
+        if other.any.count > self.any.count {
+            return false;
+        }
+        true
+    }
+
+    /// The longer of two prefixes. It begins with both.
+    pub(crate) fn longer(&self, other: &Prefix<J>) -> Prefix<J>
+        ensures one { (result ≡ self.now) ⊎ (result ≡ other.now) }
+        ensures this { IsPrefix self.now result }
+        ensures that { IsPrefix other.now result }
+    {
+        if self.follows(other) {
+            self.again()
+        } else {
+            other.again()
+        }
+    }
+
+    /// Adds an entry to the history, and says whether it did. It doesn't where the history is longer than this prefix.
+    pub(crate) fn add(&mut self, history: &History<J>, entry: &Entry) -> bool
+        requires { length self.old + 1 < 2 ^ 64 }
+        ensures { MatchBool result (self.new ≡ self.old ++ entry.now ∷ []) (self.new ≡ self.old) }
+    {
+        let mut seen = self.any.seen.again();
+        let mut offer: Offer<Entry, u64, Law, Nothing> = seen.plain::<Nothing, Entry, Add>(entry);
+        let mut pen = seen.no_pen();
+        let count = self.any.count;
+        let found = history
+            .head
+            .compare_exchange::<Add, Nothing>(count, count + 1, &mut seen, &mut offer, &mut pen);
+        if found != count {
+            return false;
+        }
+        self.any = AnyPrefix {
+            count: count + 1,
+            seen,
+        };
+        true
+    }
+}
