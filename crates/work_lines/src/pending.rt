@@ -2,7 +2,6 @@
 ghost use Rattle.std.specs.Prelude.{◌≡◌, ◌==◌, ◌++◌, [], drop, length, IfOk, OnErr};
 
 use byte_text::NoMemory;
-use bytes::BytesMut;
 use std::alloc::Global;
 use std::marker::Model;
 
@@ -12,15 +11,19 @@ const KEPT: usize = 1024;
 /// Bytes that wait, oldest first. Contracts see them as their list.
 #[derive(Drop)]
 pub struct Pending {
-    bytes: BytesMut,
+    bytes: Vec<u8>,
+    // where those begin that still wait
+    first: usize,
 }
 
 impl Model for Pending {
-    ghost use Rattle.std.specs.Prelude.{List, ℕ};
+    ghost use Rattle.std.specs.Prelude.{◌≤◌, List, ℕ, drop, length};
 
     ghost Value = { List ℕ };
 
-    ghost view = { λ p. p.bytes.items };
+    ghost view = { λ p. drop p.first p.bytes.items };
+
+    ghost invariant = { λ p. p.first ≤ length p.bytes.items };
 }
 
 impl Pending {
@@ -29,7 +32,8 @@ impl Pending {
         ensures { result ≡ [] }
     {
         Pending {
-            bytes: BytesMut::new(alloc),
+            bytes: Vec::new(alloc),
+            first: 0,
         }
     }
 
@@ -37,21 +41,21 @@ impl Pending {
     pub fn as_bytes(&self) -> &[u8]
         ensures { result.now ≡ self.now }
     {
-        self.bytes.as_slice()
+        &self.bytes[self.first..]
     }
 
     /// How many bytes wait.
     pub fn len(&self) -> usize
         ensures { result ≡ length self.now }
     {
-        self.bytes.len()
+        self.bytes.len() - self.first
     }
 
     /// Whether no byte waits.
     pub fn is_empty(&self) -> bool
         ensures { result ≡ (length self.now == 0) }
     {
-        self.bytes.is_empty()
+        self.len() == 0
     }
 
     /// Further bytes wait, behind the others. For want of memory nothing changes.
@@ -59,16 +63,29 @@ impl Pending {
         ensures pushed { IfOk result (λ _. self.new ≡ self.old ++ bytes.now) }
         ensures err { OnErr result (self.new ≡ self.old) }
     {
+        // (moved so seldom, each byte that comes is moved once at most)
+        if self.bytes.capacity() - self.bytes.len() < bytes.len() && self.first >= self.len() {
+            self.move_to_front();
+        }
         Ok(self.bytes.extend_from_slice(bytes)?)
+    }
+
+    // What waits is moved to the beginning of the room.
+    fn move_to_front(&mut self)
+        ensures { self.new ≡ self.old }
+    {
+        let count = self.len();
+        self.bytes.copy_within(self.first.., 0);
+        self.bytes.truncate(count);
+        self.first = 0;
     }
 
     /// The first bytes wait no longer.
     pub fn take(&mut self, count: usize)
         ensures { self.new ≡ drop count self.old }
     {
-        let count = count.min(self.bytes.len());
-        self.bytes.advance(count);
-        if self.bytes.is_empty() {
+        self.first += count.min(self.len());
+        if self.is_empty() {
             self.give_back();
         }
     }
@@ -78,9 +95,11 @@ impl Pending {
         requires { self.old ≡ [] }
         ensures { self.new ≡ [] }
     {
-        self.bytes.clear();
+        self.first = 0;
         if self.bytes.capacity() > KEPT {
-            self.bytes = BytesMut::new(*self.bytes.allocator());
+            self.bytes = Vec::new(*self.bytes.allocator());
+        } else {
+            self.bytes.clear();
         }
     }
 }
