@@ -7,14 +7,18 @@
 //! for is done by [`end_of_program`].
 #![tactic(auto)]
 
+mod node;
+
 ghost use Rattle.std.specs.Prelude.{◌≡◌, ◌↔◌, Ok, IfErr};
 ghost use Rattle.std.specs.Process.{exit_status};
 ghost use Rattle.bnc_commands.specs.Status.{status_of};
 
+use crate::node::run_prepared;
 use attach::{Boxed, RingClient};
 use bnc_commands::{End, end_of_program};
-use bnc_node::{Prepared, ServeFault, WorkEnd, prepare, run_prepared};
+use bnc_work::WorkEnd;
 use node_config::Config;
+use node_intake::{Prepared, ServeFault, prepare};
 use std::io::BufWriter;
 use std::process::ExitCode;
 use std::{env, fs, io};

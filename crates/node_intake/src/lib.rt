@@ -2,7 +2,7 @@
 //!
 //! [`prepare`] opens the sockets of a configuration, and makes what each worker begins with. [`begin_node`] makes the node, puts
 //! the floors of its accounts, and has its [`Intake`] take connections in, on a thread of its own: it claims a place for each
-//! client, and hands it to a worker by a channel. It runs no worker: that is `bnc_node`. The crate stands on `bnc_sockets`,
+//! client, and hands it to a worker by a channel. It runs no worker: that is `bnc`. The crate stands on `bnc_sockets`,
 //! `node_config`, `worker_io` and `shared_node`. Read [`prepare`] first.
 #![tactic(auto)]
 

@@ -1,6 +1,6 @@
 //! What has to be shown in one process. Rows of what stands below the workers: places, clients at their stands and halls
 //! (`attach`), timers and lines that threads share (`worker_io`), and bytes that are searched and written (`byte_text`), with
-//! the devices on which other tests stand (`test_devices`). And over sockets of this machine: how a node ends (`bnc_node`), and
+//! the devices on which other tests stand (`test_devices`). And over sockets of this machine: how the workers of a node end, and
 //! that the ports of two workers (`bnc_sockets`) pass on connections, bytes, mail and ends.
 //!
 //! The contracts of these crates say what most calls do. Here are the rows that no clause promises: that there is memory at

@@ -1,7 +1,7 @@
 //! A node of two workers.
 use attach::RingClient;
-use bnc_node::{Prepared, prepare};
 use node_config::{Config, read_config};
+use node_intake::{Prepared, prepare};
 use std::io::Eprint;
 use std::net::{Ipv4Addr, Net, SocketAddr, TcpListener, TcpStream};
 use std::process::Abort;

@@ -1,6 +1,6 @@
-use Rattle.test_sockets.proofs.ends.a_node_ends_as_its_worker_does.Given as goal
+use Rattle.bnc.proofs.node.run_prepared.Given as goal
 
--- the node that is about to be made
+-- the node that was just made
 abbrev pub ghosts-run_node-J-Naming : goal.ghosts-run_node-J-Naming
 ghosts-run_node-J-Naming g a = record { book = a.name.seen.book }
 

@@ -1,7 +1,8 @@
-//! The run of a node.
+//! The run of a node over sockets: its name, its floors, and its workers, each on a thread of its own. What is made before, and
+//! who takes connections in, is `node_intake`; what a worker does is `bnc_work`.
 ghost use Rattle.std.specs.Prelude.{◌≡◌};
 ghost use Rattle.shared_node.specs.Names.{IsNamed};
-ghost use Rattle.bnc_node.specs.Start as spec;
+ghost use Rattle.bnc.specs.Start as spec;
 
 use attach::{Attachment, RingClient};
 use bnc_ports::{Carries, Gate};
@@ -43,7 +44,7 @@ fn fault_of_start(fault: StartFault) -> ServeFault
 /// ends makes the others end.
 ///
 /// `boxed` makes of a client the attachment that its worker keeps; none where there is no memory.
-pub fn run_node<J, R, X, P, F>(
+fn run_node<J, R, X, P, F>(
     rt: &R,
     intake: Intake<X>,
     beginnings: Vec<(WorkerConfig<X>, P)>,
@@ -76,7 +77,7 @@ where
 }
 
 /// Runs a node as [`run_node`] does, under a name that no other node of the program has.
-pub fn run_prepared<R, X, P, F>(
+pub(crate) fn run_prepared<R, X, P, F>(
     rt: &R,
     intake: Intake<X>,
     beginnings: Vec<(WorkerConfig<X>, P)>,
