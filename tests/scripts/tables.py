@@ -260,6 +260,7 @@ def targets():
     yield session.case("no buffers")
     yield more_buffers_than_a_list_has()
     yield from buffers_in_each_order()
+    yield targets_of_each_length()
 
 
 def more_buffers_than_a_list_has():
@@ -273,6 +274,20 @@ def more_buffers_than_a_list_has():
         for limit in [99, 100, 101, 1000]:
             session.ask_targets(a, b, limit)
     return session.case("a list of more buffers than it may have, both ways")
+
+
+def targets_of_each_length():
+    """Targets of one moment, up to the most bytes, of which each begins with the shorter ones, or differs in its last byte."""
+    history = History()
+    lengths = [1, 2, 14, 15, 16, 17, 28, 29, 30, 31, 32, 33, 199, 200]
+    names = ["#" + "a" * (length - 1) for length in lengths] + ["#" + "a" * (length - 2) + "b" for length in lengths[1:]]
+    for at, target in enumerate(names):
+        history.post(target, f"m{at}", 1000, "x")
+    session = Session(history)
+    for limit in (1, 10, len(names) - 1, len(names), len(names) + 1):
+        session.ask_targets(0, 2000, limit)
+        session.ask_targets(2000, 0, limit)
+    return session.case("targets of each length")
 
 
 def buffers_in_each_order():
