@@ -63,7 +63,7 @@ impl Pending {
         ensures pushed { IfOk result (λ _. self.new ≡ self.old ++ bytes.now) }
         ensures err { OnErr result (self.new ≡ self.old) }
     {
-        // (moved so seldom, each byte that comes is moved once at most)
+        // (so no more bytes are moved, all in all, than were taken)
         if self.bytes.capacity() - self.bytes.len() < bytes.len() && self.first >= self.len() {
             self.move_to_front();
         }
