@@ -511,7 +511,6 @@ impl World {
     }
 
     /// Answers a line, which stands without its ending.
-    #[tactic(auto, unfolding(crate::specs::Request::request_in))]
     pub(crate) fn serve_line<W: Write>(
         &mut self,
         alloc: Global,
