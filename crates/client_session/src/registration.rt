@@ -7,7 +7,7 @@ ghost use Rattle.irc_reply.specs.ToClient.{no_nick, not_registered};
 
 use crate::command::ClientCommand;
 use crate::effect::Effect;
-use crate::shared::{answer, closing, nick_refusal, one, ping, push, refusal};
+use crate::shared::{answer, closing, nick_refusal, ping, push, refusal};
 use crate::stage::{Stage, Waiting};
 use byte_text::{NoMemory, Text, find_byte};
 use chat_batch::Facts;
@@ -128,7 +128,8 @@ impl Waiting {
         if parameters.is_empty() {
             self.needs_more(alloc, b"PASS")
         } else {
-            self.password = Text::new(alloc, parameters[0])?;
+            let password = Text::new(alloc, parameters[0])?;
+            self.password = password;
             Ok((Stage::Waiting(self), Vec::new(alloc)))
         }
     }
@@ -265,7 +266,8 @@ impl Waiting {
         match user_name(parameters) {
             None => self.needs_more(alloc, b"USER"),
             Some(name) => {
-                self.user = Some(Text::new(alloc, name)?);
+                let name = Text::new(alloc, name)?;
+                self.user = Some(name);
                 self.settle(alloc, directory)
             }
         }
@@ -286,12 +288,10 @@ impl Waiting {
             ≡ spec.waits self (steps.answer (not_registered self.cluster))) }
     {
         let text = not_registered(alloc, self.cluster.as_bytes())?;
-        let list = one(alloc, Effect::Send(text))?;
-        Ok((Stage::Waiting(self), list))
+        self.waits(alloc, text)
     }
 
-    /// What a command comes to.
-    pub(crate) fn serve(
+    fn serve(
         self,
         alloc: Global,
         directory: &Directory,
@@ -319,6 +319,22 @@ impl Waiting {
             | ClientCommand::Message
             | ClientCommand::Other => self.not_yet(alloc),
         }
+    }
+
+    /// What a command comes to. It is a copy that goes on, so that a refused step leaves the session as it was.
+    pub(crate) fn step(
+        &self,
+        alloc: Global,
+        directory: &Directory,
+        command: ClientCommand,
+        parameters: &[&[u8]],
+    ) -> Result<(Stage, Vec<Effect>), NoMemory>
+        ensures { IfOk result (λ r. record { session = r.0; effects = r.1.items }
+            ≡ spec.before_registration directory.now self.now command
+            (map (λ p. p.now) parameters.now)) }
+    {
+        let next = self.try_clone(alloc)?;
+        next.serve(alloc, directory, command, parameters)
     }
 
     /// What a line comes to that can't be read.

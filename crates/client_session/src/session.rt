@@ -112,6 +112,12 @@ impl Session {
         }
     }
 
+    fn enter(&mut self, stage: Stage)
+        ensures { self.new ≡ stage }
+    {
+        self.stage = stage;
+    }
+
     // What a line comes to that reads so.
     fn serve(
         &mut self,
@@ -128,9 +134,8 @@ impl Session {
         let command = command_of(line.command());
         match &mut self.stage {
             Stage::Waiting(waiting) => {
-                let next = waiting.try_clone(alloc)?;
-                let (stage, list) = next.serve(alloc, directory, command, line.parameters())?;
-                self.stage = stage;
+                let (stage, list) = waiting.step(alloc, directory, command, line.parameters())?;
+                self.enter(stage);
                 Ok(list)
             }
             Stage::Registered(facts) => {
@@ -147,7 +152,7 @@ impl Session {
                 )?;
                 match continuation {
                     Continuation::Stays => {}
-                    Continuation::Closes => self.stage = Stage::Closed,
+                    Continuation::Closes => self.enter(Stage::Closed),
                 }
                 Ok(list)
             }

@@ -1,5 +1,5 @@
 //! What the commands have in common before registration and after it.
-ghost use Rattle.std.specs.Prelude.{◌≡◌, ◌∷◌, [], map, IfOk, Some, None};
+ghost use Rattle.std.specs.Prelude.{◌≡◌, ◌∷◌, [], ◌++◌, map, IfOk, Some, None};
 ghost use Rattle.client_session.specs.Step as spec;
 ghost use Rattle.client_session.specs.declared.effect.Effect.TheVariants as effects;
 
@@ -11,36 +11,20 @@ use irc_reply::need_more_params;
 use irc_reply::to_client::{closing_link, erroneous_nick, no_nick_given, pong, too_long, unknown};
 use std::alloc::{AllocError, Global};
 
-fn list_of(alloc: Global, effect: Effect) -> Result<Vec<Effect>, AllocError>
-    ensures { IfOk result (λ list. list.items ≡ effect ∷ []) }
-{
-    let mut list = Vec::new(alloc);
-    list.push(effect)?;
-    Ok(list)
-}
-
 /// One effect.
 pub(crate) fn one(alloc: Global, effect: Effect) -> Result<Vec<Effect>, NoMemory>
     ensures { IfOk result (λ list. list.items ≡ effect ∷ []) }
 {
-    let list = list_of(alloc, effect)?;
+    let mut list = Vec::new(alloc);
+    list.push(effect).map_err(AllocError::from)?;
     Ok(list)
 }
-
-fn push_effect(list: &mut Vec<Effect>, effect: Effect) -> Result<(), AllocError>
-    ensures { IfOk result (λ _. list.new.items ≡ list.old.items ++ effect ∷ []) }
-{
-    list.push(effect)?;
-    Ok(())
-}
-
-ghost use Rattle.std.specs.Prelude.{◌++◌};
 
 /// One effect more.
 pub(crate) fn push(list: &mut Vec<Effect>, effect: Effect) -> Result<(), NoMemory>
     ensures { IfOk result (λ _. list.new.items ≡ list.old.items ++ effect ∷ []) }
 {
-    push_effect(list, effect)?;
+    list.push(effect).map_err(AllocError::from)?;
     Ok(())
 }
 

@@ -1,4 +1,5 @@
 use Rattle.std.proofs.Common.{◌≡◌, ◌<◌, ℕ, List, [], ◌∷◌, None, length, map, refl, arith}
+use Rattle.std.proofs.lemmas.Grind.{common_steps}
 use Rattle.std.proofs.lemmas.List.{length-map}
 use Rattle.chat_batch.specs.declared.facts.Facts.{Facts}
 use Rattle.client_session.specs.Lookup.{name_by_command}
@@ -15,3 +16,24 @@ returns-then-parameters-lt2 g c =
     let n = length-map c.args.parameters.now (λ p. p.now) in
     let e = nowhere c.args.facts.now (map (λ p. p.now) c.args.parameters.now) (omega (arith, n)) in
     record { shown = rw e refl; refused = tt; err = tt }
+
+pub bounds-parameters-0 : goal.bounds-parameters-0
+bounds-parameters-0 g c = omega arith
+
+pub bounds-parameters-1 : goal.bounds-parameters-1
+bounds-parameters-1 g c = omega arith
+
+pub look_at-requires-clause-buffer : goal.look_at-requires-clause-buffer
+look_at-requires-clause-buffer g c = grind (arith, common_steps)
+
+pub look_at-requires-clause-id : goal.look_at-requires-clause-id
+look_at-requires-clause-id g c = grind (arith, common_steps)
+
+pub returns-then-is_id-clause-shown : goal.returns-then-is_id-clause-shown
+returns-then-is_id-clause-shown g c = grind (arith, common_steps)
+
+pub returns-then-is_id-clause-refused : goal.returns-then-is_id-clause-refused
+returns-then-is_id-clause-refused g c = grind (arith, common_steps)
+
+pub returns-else-facts-clause-shown : goal.returns-else-facts-clause-shown
+returns-else-facts-clause-shown g c = grind (arith, common_steps)
