@@ -10,8 +10,8 @@ ghost use Rattle.node_config.specs.Sections.{table_of};
 use crate::allowed::Allowed;
 use crate::entries::{Account, Network};
 use crate::fault::{ListName, ValueFault};
-use crate::section::{Section, entry_of};
-use std::alloc::{AllocError, Global};
+use crate::section::{Section, entry_of, push};
+use std::alloc::Global;
 
 fn has_account(accounts: &[Account], name: &[u8]) -> bool
     ensures { result ≡ spec.has_account accounts.now name.now }
@@ -33,7 +33,7 @@ pub(crate) fn read_accounts(alloc: Global, top: Section<'_>) -> Result<Vec<Accou
     for item in items {
         let entry = entry_of(item, ListName::Accounts, accounts.len())?;
         let account = read_account(alloc, entry, accounts.as_slice())?;
-        accounts.push(account).map_err(AllocError::from)?;
+        push(&mut accounts, account)?;
     }
     Ok(accounts)
 }
@@ -89,7 +89,7 @@ pub(crate) fn read_networks(
     for item in items {
         let entry = entry_of(item, ListName::Networks, networks.len())?;
         let network = read_network(alloc, entry, accounts, networks.as_slice())?;
-        networks.push(network).map_err(AllocError::from)?;
+        push(&mut networks, network)?;
     }
     Ok(networks)
 }

@@ -8,9 +8,9 @@ ghost use Rattle.peer_lines.specs.Names.{same_name};
 use crate::allowed::Allowed;
 use crate::entries::Peer;
 use crate::fault::{ListName, ValueFault};
-use crate::section::{Section, entry_of};
+use crate::section::{Section, entry_of, push};
 use peer_lines::NodeName;
-use std::alloc::{AllocError, Global};
+use std::alloc::Global;
 
 fn has_peer(peers: &[Peer], name: &NodeName) -> bool
     ensures { result ≡ spec.has_peer peers.now name.now }
@@ -33,7 +33,7 @@ pub(crate) fn read_peers(
     for item in items {
         let entry = entry_of(item, ListName::Peers, peers.len())?;
         let peer = read_peer(alloc, entry, node, peers.as_slice())?;
-        peers.push(peer).map_err(AllocError::from)?;
+        push(&mut peers, peer)?;
     }
     Ok(peers)
 }

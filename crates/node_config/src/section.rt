@@ -1,5 +1,5 @@
 //! Values of one table.
-ghost use Rattle.std.specs.Prelude.{◌≡◌, ◌≤◌, true, IfOk, IfSome};
+ghost use Rattle.std.specs.Prelude.{◌≡◌, ◌≤◌, [], ◌∷◌, ◌++◌, true, IfOk, IfSome};
 ghost use Rattle.std.specs.List.{list_all};
 ghost use Rattle.chat_change.specs.Words.{is_name, is_target};
 ghost use Rattle.toml.specs.Data.{string, table};
@@ -15,7 +15,7 @@ use crate::names::is_cluster_name;
 use byte_text::Text;
 use irc_time::{Moment, read_time};
 use peer_lines::{LinkFault, NodeName, SharedWord, Version};
-use std::alloc::{AllocError, Global};
+use std::alloc::Global;
 use std::net::SocketAddr;
 use toml::{Table, Value};
 
@@ -193,7 +193,7 @@ impl<'a> Section<'a> {
             let Some(name) = target_in(alloc, item)? else {
                 return Err(self.wrong(key, Allowed::Channels));
             };
-            names.push(name).map_err(AllocError::from)?;
+            push(&mut names, name)?;
         }
         Ok(names)
     }
@@ -223,6 +223,16 @@ fn target_in(alloc: Global, item: &Value) -> Result<Option<Text>, ValueFault>
         return Ok(None);
     }
     Ok(Some(Text::new(alloc, text.as_bytes())?))
+}
+
+/// One item more.
+pub(crate) fn push<T: Drop>(list: &mut Vec<T>, item: T) -> Result<(), ValueFault>
+    ensures { IfOk result (λ _. list.new.items ≡ list.old.items ++ item ∷ []) }
+{
+    match list.push(item) {
+        Ok(()) => Ok(()),
+        Err(_) => Err(ValueFault::NoMemory),
+    }
 }
 
 /// The entry of a list that a value is.
