@@ -68,19 +68,19 @@ acted_sent t s None (act.HandUp place) = inl refl
 acted_sent t s (Some l) (act.HandUp place) = inl (gathered_silent s place (pushed s.gather l).gather (pushed s.gather l).answer)
 acted_sent t s l act.Close = inl refl
 
--- what comes of a line after which a peer is greeted, but for the greeting
-module _ (t : Terms) (s : Session) (l : Option PeerLine) (place : ℕ) (h : Handshake) (is : h ≡ record s.handshake { stage = after t s.handshake.stage l }) (e : act.GreetAndHandUp place ≡ action s.handshake.side h.stage) where
-  greeted_act : action s.handshake.side (after t s.handshake.stage l) ≡ act.GreetAndHandUp place
-  greeted_act = ap (λ (k : Handshake). action s.handshake.side k.stage) (sym is) ∙ sym e
+-- what comes of a line is what is done because of its action
+module _ (t : Terms) (s : Session) (l : Option PeerLine) (a : Action) (h : Handshake) (is : h ≡ record s.handshake { stage = after t s.handshake.stage l }) (e : a ≡ action s.handshake.side h.stage) where
+  its_action : action s.handshake.side (after t s.handshake.stage l) ≡ a
+  its_action = ap (λ (k : Handshake). action s.handshake.side k.stage) (sym is) ∙ sym e
 
-  greeted_as : acted t (record s { handshake = h }) l (act.GreetAndHandUp place) ≡ step t s l
-  greeted_as = λ i. acted t (record s { handshake = is i }) l (sym greeted_act i)
+  acted_as : acted t (record s { handshake = h }) l a ≡ step t s l
+  acted_as = λ i. acted t (record s { handshake = is i }) l (sym its_action i)
 
-  pub greeted_session : (handed_up (record s { handshake = h }) place l).session ≡ (step t s l).session
-  greeted_session = ap (λ (x : Step). x.session) greeted_as
+  pub acted_session : (acted t (record s { handshake = h }) l a).session ≡ (step t s l).session
+  acted_session = ap (λ (x : Step). x.session) acted_as
 
-  pub greeted_heard : (handed_up (record s { handshake = h }) place l).heard ≡ (step t s l).heard
-  greeted_heard = ap (λ (x : Step). x.heard) greeted_as
+  pub acted_heard : (acted t (record s { handshake = h }) l a).heard ≡ (step t s l).heard
+  acted_heard = ap (λ (x : Step). x.heard) acted_as
 
 -- ---- a connection that is over
 

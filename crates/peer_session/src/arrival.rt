@@ -56,7 +56,9 @@ fn take_packet<T: Taker>(
 {
     match link.take_packet(alloc, packet, taker) {
         Ok(ack) => {
-            append_ack(&ack, out)?;
+            let appended = append_ack(&ack, out);
+            drop(ack);
+            appended?;
             Ok(Outcome::Taken)
         }
         Err(LinkFault::WrongLife) => Ok(Outcome::Ignored),

@@ -128,10 +128,13 @@ impl PeerSession {
                 drop(line);
                 Ok(Heard::Nothing)
             }
-            Action::GreetAndHandUp(place) => {
-                greet(terms, place, out)?;
-                self.gather_line(alloc, terms, place, line)
-            }
+            Action::GreetAndHandUp(place) => match greet(terms, place, out) {
+                Ok(()) => self.gather_line(alloc, terms, place, line),
+                Err(NoMemory) => {
+                    drop(line);
+                    Err(NoMemory)
+                }
+            },
             Action::HandUp(place) => self.gather_line(alloc, terms, place, line),
             Action::Close => {
                 let fault = Fault::of(&line);
