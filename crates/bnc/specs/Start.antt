@@ -1,6 +1,6 @@
 -- What is told where the workers of a node can't begin: the same fault.
-use Rattle.bnc_work.specs.declared.starting.StartFault.{StartFault}
-use Rattle.bnc_work.specs.declared.starting.StartFault.TheVariants as start_case
+use Rattle.worker_io.specs.declared.threads.StartFault.{StartFault}
+use Rattle.worker_io.specs.declared.threads.StartFault.TheVariants as start_case
 use Rattle.node_intake.specs.declared.fault.ServeFault.{ServeFault}
 use Rattle.node_intake.specs.declared.fault.ServeFault.TheVariants.{NoMemory, NoThread}
 

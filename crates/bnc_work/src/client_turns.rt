@@ -1,16 +1,15 @@
 //! The turns of clients.
 use crate::marker_turns::{ask_gate, tell_mark_of};
-use crate::news::mail_said;
-use crate::putting::publish_later;
 use crate::work_port::WorkPort;
 use crate::worker::Worker;
 use attach::Attachment;
 use bnc_ports::Reason;
 use chat_change::Change;
+use passed_lines::mail_said;
 use shared_node::PutFault;
 use work_clients::{ClientEffect, ClientPut, ClientStep};
 use worker_io::WorkEnd;
-use worker_node::{Node, put_of_client};
+use worker_node::{Node, publish_later, put_of_client};
 
 /// So many steps a client has before the others have their turn.
 const STEPS: usize = 64;
@@ -92,7 +91,11 @@ impl<N: Node, X: Attachment, P: WorkPort> Worker<N, X, P> {
     // client can't be answered.
     fn put_for(&mut self, number: usize, put: ClientPut) -> Result<(), WorkEnd> {
         match put_of_client(&mut self.node, &self.context.view, put) {
-            Ok(change) => self.tell_put(number, &change),
+            Ok(change) => {
+                let done = self.tell_put(number, &change);
+                drop(change);
+                done
+            }
             Err(fault) => {
                 if fault == PutFault::Waiting {
                     publish_later(&mut self.context);

@@ -9,9 +9,7 @@
 
 mod client_turns;
 mod marker_turns;
-mod news;
 mod peer_turns;
-mod putting;
 mod server_turns;
 mod standings;
 mod starting;
@@ -20,7 +18,7 @@ mod worker;
 
 pub use bnc_ports::{Gate, Lobby, Port};
 pub use passed_lines::Mail;
-pub use starting::{StartFault, work_all};
+pub use starting::work_all;
 pub use work_port::WorkPort;
 pub use worker::work;
-pub use worker_io::{WorkEnd, WorkerConfig};
+pub use worker_io::{StartFault, WorkEnd, WorkerConfig};

@@ -1,9 +1,8 @@
 //! Sessions are told of read markers (IRCv3 draft/read-marker).
-use crate::news::{News, mail_others};
 use attach::Attachment;
 use bnc_ports::{Carries, Connection, Port};
 use chat_change::Buffer;
-use passed_lines::Mail;
+use passed_lines::{Mail, News, mail_others};
 use work_clients::{Clients, ToClient};
 use worker_io::{Context, NodeView, WorkEnd};
 use worker_node::{MarkAhead, Node};

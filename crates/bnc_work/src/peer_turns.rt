@@ -1,39 +1,16 @@
 //! The turns of peers.
 use crate::marker_turns::tell_risen;
-use crate::putting::publish_later;
 use crate::work_port::WorkPort;
 use crate::worker::Worker;
 use attach::Attachment;
-use bnc_ports::{Carries, Connection, Reason};
-use byte_text::NoMemory;
 use passed_lines::Mail;
-use peer_session::{Outcome, changes_of};
-use work_peers::{PeerStep, Peers, ToPeer};
-use worker_io::{Context, WorkEnd};
-use worker_node::{Node, marks_ahead};
+use peer_session::changes_of;
+use work_peers::PeerStep;
+use worker_io::WorkEnd;
+use worker_node::{Node, marks_ahead, take_into};
 
 /// So many lines of a peer are taken before the others have their turn.
 const STEPS: usize = 64;
-
-// Takes the message that came over a connection with a peer. True where the node has something new by it.
-fn take_into<N: Node, C: Connection, P: Carries<ToPeer, Connection = C>>(
-    node: &mut N,
-    context: &mut Context<P>,
-    peers: &mut Peers<C>,
-    number: usize,
-) -> bool {
-    match node.take(peers, context, number) {
-        Ok(Outcome::Taken) => return true,
-        // What waits of it is published a second later, as of any put. A marker that waits isn't told: it can't be read before.
-        Ok(Outcome::TakenInPart) => {
-            publish_later(context);
-            return true;
-        }
-        Ok(Outcome::Known | Outcome::Ignored) => peers.advance(context, number, node.pass()),
-        Err(NoMemory) => peers.close(context, number, Reason::NoMemory),
-    }
-    false
-}
 
 impl<N: Node, X: Attachment, P: WorkPort> Worker<N, X, P> {
     /// Each peer is to have what was put in this turn: the first worker has them, and learns it by one mail from another. Those
@@ -92,9 +69,12 @@ impl<N: Node, X: Attachment, P: WorkPort> Worker<N, X, P> {
             None => Vec::new(context.view.alloc),
         };
         if !take_into(node, context, peers, number) {
+            drop(marks);
             return Ok(());
         }
         *has_published = true;
-        tell_risen(node, context, clients, &marks)
+        let done = tell_risen(node, context, clients, &marks);
+        drop(marks);
+        done
     }
 }

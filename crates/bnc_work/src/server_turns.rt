@@ -1,18 +1,18 @@
 //! The turns of networks' servers.
 use crate::marker_turns::tell_mark_to_all;
-use crate::news::{News, is_another_behind, mail_line, mail_others};
-use crate::putting::publish_later;
 use crate::standings::spread;
 use crate::work_port::WorkPort;
 use crate::worker::Worker;
 use attach::Attachment;
 use bnc_ports::Reason;
 use byte_text::NoMemory;
-use passed_lines::{Deed, ServerEffects, ServerPut};
+use passed_lines::{
+    Deed, News, ServerEffects, ServerPut, is_another_behind, mail_line, mail_others,
+};
 use shared_node::PutFault;
 use work_servers::{SaidStep, ServerStep};
 use worker_io::WorkEnd;
-use worker_node::{Node, put_of_server};
+use worker_node::{Node, publish_later, put_of_server};
 
 /// So many lines of a server are taken before the others have their turn: about as many as one read brings, so that what
 /// they come to is written to each client at once.
@@ -81,6 +81,7 @@ impl<N: Node, X: Attachment, P: WorkPort> Worker<N, X, P> {
         let is_passed_on = effects.has_passed_on();
         spread(&mut self.context, &mut self.clients, standing, is_passed_on);
         if !self.do_server_effects(number, &effects) {
+            drop(effects);
             self.close_server(number, Reason::NoMemory);
             return Ok(());
         }
@@ -92,12 +93,15 @@ impl<N: Node, X: Attachment, P: WorkPort> Worker<N, X, P> {
             servers,
             ..
         } = self;
-        match (servers.network(number), servers.take_joined(number)) {
-            (Some(network), Some(channel)) => {
-                tell_mark_to_all(node, context, clients, network, channel.as_bytes(), None)
-            }
-            _ => Ok(()),
-        }
+        let Some(network) = servers.network(number) else {
+            return Ok(());
+        };
+        let Some(channel) = servers.take_joined(number) else {
+            return Ok(());
+        };
+        let done = tell_mark_to_all(node, context, clients, network, channel.as_bytes(), None);
+        drop(channel);
+        done
     }
 
     // Does these in their order. False where the node refuses a change: the rest is left then.

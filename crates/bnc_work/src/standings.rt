@@ -1,11 +1,10 @@
 //! How the sessions with networks' servers stand, as all workers know it.
-use crate::news::{News, mail_others};
 use attach::Attachment;
-use bnc_ports::{Carries, Connection, Happening, Port};
-use passed_lines::{Mail, NetworkEntry};
+use bnc_ports::{Carries, Connection, Port};
+use passed_lines::{Mail, NetworkEntry, News, mail_others};
 use work_clients::{Clients, ToClient};
 use work_servers::Standing;
-use worker_io::{Context, NodeView};
+use worker_io::Context;
 
 /// The sessions of a network learn their nick from how the session with its server stands now.
 pub(crate) fn tell_entry<X: Attachment, C: Connection, P: Carries<ToClient, Connection = C>>(
@@ -32,24 +31,17 @@ pub(crate) fn spread<
     standing: Option<Standing>,
     is_passed_on: bool,
 ) {
-    let Some(standing) = standing else {
+    let Some(Standing { network, entry }) = standing else {
         return;
     };
     mail_others(
         context,
         &News::Entry {
-            standing: &standing,
+            network,
+            entry: &entry,
             is_passed_on,
         },
     );
-    let Standing { network, entry } = standing;
     tell_entry(context, clients, network, &entry, is_passed_on);
     context.view.set_entry(network, entry.entry);
-}
-
-/// Keeps how the session with a network's server stands, where mail says that.
-pub(crate) fn keep_entry(view: &mut NodeView, happening: Happening<Mail>) {
-    if let Happening::Mail(Mail::Entry { network, entry, .. }) = happening {
-        view.set_entry(network, entry.entry);
-    }
 }

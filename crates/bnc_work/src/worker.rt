@@ -1,23 +1,20 @@
 //! One worker: what comes, and who has something to do.
 use crate::marker_turns::tell_mark;
-use crate::news::is_another_behind;
-use crate::putting::{publish_now, put_floors};
-use crate::standings::{keep_entry, spread, tell_entry};
+use crate::standings::{spread, tell_entry};
 use crate::work_port::WorkPort;
 use attach::Attachment;
-use bnc_ports::{Carries, Connection, Dial, Gate, Happening, Lobby, Port};
+use bnc_ports::{Carries, Connection, Dial, Gate, Happening, Port};
 use byte_text::NoMemory;
 use chat_change::Moment;
 use gossip_link::NodeName;
-use passed_lines::Mail;
+use passed_lines::{Mail, is_another_behind, keep_entry};
 use shared_node::{Naming, NodeTaker, Pass, SharedNode};
-use std::alloc::Global;
-use std::sync::{Arc, Wait};
+use std::sync::Wait;
 use work_clients::{Clients, ToClient};
 use work_peers::{Peers, ToPeer};
 use work_servers::{Servers, ToServer};
-use worker_io::{ClockWatch, Context, NodeView, Timer, WorkEnd, WorkerConfig, clock};
-use worker_node::{GatedNode, Node};
+use worker_io::{Beginning, ClockWatch, Context, NodeView, Timer, WorkEnd, WorkerConfig, clock};
+use worker_node::{GatedNode, Node, publish_now, put_floors};
 
 /// A worker looks after its timers at least so often, in milliseconds.
 const LONGEST: u64 = 60_000;
@@ -88,7 +85,12 @@ pub(crate) fn try_work<
     let mut port = port;
     match clock(&mut port) {
         Some(time) => serve(rt, worker, node, time, config, port),
-        None => Ok(WorkEnd::Failed),
+        None => {
+            drop(node);
+            drop(config);
+            drop(port);
+            Ok(WorkEnd::Failed)
+        }
     }
 }
 
@@ -101,36 +103,19 @@ fn serve<W: Wait + AllocGlobal, N: Node, X: Attachment, P: WorkPort>(
     config: WorkerConfig<X>,
     port: P,
 ) -> Result<WorkEnd, NoMemory> {
-    let (view, lobby, peers) = view_of(rt.alloc(), number, port.workers(), time, config)?;
-    let mut worker = Worker::new(node, view, lobby, peers, port)?;
-    Ok(worker.run(rt))
-}
-
-// What the worker of that number of so many knows of its node and of the time, its lobby, and the names of its peers.
-fn view_of<X: Attachment>(
-    alloc: Global,
-    worker: usize,
-    workers: usize,
-    (now, moment): (u64, Moment),
-    config: WorkerConfig<X>,
-) -> Result<(NodeView, Lobby<X>, Vec<NodeName>), NoMemory> {
-    let Ok(terms) = Arc::new(alloc, config.terms) else {
-        return Err(NoMemory);
-    };
-    let view = NodeView {
-        alloc,
-        worker,
-        workers,
-        now,
-        moment,
-        cluster: config.cluster,
-        maximum: config.maximum,
-        directory: config.directory,
-        networks: config.networks,
-        terms,
-        retain_days: config.retain_days,
-    };
-    Ok((view, config.lobby, config.peers))
+    match Beginning::new(rt.alloc(), number, port.workers(), time, config) {
+        Ok(beginning) => {
+            let mut worker = Worker::new(node, beginning, port)?;
+            let end = worker.run(rt);
+            drop(worker);
+            Ok(end)
+        }
+        Err(NoMemory) => {
+            drop(node);
+            drop(port);
+            Err(NoMemory)
+        }
+    }
 }
 
 // What happens next, for which the port may wait so long. The clocks are read then.
@@ -174,28 +159,43 @@ fn tables_of<S: Connection, E: Connection>(
 }
 
 impl<N: Node, X: Attachment, P: WorkPort> Worker<N, X, P> {
-    // A worker with that view of its node, without a connection. Its peers have these names.
+    // A worker that begins with that, without a connection.
     fn new(
         node: N,
-        view: NodeView,
-        lobby: Lobby<X>,
-        names: Vec<NodeName>,
+        Beginning { view, lobby, peers }: Beginning<X>,
         port: P,
     ) -> Result<Worker<N, X, P>, NoMemory> {
-        let count = names.len();
-        let context = Context::new(view, port, count)?;
-        let (servers, peers) = tables_of(&context.view, names)?;
-        let watch = ClockWatch::new(context.view.clocks());
-        let clients = Clients::new(context.view.alloc, lobby);
-        Ok(Worker {
-            node,
-            context,
-            watch,
-            clients,
-            servers,
-            peers,
-            has_published: false,
-        })
+        let count = peers.len();
+        let context = match Context::new(view, port, count) {
+            Ok(context) => context,
+            Err(NoMemory) => {
+                drop(node);
+                drop(lobby);
+                drop(peers);
+                return Err(NoMemory);
+            }
+        };
+        match tables_of(&context.view, peers) {
+            Ok((servers, peers)) => {
+                let watch = ClockWatch::new(context.view.clocks());
+                let clients = Clients::new(context.view.alloc, lobby);
+                Ok(Worker {
+                    node,
+                    context,
+                    watch,
+                    clients,
+                    servers,
+                    peers,
+                    has_published: false,
+                })
+            }
+            Err(NoMemory) => {
+                drop(node);
+                drop(lobby);
+                drop(context);
+                Err(NoMemory)
+            }
+        }
     }
 
     // Connects to the servers of this worker's networks, and works until the gate shuts, or the port ends or fails. The first

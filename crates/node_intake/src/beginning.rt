@@ -39,28 +39,38 @@ where
     requires named { IsNamed J.book J.name J.parts name }
     requires callable { F.IsAlwaysCallable boxed }
 {
-    let (node, passes) = node_with::<J, R>(rt, name, &floors)?;
-    let jobs = jobs_of(rt.alloc(), passes, beginnings)?;
-    intake.begin(rt, boxed)?;
-    Ok((node, jobs))
+    match node_with::<J, R, X, P>(rt, name, beginnings, &floors) {
+        Ok((node, jobs)) => {
+            intake.begin(rt, boxed)?;
+            Ok((node, jobs))
+        }
+        Err(fault) => {
+            drop(intake);
+            Err(fault)
+        }
+    }
 }
 
-// A node of that name, in which the floors are put, and its passes.
-fn node_with<'a, J, R>(
+// A node of that name, in which the floors are put, and a job for each of its passes.
+fn node_with<'a, J, R, X, P>(
     rt: &'a R,
     name: Unnamed,
+    beginnings: Vec<(WorkerConfig<X>, P)>,
     floors: &[Change],
-) -> Result<(SharedNode<J, &'a R>, Vec<Pass<J>>), ServeFault>
+) -> Result<(SharedNode<J, &'a R>, Vec<Job<J, X, P>>), ServeFault>
 where
     J: Naming,
     R: Wait + Clock + Eprint + AllocGlobal + Drop,
+    X: Attachment,
+    P: Port,
     requires { IsNamed J.book J.name J.parts name }
 {
     let (node, mut passes) = SharedNode::<J, &R>::new(rt.alloc(), rt, name)?;
     if let Some(pass) = passes.first_mut() {
         put_floors(rt, &node, pass, floors)?;
     }
-    Ok((node, passes))
+    let jobs = jobs_of(rt.alloc(), passes, beginnings)?;
+    Ok((node, jobs))
 }
 
 // A job for each pass, in their order.

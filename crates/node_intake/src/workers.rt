@@ -75,9 +75,7 @@ fn setups_of<R: Net + AllocGlobal>(rt: &R, count: usize) -> Result<Vec<WorkerSet
     let mut setups = Vec::new(rt.alloc());
     for _ in 0..count {
         let setup = setup_of(rt)?;
-        if setups.push(setup).is_err() {
-            return Err(ServeFault::NoMemory);
-        }
+        setups.push(setup).map_err(AllocError::from)?;
     }
     Ok(setups)
 }
@@ -213,9 +211,9 @@ impl<R: Net + Wait + Clock + Eprint + AllocGlobal + Copy + Drop, X: Attachment> 
         let lobby = self.add_intake(rt.alloc(), mailbox, entrance)?;
         let port = port_of(rt, addresses, mailboxes, inbox)?;
         let worker_config = worker_config_of(rt.alloc(), config, incarnation, lobby)?;
-        if self.beginnings.push((worker_config, port)).is_err() {
-            return Err(ServeFault::NoMemory);
-        }
+        self.beginnings
+            .push((worker_config, port))
+            .map_err(AllocError::from)?;
         Ok(())
     }
 
@@ -228,9 +226,7 @@ impl<R: Net + Wait + Clock + Eprint + AllocGlobal + Copy + Drop, X: Attachment> 
     ) -> Result<Lobby<X>, ServeFault> {
         let (arrivals, lobby) = lobby_of(alloc, &self.places)?;
         let intake = WorkerIntake::new(mailbox, entrance, arrivals);
-        if self.intakes.push(intake).is_err() {
-            return Err(ServeFault::NoMemory);
-        }
+        self.intakes.push(intake).map_err(AllocError::from)?;
         Ok(lobby)
     }
 }

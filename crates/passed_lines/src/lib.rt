@@ -7,7 +7,8 @@
 //! such a session put, and a [`NetworkEntry`] how one stands.
 //!
 //! A [`SaidLine`], a [`LiveMessage`], a [`NetworkEntry`] and a [`PassedLine`] are these on their way to another worker, which
-//! gets them as [`Mail`]. The crate stands on `upstream_session`, `client_session` and `worker_io`. Read [`NetworkSession`] first.
+//! gets them as [`Mail`]. What all other workers are to know is [`News`] ([`mail_others`]). The crate stands on
+//! `upstream_session`, `client_session` and `worker_io`. Read [`NetworkSession`] first.
 #![tactic(auto)]
 
 mod effects;
@@ -15,6 +16,7 @@ mod entry;
 pub mod laws;
 mod live;
 mod mail;
+mod news;
 mod passed;
 mod said;
 mod session;
@@ -23,6 +25,7 @@ pub use effects::{Deed, ServerEffects, ServerPut};
 pub use entry::NetworkEntry;
 pub use live::{Live, LiveMessage};
 pub use mail::Mail;
+pub use news::{News, is_another_behind, keep_entry, mail_line, mail_others, mail_said};
 pub use passed::{Passed, PassedLine};
 pub use said::{Said, SaidLine};
 pub use session::{NetworkSession, SayFault};

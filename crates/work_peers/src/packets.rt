@@ -71,6 +71,7 @@ impl<C: Connection> Peers<C> {
             self.note_lives(context, number, *place, arrived, outcome);
             self.note_supply(context, number, *place, arrived, outcome);
         }
+        drop(message);
     }
 
     /// Makes the next packet of what the source holds for the peer of that connection, where one is due. It waits for the

@@ -29,8 +29,13 @@ fn new_session(
         return Err(NoMemory);
     };
     let session = NetworkSession::new(view.alloc, config, node, me.incarnation(), serial)?;
-    let opening = session.start(view.alloc)?;
-    Ok((session, opening))
+    match session.start(view.alloc) {
+        Ok(opening) => Ok((session, opening)),
+        Err(NoMemory) => {
+            drop(session);
+            Err(NoMemory)
+        }
+    }
 }
 
 // The words by which the server refused the session, if it did.
@@ -98,8 +103,14 @@ impl<C: Connection> Servers<C> {
         ensures { IfOk result (λ begun. Begins begun.0 begun.1) }
     {
         let (session, opening) = new_session(view, network, self.serial_of(network))?;
-        let entry = session.entry_now(view.alloc)?;
-        Ok((session, opening, entry))
+        match session.entry_now(view.alloc) {
+            Ok(entry) => Ok((session, opening, entry)),
+            Err(NoMemory) => {
+                drop(session);
+                drop(opening);
+                Err(NoMemory)
+            }
+        }
     }
 
     // Takes up the network's session over a connection: what it begins with. For want of memory the connection comes back.
@@ -130,7 +141,7 @@ impl<C: Connection> Servers<C> {
         number: usize,
         network: usize,
     ) -> Option<ServerEffects> {
-        let _ = self.close(context, number, Reason::Closed);
+        drop(self.close(context, number, Reason::Closed));
         let Some(connection) = context.port.open(number) else {
             self.retry(context, network);
             return None;
@@ -184,6 +195,7 @@ impl<C: Connection> Servers<C> {
         context.port.close(connection);
         context.timers.clear(Timer::QuietUpstream(number));
         put_off(context, network, reason, words_of(&session));
+        drop(session);
         let entry = entry.into_down(context.view.alloc);
         Some(Standing { network, entry })
     }

@@ -125,7 +125,9 @@ impl<C: Connection> Dialogue<C> {
 
     /// The connection alone. What is owed is let go.
     pub(crate) fn into_connection(self) -> C {
-        self.queue.into_connection()
+        let (connection, session) = self.into_parts();
+        drop(session);
+        connection
     }
 
     /// The connection, and the session that ends with it. What is owed is let go.

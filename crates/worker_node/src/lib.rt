@@ -2,15 +2,18 @@
 //!
 //! A worker puts by right (`specs/Putting.antt`): a marker that a registered session of a client puts
 //! ([`put_of_client`]), what the session with a network's server puts ([`put_of_server`]), floors that are due by the worker's
-//! clock ([`put_due_floors`]), or nothing, so that what waits is published ([`publish_waiting`]). Beside that the node takes
-//! only what a peer sent that had greeted this node. The right is the condition of [`Node::put`], the one call by which a worker
-//! puts.
+//! clock ([`put_floors`]), or nothing, so that what waits is published ([`publish_now`]). Beside that the node takes only what a
+//! peer sent that had greeted this node. The right is the condition of [`Node::put`], the one call by which a worker puts.
 #![tactic(auto)]
 
+mod due;
 mod marks;
 mod node;
 mod putting;
+mod taking;
 
+pub use due::{publish_later, publish_now, put_floors};
 pub use marks::{MarkAhead, marks_ahead};
 pub use node::{GatedNode, Node};
-pub use putting::{DueFloors, publish_waiting, put_due_floors, put_of_client, put_of_server};
+pub use putting::{put_of_client, put_of_server};
+pub use taking::take_into;

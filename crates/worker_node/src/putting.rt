@@ -14,10 +14,10 @@ use worker_io::NodeView;
 /// Floors that were due, and all are at one moment: how many of them the node has now. Where they wait to be published they
 /// count too.
 #[derive(Clone, Copy)]
-pub struct DueFloors {
-    pub count: usize,
-    pub at: Moment,
-    pub is_waiting: bool,
+pub(crate) struct DueFloors {
+    pub(crate) count: usize,
+    pub(crate) at: Moment,
+    pub(crate) is_waiting: bool,
 }
 
 /// Puts what the session of a client puts, once, and answers what that is.
@@ -40,12 +40,12 @@ pub fn put_of_server<N: Node>(
 }
 
 /// Publishes what waits. Refused where it goes on waiting.
-pub fn publish_waiting<N: Node>(node: &mut N, view: &NodeView) -> Result<(), PutFault> {
+pub(crate) fn publish_waiting<N: Node>(node: &mut N, view: &NodeView) -> Result<(), PutFault> {
     node.put(view, &[])
 }
 
 /// Puts the floors that are due. None where there are none, or they couldn't be read.
-pub fn put_due_floors<N: Node>(node: &mut N, view: &NodeView) -> Option<DueFloors> {
+pub(crate) fn put_due_floors<N: Node>(node: &mut N, view: &NodeView) -> Option<DueFloors> {
     let Ok(floors) = due_floors(node, view) else {
         return None;
     };

@@ -1,19 +1,20 @@
 //! What a worker puts when it is due. What only waits to be published is tried again a second later.
+use crate::node::Node;
+use crate::putting::{publish_waiting, put_due_floors};
 use bnc_ports::{Event, Port};
 use shared_node::PutFault;
 use worker_io::{BETWEEN_LOOKS, ClockWatch, Context, Timer};
-use worker_node::{Node, publish_waiting, put_due_floors};
 
 /// What waits to be published is tried again after so many milliseconds.
 const SECOND: u64 = 1000;
 
 /// Tries a second later to publish what waits.
-pub(crate) fn publish_later<P: Port>(context: &mut Context<P>) {
+pub fn publish_later<P: Port>(context: &mut Context<P>) {
     context.set_timer(Timer::Publish, SECOND);
 }
 
 /// Publishes what waits, or tries that again a second later. True where the peers are to have it now.
-pub(crate) fn publish_now<N: Node, P: Port>(node: &mut N, context: &mut Context<P>) -> bool {
+pub fn publish_now<N: Node, P: Port>(node: &mut N, context: &mut Context<P>) -> bool {
     match publish_waiting(node, &context.view) {
         Ok(()) => return true,
         Err(PutFault::Waiting) => publish_later(context),
@@ -25,7 +26,7 @@ pub(crate) fn publish_now<N: Node, P: Port>(node: &mut N, context: &mut Context<
 /// Puts the floors that are due, tells the operator, and looks again in an hour: what is older than the node keeps messages is let
 /// go. A floor can't be taken back: where the clock leapt since the last look, none is put this time, and the operator is told
 /// that. True where something was put that the peers are to have.
-pub(crate) fn put_floors<N: Node, P: Port>(
+pub fn put_floors<N: Node, P: Port>(
     node: &mut N,
     context: &mut Context<P>,
     watch: &mut ClockWatch,

@@ -1,20 +1,24 @@
 //! What a worker tells other workers.
-use bnc_ports::Port;
+use crate::entry::NetworkEntry;
+use crate::live::{Live, LiveMessage};
+use crate::mail::Mail;
+use crate::passed::{Passed, PassedLine};
+use crate::said::{Said, SaidLine};
+use bnc_ports::{Happening, Port};
 use byte_text::{NoMemory, Text};
-use passed_lines::{Live, LiveMessage, Mail, Passed, PassedLine, Said, SaidLine};
 use std::alloc::Global;
-use work_servers::Standing;
-use worker_io::Context;
+use worker_io::{Context, NodeView};
 
 /// A worker that has more mail before it than this is behind.
 const MOST_MAIL: usize = 1024;
 
 /// What a worker tells all others. Networks are those of the configuration, counted from 0.
 #[derive(Clone, Copy)]
-pub(crate) enum News<'a> {
+pub enum News<'a> {
     /// How the session with a network's server stands now, and whether a line that says so is passed on.
     Entry {
-        standing: &'a Standing,
+        network: usize,
+        entry: &'a NetworkEntry,
         is_passed_on: bool,
     },
     /// A message as it comes from the network's server.
@@ -38,12 +42,13 @@ pub(crate) enum News<'a> {
 fn mail_of(alloc: Global, news: &News<'_>) -> Result<Mail, NoMemory> {
     match news {
         News::Entry {
-            standing,
+            network,
+            entry,
             is_passed_on,
         } => {
-            let entry = standing.entry.try_clone(alloc)?;
+            let entry = entry.try_clone(alloc)?;
             Ok(Mail::Entry {
-                network: standing.network,
+                network: *network,
                 entry,
                 is_passed_on: *is_passed_on,
             })
@@ -67,7 +72,7 @@ fn mail_of(alloc: Global, news: &News<'_>) -> Result<Mail, NoMemory> {
 }
 
 /// The other workers are told. One for whose mail there is no memory is left out.
-pub(crate) fn mail_others<P: Port<Mail = Mail>>(context: &mut Context<P>, news: &News<'_>) {
+pub fn mail_others<P: Port<Mail = Mail>>(context: &mut Context<P>, news: &News<'_>) {
     for worker in 0..context.view.workers {
         if worker != context.view.worker {
             if let Ok(mail) = mail_of(context.view.alloc, news) {
@@ -78,7 +83,7 @@ pub(crate) fn mail_others<P: Port<Mail = Mail>>(context: &mut Context<P>, news: 
 }
 
 /// The other workers are told a line that is passed on, which they share.
-pub(crate) fn mail_line<P: Port<Mail = Mail>>(
+pub fn mail_line<P: Port<Mail = Mail>>(
     context: &mut Context<P>,
     network: usize,
     passed: &Passed<'_>,
@@ -101,7 +106,7 @@ pub(crate) fn mail_line<P: Port<Mail = Mail>>(
 }
 
 /// The worker that serves the network is told a client's line for its server.
-pub(crate) fn mail_said<P: Port<Mail = Mail>>(
+pub fn mail_said<P: Port<Mail = Mail>>(
     context: &mut Context<P>,
     worker: usize,
     network: usize,
@@ -114,7 +119,7 @@ pub(crate) fn mail_said<P: Port<Mail = Mail>>(
 
 /// Whether another worker is behind with its mail. That grows by what servers say, so their lines wait then: nothing of it is
 /// dropped, and each worker goes on reading its own.
-pub(crate) fn is_another_behind<P: Port>(context: &Context<P>) -> bool {
+pub fn is_another_behind<P: Port>(context: &Context<P>) -> bool {
     let view = &context.view;
     for worker in 0..view.workers {
         if worker != view.worker && context.port.backlog(worker) > MOST_MAIL {
@@ -122,4 +127,11 @@ pub(crate) fn is_another_behind<P: Port>(context: &Context<P>) -> bool {
         }
     }
     false
+}
+
+/// Keeps how the session with a network's server stands, where mail says that.
+pub fn keep_entry(view: &mut NodeView, happening: Happening<Mail>) {
+    if let Happening::Mail(Mail::Entry { network, entry, .. }) = happening {
+        view.set_entry(network, entry.entry);
+    }
 }
