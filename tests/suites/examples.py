@@ -335,7 +335,7 @@ def the_command_of_the_kit_is_needed_to_build(fixture):
 @test
 def the_plan_proves_each_crate_after_those_below(fixture):
     """`./build --plan`: each crate that the program stands on, and no crate of tests, begins once those that it names have
-    ended; and never are there more processes at once than processors."""
+    ended; and never are there more proofs at once than processors, nor has one more processes than these."""
     ran = subprocess.run([os.path.join(TOP, "build"), "--plan"], capture_output=True, text=True, check=True,
                          timeout=fixture.patience())
     *rows, last = ran.stdout.splitlines()
@@ -357,7 +357,9 @@ def the_plan_proves_each_crate_after_those_below(fixture):
             if ends.get(below, 0) > float(begin) + 0.1:
                 raise Failed(f"{name} begins at {begin}, and {below} ends at {ends[below]}")
     lanes = int(re.fullmatch(r"[0-9]+ minutes on ([0-9]+) processors of the table's machine", last)[1])
-    for at, _, _, _ in runs:
-        most = sum(int(processes) for begin, end, processes, _ in runs if float(begin) <= float(at) < float(end))
+    for at, _, processes, name in runs:
+        most = sum(float(begin) <= float(at) < float(end) for begin, end, _, _ in runs)
         if most > lanes:
-            raise Failed(f"at {at} there are {most} processes on {lanes} processors")
+            raise Failed(f"at {at} there are {most} proofs on {lanes} processors")
+        if int(processes) > lanes:
+            raise Failed(f"{name} has {processes} processes on {lanes} processors")
