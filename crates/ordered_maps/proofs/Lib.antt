@@ -1,2 +1,11 @@
 mod MapViewLemmas
+mod ElementLemmas
+mod PageLemmas
+mod SplitLemmas
+mod LookupLemmas
+mod SearchLemmas
+mod ChangeLemmas
 pub mod CallerLemmas
+mod PartLemmas
+mod EntriesLemmas
+mod CloneLemmas

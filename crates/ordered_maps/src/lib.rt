@@ -1,10 +1,15 @@
-//! Changes of ordered maps: each takes effect whole, or leaves the map as it was and says so.
+//! Ordered maps: each change takes effect whole, or leaves the map as it was and says so.
 //!
-//! `std`'s map hands back what it could not put in. These calls drop it, so that a caller reads one answer: [`put`] and
-//! [`exchange`] may be refused for want of memory, [`take_out`] and [`overwrite`] take none. Contracts say which map comes
-//! of it by `IsWith` and `IsWithout`. It stands on `std` alone. Read [`put`] first.
+//! A [`PackedMap`] keeps its entries in pages that are full where keys come in order, and is seen as the list of its entries. std's map
+//! leaves its blocks half full then, and hands back what it could not put in; [`put`] and [`exchange`] drop that, so that a
+//! caller reads one answer. Either may be refused for want of memory, and then nothing has changed; what takes an entry out or
+//! writes over one takes none. Contracts say which entries come of a change by `IsWith` and `IsWithout`. It stands on `std`
+//! alone. Read [`PackedMap::put`] first.
 #![tactic(auto)]
 
 mod growth;
+mod packed_map;
+mod page;
 
-pub use growth::{exchange, overwrite, put, take_out};
+pub use growth::{exchange, put};
+pub use packed_map::{PackedEntries, PackedMap};

@@ -1,0 +1,161 @@
+//! Edits of pages at a place: one page is changed, begun, split or taken out.
+
+ghost use Rattle.std.specs.Prelude.{◌≡◌, ◌≤◌, ◌<◌, ◌++◌, ◌∷◌, [], None, false, length, IsTrue, OnOk, OnErr};
+ghost use Rattle.std.specs.List.{insert};
+ghost use Rattle.std.specs.Option.{option_to_list};
+ghost use Rattle.ordered_maps.specs.Pages.{entries_of, page_at, AreFilled};
+ghost use Rattle.ordered_maps.specs.Places.{IsPlace, IsEntryPlace, before, past, AreFilledBut, ChangesEntry, entered, split_at};
+
+use super::search::Place;
+use crate::page::{PAGE, Page};
+use std::alloc::{AllocError, Global};
+use std::collections::VecDeque;
+
+// How many entries stay in a full page that is split.
+const HALF: usize = PAGE / 2;
+
+/// Writes a value over the one of the entry at a place, and answers what stood there.
+pub(crate) fn write<K: Drop, V: Drop>(pages: &mut VecDeque<Page<K, V>>, place: Place, value: V) -> V
+    requires at { IsEntryPlace pages.old.items place }
+    requires filled { AreFilled pages.old.items }
+    ensures written { ChangesEntry pages.old.items place value result pages.new.items }
+    ensures filled { AreFilled pages.new.items }
+{
+    pages[place.page].write(place.index, value)
+}
+
+/// Takes the entry at a place out. It takes no memory.
+pub(crate) fn take_out<K: Drop, V: Drop>(pages: &mut VecDeque<Page<K, V>>, place: Place)
+    requires at { IsEntryPlace pages.old.items place }
+    requires filled { AreFilled pages.old.items }
+    ensures out { entries_of pages.new.items
+        ≡ before pages.old.items place ++ past pages.old.items place }
+    ensures filled { AreFilled pages.new.items }
+{
+    pages[place.page].remove(place.index);
+    drop_if_empty(pages, place.page);
+}
+
+/// Takes the last entry out. It takes no memory.
+pub(crate) fn take_last<K: Drop, V: Drop>(pages: &mut VecDeque<Page<K, V>>) -> Option<(K, V)>
+    requires filled { AreFilled pages.old.items }
+    ensures out { entries_of pages.old.items ≡ entries_of pages.new.items ++ option_to_list result }
+    ensures none { result ≡ None → entries_of pages.old.items ≡ [] }
+    ensures filled { AreFilled pages.new.items }
+{
+    let last = pages.len().checked_sub(1)?;
+    let entry = pages[last].pop();
+    drop_if_empty(pages, last);
+    entry
+}
+
+// Takes a page out where it is empty.
+fn drop_if_empty<K: Drop, V: Drop>(pages: &mut VecDeque<Page<K, V>>, page: usize)
+    requires within { page < length pages.old.items }
+    requires others { AreFilledBut pages.old.items page }
+    ensures same { entries_of pages.new.items ≡ entries_of pages.old.items }
+    ensures filled { AreFilled pages.new.items }
+{
+    if pages[page].len() == 0 {
+        let _ = pages.remove(page);
+    }
+}
+
+/// Puts an entry at a place. Where there is no memory the entries stay as they were.
+pub(crate) fn enter<K: Drop, V: Drop>(
+    pages: &mut VecDeque<Page<K, V>>,
+    alloc: Global,
+    place: Place,
+    entry: (K, V),
+) -> bool
+    requires at { IsPlace pages.old.items place }
+    requires filled { AreFilled pages.old.items }
+    ensures entered { entries_of pages.new.items ≡ entered pages.old.items place entry result }
+    ensures filled { AreFilled pages.new.items }
+{
+    if place.page == pages.len() {
+        return begin(pages, alloc, place.page, entry);
+    }
+    let len = pages[place.page].len();
+    if len < PAGE {
+        return put_in(pages, place, entry);
+    }
+    if place.page == 0 && place.index == 0 {
+        return begin(pages, alloc, 0, entry);
+    }
+    if place.page + 1 == pages.len() && place.index == len {
+        return begin(pages, alloc, pages.len(), entry);
+    }
+    enter_in_full(pages, place, entry)
+}
+
+// Splits a full page and puts an entry in one of the halves.
+fn enter_in_full<K: Drop, V: Drop>(
+    pages: &mut VecDeque<Page<K, V>>,
+    place: Place,
+    entry: (K, V),
+) -> bool
+    requires at { IsPlace pages.old.items place }
+    requires within { place.page < length pages.old.items }
+    requires full { PAGE ≤ length (page_at pages.old.items place.page) }
+    requires filled { AreFilled pages.old.items }
+    ensures entered { entries_of pages.new.items ≡ entered pages.old.items place entry result }
+    ensures filled { AreFilled pages.new.items }
+{
+    if split(pages, place.page).is_err() {
+        return false;
+    }
+    if place.index <= HALF {
+        return put_in(pages, place, entry);
+    }
+    let place = Place {
+        page: place.page + 1,
+        index: place.index - HALF,
+    };
+    put_in(pages, place, entry)
+}
+
+// Puts an entry in the page of a place.
+fn put_in<K: Drop, V: Drop>(pages: &mut VecDeque<Page<K, V>>, place: Place, entry: (K, V)) -> bool
+    requires at { IsPlace pages.old.items place }
+    requires within { place.page < length pages.old.items }
+    requires filled { AreFilled pages.old.items }
+    ensures entered { entries_of pages.new.items ≡ entered pages.old.items place entry result }
+    ensures filled { AreFilled pages.new.items }
+{
+    pages[place.page].insert(place.index, entry)
+}
+
+// Begins a page before those from an index on. The first page of all grows with its entries, and another has its room at once.
+fn begin<K: Drop, V: Drop>(
+    pages: &mut VecDeque<Page<K, V>>,
+    alloc: Global,
+    page: usize,
+    entry: (K, V),
+) -> bool
+    requires within { page ≤ length pages.old.items }
+    requires filled { AreFilled pages.old.items }
+    ensures begun { IsTrue result → pages.new.items ≡ insert pages.old.items page (entry ∷ []) }
+    ensures refused { result ≡ false → pages.new.items ≡ pages.old.items }
+{
+    let room = if pages.is_empty() { 0 } else { PAGE };
+    match Page::begin(alloc, room, entry) {
+        Ok(begun) => pages.insert(page, begun).is_ok(),
+        Err(_) => false,
+    }
+}
+
+// Splits a full page in halves. Where there is no memory it stays whole.
+fn split<K: Drop, V: Drop>(pages: &mut VecDeque<Page<K, V>>, page: usize) -> Result<(), AllocError>
+    requires within { page < length pages.old.items }
+    requires full { PAGE ≤ length (page_at pages.old.items page) }
+    ensures split { OnOk result (pages.new.items ≡ split_at pages.old.items page HALF) }
+    ensures refused { OnErr result (pages.new.items ≡ pages.old.items) }
+{
+    pages.reserve(1)?;
+    let half = pages[page].split_off(HALF)?;
+    match pages.insert(page + 1, half) {
+        Ok(()) => Ok(()),
+        Err(_) => unreachable!(),
+    }
+}
