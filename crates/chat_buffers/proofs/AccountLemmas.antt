@@ -63,7 +63,7 @@ around_left f t a b (MessageOf d m) (Some h) is covered l =
     message_left (OfAccount a) d m (max f (held_floor h)) t (max t (held_floor h)) (finite.get h.messages m)
     (ap (is_covered (OfAccount a)) (one_buffer d b is) ∙ covered) (sym (same_max t f (held_floor h) l))
 
-module _ (ac new : Accounts) (bs : Tree) (a : List ℕ) (t n : ℕ) (up : IsWith text_cmp ac a (record { at = t; number = n }) new) (low : floor_moment (tree.get text_cmp ac a) ≤ t) where
+module _ (ac new : Accounts) (bs : Tree) (a : List ℕ) (t n : ℕ) (up : IsWith text_cmp ac.entries a (record { at = t; number = n }) new.entries) (low : floor_moment (tree.get text_cmp ac a) ≤ t) where
   abbrev set : Numbered
   set = record { number = n; change = AccountFloor a t }
 
@@ -117,12 +117,12 @@ floor_taken f u n h b was l (MessageOf d m) is =
 
 -- what is known of the floor that is taken out
 pub takes_floor : (ac : Accounts) (bs : Tree) (b : Buffer) (h : Held) → tree.get buffer_cmp bs b ≡ Some h → (u n f : ℕ) → h.floor ≡ Some (record { at = u; number = n }) → u ≤ f → f ≤ floor_around ac b
-    → (new : Tree) (o : Option Stamp) → o ≡ None → IsWith buffer_cmp bs b (record h { floor = o }) new → TakesFloor (seen ac bs) b f n (seen ac new)
+    → (new : Tree) (o : Option Stamp) → o ≡ None → IsWith buffer_cmp bs.entries b (record h { floor = o }) new.entries → TakesFloor (seen ac bs) b f n (seen ac new)
 takes_floor ac bs b h has u n f was low reached new o none up = record {
   at = u;
   reached = low;
   was = has_here ac bs (seen ac bs) b (Some h) refl has (FloorOf (OfBuffer b)) refl ∙ ap (option_map (floor_piece (OfBuffer b))) was;
-  left = taken_store ac bs new b h (record h { floor = None }) (FloorOf (OfBuffer b)) refl has (subst (λ x. IsWith buffer_cmp bs b (record h { floor = x }) new) none up)
+  left = taken_store ac bs new b h (record h { floor = None }) (FloorOf (OfBuffer b)) refl has (subst (λ x. IsWith buffer_cmp bs.entries b (record h { floor = x }) new.entries) none up)
       (floor_taken (floor_around ac b) u n h b was (let l : u ≤ floor_around ac b = omega arith in l));
 }
 
@@ -249,7 +249,7 @@ module _ (ac : Accounts) (bs : Tree) (ordered : tree.IsOrdered buffer_cmp bs) (a
   held_here : (k : Key) (p : Numbered) (b : Buffer) → finite.get (seen ac bs) k ≡ Some p → key_extent k ≡ OfBuffer b → (h : Held) × Among (b, h) bs.entries
   held_here k p b e is =
       let here = something (tree.get buffer_cmp bs b) (λ none. cc (sym (has_here ac bs (seen ac bs) b None refl none k is) ∙ e)) in
-      (here.0, subst (Among (b, here.0)) (entries-from_ordered buffer_total bs.entries ordered) (got buffer_total buffer_exact (held_by bs) b here.0 (get-held_by buffer_total bs b ∙ here.1)))
+      (here.0, subst (Among (b, here.0)) (entries-from_ordered buffer_total bs.entries ordered) (got buffer_total buffer_exact (held_by bs.entries) b here.0 (get-held_by buffer_total bs.entries b ∙ here.1)))
 
   pub all_taken : (found : List Buffer) → found ≡ map (λ (e : Buffer × Held). e.0) (taken_below ++ taken_from) → AreBuffersOf (seen ac bs) a found
   all_taken found taken k p b e is at =

@@ -5,7 +5,6 @@ use Rattle.std.proofs.lemmas.Option.{same_Some}
 use Rattle.std.specs.Ordering.{eq_by_cmp, is_eq}
 use Rattle.std.specs.Option.{IfSome, option_map}
 use Rattle.std.specs.Cmp.{Equal-is}
-use Rattle.std.specs.BTreeMap as tree
 use Rattle.std.proofs.lemmas.Cmp.{tied_itself}
 use Rattle.irc_time.specs.Time.{greatest}
 use Rattle.chat_change.specs.Record.{Record}
@@ -14,7 +13,7 @@ use Rattle.chat_change.proofs.CallerLemmas.{id_total, id_exact}
 use Rattle.chat_history.specs.Choice.{keep}
 use Rattle.chat_history.specs.Cut.{latest_first, latest_first_total, of_record}
 use Rattle.chat_history.specs.declared.cut.Spot.{Spot}
-use Rattle.ordered_maps.specs.MapView.{IsSetTo}
+use Rattle.ordered_maps.specs.MapView.{get, IsSetTo}
 use Rattle.chat_buffers.specs.declared.held_message.HeldMessage.{HeldMessage}
 use Rattle.chat_buffers.specs.Messages.{kept_in, kept_moment}
 use Rattle.chat_buffers.specs.Agreement.{BySpot, ById, place, record_at, Agree}
@@ -48,22 +47,22 @@ some_apart id i e is = let j : i ≡ id = same_Some i id is in false≢true (sym
 -- ---- the maps after a change at one message
 
 module _ (files new : BySpot) (ids jds : ById) (id : List ℕ) (o : Option HeldMessage)
-    (elsewhere : (q : Spot) → (q.id ≡ Some id → ⊥) → tree.get latest_first new q ≡ tree.get latest_first files q)
-    (here : (t : ℕ) → tree.get latest_first new (place t id) ≡ record_at t o)
+    (elsewhere : (q : Spot) → (q.id ≡ Some id → ⊥) → get latest_first new q ≡ get latest_first files q)
+    (here : (t : ℕ) → get latest_first new (place t id) ≡ record_at t o)
     (bears : IfSome (kept_in o) (λ r. (r.id ≡ id) × (r.at ≤ greatest)))
     (stands : IsSetTo id_cmp ids id o jds) where
-  same_in : Agree files ids → (t : ℕ) (m : List ℕ) → tree.get latest_first new (place t m) ≡ record_at t (tree.get id_cmp jds m)
+  same_in : Agree files ids → (t : ℕ) (m : List ℕ) → get latest_first new (place t m) ≡ record_at t (get id_cmp jds m)
   same_in a t m =
-      elim (same_id id m) as (λ b. same_id id m ≡ b → tree.get latest_first new (place t m) ≡ record_at t (cond b o (tree.get id_cmp ids m))) [
-        | true ↦ λ e. subst (λ i. tree.get latest_first new (place t i) ≡ record_at t o) (same_id_is id m e) (here t)
+      elim (same_id id m) as (λ b. same_id id m ≡ b → get latest_first new (place t m) ≡ record_at t (cond b o (get id_cmp ids m))) [
+        | true ↦ λ e. subst (λ i. get latest_first new (place t i) ≡ record_at t o) (same_id_is id m e) (here t)
         | false ↦ λ e. elsewhere (place t m) (some_apart id m e) ∙ a.same t m
       ] refl
       ∙ ap (record_at t) (sym (stands m))
 
-  bears_in : Agree files ids → (m : List ℕ) → IfSome (kept_in (tree.get id_cmp jds m)) (λ r. (r.id ≡ m) × (r.at ≤ greatest))
+  bears_in : Agree files ids → (m : List ℕ) → IfSome (kept_in (get id_cmp jds m)) (λ r. (r.id ≡ m) × (r.at ≤ greatest))
   bears_in a m =
       subst (λ x. IfSome (kept_in x) (λ r. (r.id ≡ m) × (r.at ≤ greatest))) (sym (stands m))
-      (elim (same_id id m) as (λ b. same_id id m ≡ b → IfSome (kept_in (cond b o (tree.get id_cmp ids m))) (λ r. (r.id ≡ m) × (r.at ≤ greatest))) [
+      (elim (same_id id m) as (λ b. same_id id m ≡ b → IfSome (kept_in (cond b o (get id_cmp ids m))) (λ r. (r.id ≡ m) × (r.at ≤ greatest))) [
         | true ↦ λ e. subst (λ i. IfSome (kept_in o) (λ r. (r.id ≡ i) × (r.at ≤ greatest))) (same_id_is id m e) bears
         | false ↦ λ _. a.bears m
       ] refl)
@@ -77,7 +76,7 @@ module _ (files new : BySpot) (ids jds : ById) (id : List ℕ) (o : Option HeldM
 
 -- ---- the maps where nothing has changed
 
-pub agree_alike : (files new : BySpot) (ids jds : ById) → ((q : Spot) → tree.get latest_first new q ≡ tree.get latest_first files q) → ((m : List ℕ) → tree.get id_cmp jds m ≡ tree.get id_cmp ids m) → Agree files ids → Agree new jds
+pub agree_alike : (files new : BySpot) (ids jds : ById) → ((q : Spot) → get latest_first new q ≡ get latest_first files q) → ((m : List ℕ) → get id_cmp jds m ≡ get id_cmp ids m) → Agree files ids → Agree new jds
 agree_alike files new ids jds e f a = record {
   none = λ t. e (record { at = t; id = None }) ∙ a.none t;
   same = λ t m. e (place t m) ∙ a.same t m ∙ ap (record_at t) (sym (f m));
@@ -98,11 +97,11 @@ elsewhere_none t u None e f = cc e
 elsewhere_none t u (Some r) e f = let is : r.at ≡ u = same_Some r.at u e in ap (λ b. cond b (Some r) None) (ap (nat_eq t) is ∙ f)
 
 module _ (files : BySpot) (ids : ById) (a : Agree files ids) (id : List ℕ) where
-  pub unkept_none : kept_moment (tree.get id_cmp ids id) ≡ None → (t : ℕ) → tree.get latest_first files (place t id) ≡ None
-  unkept_none e t = a.same t id ∙ no_record t (kept_in (tree.get id_cmp ids id)) e
+  pub unkept_none : kept_moment (get id_cmp ids id) ≡ None → (t : ℕ) → get latest_first files (place t id) ≡ None
+  unkept_none e t = a.same t id ∙ no_record t (kept_in (get id_cmp ids id)) e
 
-  pub kept_elsewhere : (u : ℕ) → kept_moment (tree.get id_cmp ids id) ≡ Some u → (t : ℕ) → nat_eq t u ≡ false → tree.get latest_first files (place t id) ≡ None
-  kept_elsewhere u e t f = a.same t id ∙ elsewhere_none t u (kept_in (tree.get id_cmp ids id)) e f
+  pub kept_elsewhere : (u : ℕ) → kept_moment (get id_cmp ids id) ≡ Some u → (t : ℕ) → nat_eq t u ≡ false → get latest_first files (place t id) ≡ None
+  kept_elsewhere u e t f = a.same t id ∙ elsewhere_none t u (kept_in (get id_cmp ids id)) e f
 
 -- ---- the message of a record that stands somewhere
 
@@ -114,32 +113,32 @@ kept_here t r (Some s) e =
       | false ↦ λ g f. cc f
     ] refl e
 
-module _ (files : BySpot) (ids : ById) (a : Agree files ids) (k : Spot) (r : Record) (is : tree.get latest_first files k ≡ Some r) where
-  with_id : (o : Option (List ℕ)) → k.id ≡ o → (k ≡ of_record r) × (kept_in (tree.get id_cmp ids r.id) ≡ Some r)
+module _ (files : BySpot) (ids : ById) (a : Agree files ids) (k : Spot) (r : Record) (is : get latest_first files k ≡ Some r) where
+  with_id : (o : Option (List ℕ)) → k.id ≡ o → (k ≡ of_record r) × (kept_in (get id_cmp ids r.id) ≡ Some r)
   with_id None e =
-      let none : tree.get latest_first files k ≡ None = (λ i. tree.get latest_first files (record { at = k.at; id = e i })) ∙ a.none k.at in
+      let none : get latest_first files k ≡ None = (λ i. get latest_first files (record { at = k.at; id = e i })) ∙ a.none k.at in
       cc (none, is)
   with_id (Some m) e =
-      let there : tree.get latest_first files (place k.at m) ≡ Some r = (λ i. tree.get latest_first files (record { at = k.at; id = sym e i })) ∙ is in
-      let both = kept_here k.at r (kept_in (tree.get id_cmp ids m)) (sym (a.same k.at m) ∙ there) in
+      let there : get latest_first files (place k.at m) ≡ Some r = (λ i. get latest_first files (record { at = k.at; id = sym e i })) ∙ is in
+      let both = kept_here k.at r (kept_in (get id_cmp ids m)) (sym (a.same k.at m) ∙ there) in
       let bears = subst (λ o. IfSome o (λ x. (x.id ≡ m) × (x.at ≤ greatest))) both.0 (a.bears m) in (
         (λ i. record { at = sym both.1 i; id = (e ∙ ap Some (sym bears.0)) i }),
-        ap (λ x. kept_in (tree.get id_cmp ids x)) bears.0 ∙ both.0,
+        ap (λ x. kept_in (get id_cmp ids x)) bears.0 ∙ both.0,
       )
 
   pub its_place : k ≡ of_record r
   its_place = (with_id k.id refl).0
 
-  pub its_message : kept_in (tree.get id_cmp ids r.id) ≡ Some r
+  pub its_message : kept_in (get id_cmp ids r.id) ≡ Some r
   its_message = (with_id k.id refl).1
 
 -- a kept record stands where it is filed
-pub kept_stands : (files : BySpot) (ids : ById) → Agree files ids → (m : List ℕ) (r : Record) → kept_in (tree.get id_cmp ids m) ≡ Some r → (r.id ≡ m) × (tree.get latest_first files (of_record r) ≡ Some r)
+pub kept_stands : (files : BySpot) (ids : ById) → Agree files ids → (m : List ℕ) (r : Record) → kept_in (get id_cmp ids m) ≡ Some r → (r.id ≡ m) × (get latest_first files (of_record r) ≡ Some r)
 kept_stands files ids a m r e =
     let bears = subst (λ o. IfSome o (λ x. (x.id ≡ m) × (x.at ≤ greatest))) e (a.bears m) in
-    (bears.0, ap (λ i. tree.get latest_first files (place r.at i)) bears.0 ∙ a.same r.at m ∙ ap (keep (λ (x : Record). nat_eq r.at x.at)) e ∙ ap (λ b. cond b (Some r) None) (itself r.at))
+    (bears.0, ap (λ i. get latest_first files (place r.at i)) bears.0 ∙ a.same r.at m ∙ ap (keep (λ (x : Record). nat_eq r.at x.at)) e ∙ ap (λ b. cond b (Some r) None) (itself r.at))
 
-pub kept_small : (files : BySpot) (ids : ById) → Agree files ids → (m : List ℕ) (r : Record) → kept_in (tree.get id_cmp ids m) ≡ Some r → r.at ≤ greatest
+pub kept_small : (files : BySpot) (ids : ById) → Agree files ids → (m : List ℕ) (r : Record) → kept_in (get id_cmp ids m) ≡ Some r → r.at ≤ greatest
 kept_small files ids a m r e = (subst (λ o. IfSome o (λ x. (x.id ≡ m) × (x.at ≤ greatest))) e (a.bears m)).1
 
 -- ---- two spots of one message
@@ -165,8 +164,8 @@ apart_spot k q id is n = not_same (eq_by_cmp latest_first k q) refl
 -- ---- changes of the map of records at places of one message
 
 module _ (m n : BySpot) (v : Option Record) where
-  pub set_elsewhere : (k : Spot) (id : List ℕ) → k.id ≡ Some id → IsSetTo latest_first m k v n → (q : Spot) → (q.id ≡ Some id → ⊥) → tree.get latest_first n q ≡ tree.get latest_first m q
-  set_elsewhere k id is up q apart = up q ∙ ap (λ b. cond b v (tree.get latest_first m q)) (apart_spot k q id is apart)
+  pub set_elsewhere : (k : Spot) (id : List ℕ) → k.id ≡ Some id → IsSetTo latest_first m k v n → (q : Spot) → (q.id ≡ Some id → ⊥) → get latest_first n q ≡ get latest_first m q
+  set_elsewhere k id is up q apart = up q ∙ ap (λ b. cond b v (get latest_first m q)) (apart_spot k q id is apart)
 
-  pub set_here : (u : ℕ) (id : List ℕ) → IsSetTo latest_first m (place u id) v n → (t : ℕ) → tree.get latest_first n (place t id) ≡ cond (nat_eq t u) v (tree.get latest_first m (place t id))
-  set_here u id up t = up (place t id) ∙ ap (λ b. cond b v (tree.get latest_first m (place t id))) (same_place u t id ∙ turned t u)
+  pub set_here : (u : ℕ) (id : List ℕ) → IsSetTo latest_first m (place u id) v n → (t : ℕ) → get latest_first n (place t id) ≡ cond (nat_eq t u) v (get latest_first m (place t id))
+  set_here u id up t = up (place t id) ∙ ap (λ b. cond b v (get latest_first m (place t id))) (same_place u t id ∙ turned t u)

@@ -1,5 +1,5 @@
 -- The kept records are those that are filed by where they stand; what a range of those has.
-use Rattle.std.proofs.Common.{◌≡◌, refl, sym, ◌∙◌, ap, subst, ℕ, ◌+◌, ◌<◌, ◌≤◌, List, [], ◌∷◌, length, reverse, Bool, true, false, cond, not, ◌&&◌, nat_le, nat_lt, Some, None, inl, inr, arith}
+use Rattle.std.proofs.Common.{◌≡◌, refl, sym, ◌∙◌, ap, subst, ℕ, ◌+◌, ◌<◌, ◌≤◌, List, [], ◌∷◌, reverse, Bool, true, false, cond, not, ◌&&◌, nat_le, nat_lt, Option, Some, None, inl, inr, arith}
 use Rattle.std.proofs.lemmas.Bool.{false≢true}
 use Rattle.std.proofs.lemmas.List.Kept.{IsStrictlySortedBy-filter}
 use Rattle.std.specs.declared.cmp.Ordering.{Ordering}
@@ -8,8 +8,7 @@ use Rattle.std.specs.Ordering.{ordering_then, nat_cmp, is_lt, is_le, is_gt, flip
 use Rattle.std.specs.Option.{is_some}
 use Rattle.std.specs.List.{filter, AllByRecursion}
 use Rattle.std.specs.List.Sorted.{IsStrictlySortedBy}
-use Rattle.std.specs.Map.{keys_of, values_of, lookup}
-use Rattle.std.specs.BTreeMap as tree
+use Rattle.std.specs.Map.{keys_of, values_of}
 use Rattle.std.specs.BTreeMap.Range.{is_from_start, is_past_end}
 use Rattle.std.specs.declared.ops.Bound.{Bound}
 use Rattle.std.specs.declared.ops.Bound.TheVariants.{Included, Excluded, Unbounded}
@@ -23,8 +22,10 @@ use Rattle.chat_history.specs.Visible.{by_spot}
 use Rattle.chat_history.specs.declared.cut.Spot.{Spot}
 use Rattle.chat_history.proofs.CallerLemmas.{among-filter, among_passing, valued, value_among, got, get_entry}
 use Rattle.chat_history.proofs.CallerLemmas.{sorted_reverse, among-reverse, reverse_among}
-use Rattle.ordered_maps.specs.MapView.{held_by}
+use Rattle.ordered_maps.specs.MapView.{held_by, get, AreOrdered}
+use Rattle.ordered_maps.specs.Ends.{IsLeast, IsGreatest}
 use Rattle.ordered_maps.proofs.CallerLemmas.{get-held_by, entries-from_ordered}
+use Rattle.chat_buffers.specs.RecordMap.{IsLatestIn}
 use Rattle.chat_buffers.specs.Messages.{Messages, kept_in}
 use Rattle.chat_buffers.specs.Kept.{IsKept, IsFirstKept, IsLatestKept, AreKept}
 use Rattle.chat_buffers.specs.Agreement.{BySpot, ById, Agree}
@@ -33,17 +34,14 @@ use Rattle.chat_buffers.proofs.AgreementLemmas.{its_place, its_message, kept_sta
 
 -- ---- entries that stand where their records do
 
-abbrev Entries : Type 0
-Entries = List (Spot × Record)
-
-abbrev AreFiled : Entries → Type 0
+abbrev AreFiled : BySpot → Type 0
 AreFiled es = (e : Spot × Record) → Among e es → e.0 ≡ of_record e.1
 
-less_than_all : (k : Spot) (es : Entries) → AllByRecursion (λ s. latest_first k s ≡ Less) (keys_of es) → AreFiled es → AllByRecursion (λ r. latest_first k (of_record r) ≡ Less) (values_of es)
+less_than_all : (k : Spot) (es : BySpot) → AllByRecursion (λ s. latest_first k s ≡ Less) (keys_of es) → AreFiled es → AllByRecursion (λ r. latest_first k (of_record r) ≡ Less) (values_of es)
 less_than_all k [] h f = tt
 less_than_all k (e ∷ es) h f = (ap (latest_first k) (sym (f e (inl refl))) ∙ h.0, less_than_all k es h.1 (λ x m. f x (inr m)))
 
-values_sorted : (es : Entries) → IsStrictlySortedBy latest_first (keys_of es) → AreFiled es → IsStrictlySortedBy (flip_args by_spot) (values_of es)
+values_sorted : (es : BySpot) → IsStrictlySortedBy latest_first (keys_of es) → AreFiled es → IsStrictlySortedBy (flip_args by_spot) (values_of es)
 unfolding IsStrictlySortedBy
 values_sorted [] s f = tt
 values_sorted (e ∷ es) s f = (
@@ -51,15 +49,11 @@ values_sorted (e ∷ es) s f = (
   values_sorted es s.1 (λ x m. f x (inr m)),
 )
 
-values_passing : (p : Spot → Bool) (es : Entries) → AreFiled es → values_of (filter (λ e. p e.0) es) ≡ filter (λ r. p (of_record r)) (values_of es)
+values_passing : (p : Spot → Bool) (es : BySpot) → AreFiled es → values_of (filter (λ e. p e.0) es) ≡ filter (λ r. p (of_record r)) (values_of es)
 values_passing p [] f = refl
 values_passing p (e ∷ es) f =
     elim (p e.0) as (λ b. values_of (cond b (e ∷ filter (λ x. p x.0) es) (filter (λ x. p x.0) es)) ≡ cond b (e.1 ∷ values_of (filter (λ x. p x.0) es)) (values_of (filter (λ x. p x.0) es))) [ true ↦ refl | false ↦ refl ]
     ∙ (λ i. cond (p (f e (inl refl) i)) (e.1 ∷ values_passing p es (λ x m. f x (inr m)) i) (values_passing p es (λ x m. f x (inr m)) i))
-
-nothing : (es : Entries) (q : Spot) (r : Record) → (0 < length es → ⊥) → lookup (tree.is_at (latest_first q)) es ≡ Some r → ⊥
-nothing [] q r none e = cc e
-nothing (x ∷ es) q r none e = none (omega arith)
 
 no_later : (t u : ℕ) (o : Ordering) → is_gt (ordering_then (nat_cmp t u) o) ≡ false → t ≤ u
 no_later t u o e = grind (arith, e)
@@ -70,31 +64,35 @@ module _ (m : BySpot) (ids : ById) (a : Agree m ids) where
   abbrev ms : Messages
   ms = held_by ids
 
-  stands : (r : Record) → IsKept ms r → tree.get latest_first m (of_record r) ≡ Some r
+  stands : (r : Record) → IsKept ms r → get latest_first m (of_record r) ≡ Some r
   stands r held = (kept_stands m ids a r.id r (ap kept_in (sym (get-held_by id_total ids r.id)) ∙ held)).1
 
-  is_kept : (k : Spot) (r : Record) → tree.get latest_first m k ≡ Some r → IsKept ms r
+  is_kept : (k : Spot) (r : Record) → get latest_first m k ≡ Some r → IsKept ms r
   is_kept k r is = ap kept_in (get-held_by id_total ids r.id) ∙ its_message m ids a k r is
 
   -- the latest stand first, so the record at the last spot is the first
-  pub first_is : (k : Spot) (r : Record) → tree.get latest_first m k ≡ Some r → tree.IsUpperBound latest_first m k → IsFirstKept ms (Some r)
-  first_is k r is last = (
-    is_kept k r is,
-    λ q held. subst (λ s. is_gt (cut_cmp s (of_record q)) ≡ false) (its_place m ids a k r is)
-        (sym (before_turned (of_record q) k) ∙ last (of_record q) (ap is_some (stands q held))),
+  pub first_is : (last : Spot × Record) → IsGreatest latest_first last m → IsFirstKept ms (Some last.1)
+  first_is last greatest = (
+    is_kept last.0 last.1 greatest.value,
+    λ q held. subst (λ s. is_gt (cut_cmp s (of_record q)) ≡ false) (its_place m ids a last.0 last.1 greatest.value)
+        (sym (before_turned (of_record q) last.0) ∙ greatest.above (of_record q) (ap is_some (stands q held))),
   )
 
   -- and the moment of the first spot is the latest
-  pub latest_is : (k : Spot) (r : Record) → tree.get latest_first m k ≡ Some r → tree.IsLowerBound latest_first m k → IsLatestKept ms (Some k.at)
-  latest_is k r is first = (
-    r,
-    is_kept k r is,
-    ap (λ (s : Spot). s.at) (sym (its_place m ids a k r is)),
-    λ q held. no_later q.at k.at _ (first (of_record q) (ap is_some (stands q held))),
+  latest_is : (first : Spot × Record) → IsLeast latest_first first m → IsLatestKept ms (Some first.0.at)
+  latest_is first least = (
+    first.1,
+    is_kept first.0 first.1 least.value,
+    ap (λ (s : Spot). s.at) (sym (its_place m ids a first.0 first.1 least.value)),
+    λ q held. no_later q.at first.0.at _ (least.below (of_record q) (ap is_some (stands q held))),
   )
 
-  pub none_first : (0 < tree.btree_map_len m → ⊥) → IsFirstKept ms None
-  none_first none r held = nothing m.entries (of_record r) r none (stands r held)
+  pub none_first : m ≡ [] → IsFirstKept ms None
+  none_first none r held = cc (ap (λ es. get latest_first es (of_record r)) (sym none) ∙ stands r held)
+
+  pub latest_kept : (t : Option ℕ) → IsLatestIn m t → IsLatestKept ms t
+  latest_kept None none = none_first none
+  latest_kept (Some t) l = subst (λ u. IsLatestKept ms (Some u)) l.2 (latest_is l.0 l.1)
 
   pub none_past : (t : ℕ) → greatest < t + 1 → (r : Record) → IsKept ms r → nat_lt t r.at ≡ false
   none_past t last r held = not_past t r.at greatest last (kept_small m ids a r.id r (ap kept_in (sym (get-held_by id_total ids r.id)) ∙ held))
@@ -102,36 +100,36 @@ module _ (m : BySpot) (ids : ById) (a : Agree m ids) where
       not_past : (t u g : ℕ) → g < t + 1 → u ≤ g → nat_lt t u ≡ false
       not_past t u g l s = grind (arith, l, s)
 
-  module _ (ordered : tree.IsOrdered latest_first m) where
-    abbrev entries_are : finite.entries (held_by {R = latest_first} m) ≡ m.entries
-    entries_are = entries-from_ordered latest_first_total m.entries ordered
+  module _ (ordered : AreOrdered latest_first m) where
+    abbrev entries_are : finite.entries (held_by {R = latest_first} m) ≡ m
+    entries_are = entries-from_ordered latest_first_total m ordered
 
-    filed : (r : Record) → IsKept ms r → Among (of_record r, r) m.entries
+    filed : (r : Record) → IsKept ms r → Among (of_record r, r) m
     filed r held =
         subst (Among (of_record r, r)) entries_are (got latest_first_total spot_exact (held_by m) (of_record r) r (get-held_by latest_first_total m (of_record r) ∙ stands r held))
 
-    found : (k : Spot) (r : Record) → Among (k, r) m.entries → tree.get latest_first m k ≡ Some r
+    found : (k : Spot) (r : Record) → Among (k, r) m → get latest_first m k ≡ Some r
     found k r e = sym (get-held_by latest_first_total m k) ∙ get_entry latest_first_total spot_exact (held_by m) k r (subst (Among (k, r)) (sym entries_are) e)
 
-    are_filed : AreFiled m.entries
+    are_filed : AreFiled m
     are_filed e n = its_place m ids a e.0 e.1 (found e.0 e.1 n)
 
     module _ (p : Spot → Bool) where
       abbrev passes : Record → Bool
       passes r = p (of_record r)
 
-      passing_kept : AreKept (flip_args by_spot) passes ms (filter passes (values_of m.entries))
+      passing_kept : AreKept (flip_args by_spot) passes ms (filter passes (values_of m))
       passing_kept = record {
-        sorted = IsStrictlySortedBy-filter (flip_args by_spot) passes (values_of m.entries) (values_sorted m.entries ordered are_filed);
+        sorted = IsStrictlySortedBy-filter (flip_args by_spot) passes (values_of m) (values_sorted m ordered are_filed);
         all = λ r. (
-          λ n. let both = among-filter passes (values_of m.entries) r n in let k = valued m.entries r both.0 in (is_kept k.0 r (found k.0 r k.1), both.1),
-          λ n. among_passing passes (values_of m.entries) r (value_among m.entries (of_record r) r (filed r n.0)) n.1,
+          λ n. let both = among-filter passes (values_of m) r n in let k = valued m r both.0 in (is_kept k.0 r (found k.0 r k.1), both.1),
+          λ n. among_passing passes (values_of m) r (value_among m (of_record r) r (filed r n.0)) n.1,
         );
       }
 
       -- a range has the kept records whose spots pass, the latest first
-      pub range_kept : (rs : List Record) → rs ≡ values_of (filter (λ e. p e.0) m.entries) → AreKept (flip_args by_spot) passes ms rs
-      range_kept rs e = subst (AreKept (flip_args by_spot) passes ms) (sym (e ∙ values_passing p m.entries are_filed)) passing_kept
+      pub range_kept : (rs : List Record) → rs ≡ values_of (filter (λ e. p e.0) m) → AreKept (flip_args by_spot) passes ms rs
+      range_kept rs e = subst (AreKept (flip_args by_spot) passes ms) (sym (e ∙ values_passing p m are_filed)) passing_kept
 
 -- ---- lists of kept records
 

@@ -194,7 +194,7 @@ abbrev pub Tree : Type 0
 Tree = tree.BTreeMap Buffer Held
 
 abbrev pub seen : Accounts → Tree → Store
-seen ac bs = store_in (held_by ac) (held_by bs)
+seen ac bs = store_in (held_by ac.entries) (held_by bs.entries)
 
 -- the floor of a buffer's account, or 0
 abbrev pub floor_around : Accounts → Buffer → ℕ
@@ -205,12 +205,12 @@ abbrev pub tree_piece : Accounts → Tree → Extent → Key → Option Numbered
 tree_piece ac bs (OfAccount a) k = account_piece a (tree.get text_cmp ac a)
 tree_piece ac bs (OfBuffer b) k = held_piece (floor_around ac b) (tree.get buffer_cmp bs b) k
 
-tree_held : (ac : Accounts) (bs : Tree) (e : Extent) (k : Key) → extent_piece (held_by ac) (held_by bs) e k ≡ tree_piece ac bs e k
-tree_held ac bs (OfAccount a) k = ap (account_piece a) (get-held_by text_total ac a)
-tree_held ac bs (OfBuffer b) k = λ i. held_piece (floor_moment (get-held_by text_total ac b.account i)) (get-held_by buffer_total bs b i) k
+tree_held : (ac : Accounts) (bs : Tree) (e : Extent) (k : Key) → extent_piece (held_by ac.entries) (held_by bs.entries) e k ≡ tree_piece ac bs e k
+tree_held ac bs (OfAccount a) k = ap (account_piece a) (get-held_by text_total ac.entries a)
+tree_held ac bs (OfBuffer b) k = λ i. held_piece (floor_moment (get-held_by text_total ac.entries b.account i)) (get-held_by buffer_total bs.entries b i) k
 
 pub get-tree : (ac : Accounts) (bs : Tree) (k : Key) → finite.get (seen ac bs) k ≡ tree_piece ac bs (key_extent k) k
-get-tree ac bs k = get-store_in (held_by ac) (held_by bs) k ∙ tree_held ac bs (key_extent k) k
+get-tree ac bs k = get-store_in (held_by ac.entries) (held_by bs.entries) k ∙ tree_held ac bs (key_extent k) k
 
 -- at a key of an extent
 pub get-extent : (ac : Accounts) (bs : Tree) (s : Store) (e : Extent) → seen ac bs ≡ s → (k : Key) → key_extent k ≡ e → finite.get s k ≡ tree_piece ac bs e k
@@ -257,7 +257,7 @@ beside_account (Floor b t) a o = stamp_left (floor_piece (OfAccount a)) (OfBuffe
 beside_account (AccountFloor b t) a o = stamp_left (floor_piece (OfAccount a)) (OfAccount b) t (λ s. refl) o
 
 -- a buffer whose keys settle settles the store
-module _ (ac : Accounts) (bs new : Tree) (x : Change) (n : ℕ) (b : Buffer) (at : key_extent (key_of x) ≡ OfBuffer b) (o : Option Held) (h : Held) (has : tree.get buffer_cmp bs b ≡ o) (up : IsWith buffer_cmp bs b h new) (settles : Settles (floor_around ac b) o n x h) where
+module _ (ac : Accounts) (bs new : Tree) (x : Change) (n : ℕ) (b : Buffer) (at : key_extent (key_of x) ≡ OfBuffer b) (o : Option Held) (h : Held) (has : tree.get buffer_cmp bs b ≡ o) (up : IsWith buffer_cmp bs.entries b h new.entries) (settles : Settles (floor_around ac b) o n x h) where
   abbrev moved_to : Numbered
   moved_to = record { number = n; change = x }
 
@@ -303,14 +303,14 @@ entered_keyed old n x new is keyed k p e =
     ] refl (sym (is k) ∙ e)
 
 -- what was written over by itself is unchanged
-pub unchanged_store : (ac : Accounts) (bs new : Tree) (b : Buffer) (h : Held) → tree.get buffer_cmp bs b ≡ Some h → IsWith buffer_cmp bs b h new → seen ac new ≡ seen ac bs
-unchanged_store ac bs new b h here up = ap (store_in (held_by ac)) (finite.same_map buffer_total buffer_exact (held_by new) (held_by bs) (λ q.
-    get-held_by buffer_total new q ∙ up q
+pub unchanged_store : (ac : Accounts) (bs new : Tree) (b : Buffer) (h : Held) → tree.get buffer_cmp bs b ≡ Some h → IsWith buffer_cmp bs.entries b h new.entries → seen ac new ≡ seen ac bs
+unchanged_store ac bs new b h here up = ap (store_in (held_by ac.entries)) (finite.same_map buffer_total buffer_exact (held_by new.entries) (held_by bs.entries) (λ q.
+    get-held_by buffer_total new.entries q ∙ up q
     ∙ elim (same_buffer b q) as (λ t. same_buffer b q ≡ t → cond t (Some h) (tree.get buffer_cmp bs q) ≡ tree.get buffer_cmp bs q) [
       | true ↦ λ e. sym here ∙ ap (tree.get buffer_cmp bs) (same_buffer_is b q e)
       | false ↦ λ _. refl
     ] refl
-    ∙ sym (get-held_by buffer_total bs q)))
+    ∙ sym (get-held_by buffer_total bs.entries q)))
 
 pub none_seen : (ac : Accounts) (bs : Tree) → ((a : List ℕ) → tree.get text_cmp ac a ≡ None) → ((b : Buffer) → tree.get buffer_cmp bs b ≡ None) → seen ac bs ≡ finite.empty
 none_seen ac bs unset none = finite.same_map key_total key_exact (seen ac bs) finite.empty (λ k. get-tree ac bs k ∙ nothing (key_extent k) k ∙ sym (finite.get-empty _ k))
@@ -357,7 +357,7 @@ pub gone_stays : (k l : Key) (o : Option Numbered) → (k ≡ l → ⊥) → o �
 gone_stays k l o apart = ap (λ b. cond b None o) (sym (not_same k l apart))
 
 -- the piece of a key leaves the keys of its buffer, and so the store
-module _ (ac : Accounts) (bs new : Tree) (b : Buffer) (h w : Held) (l : Key) (its : key_extent l ≡ OfBuffer b) (has : tree.get buffer_cmp bs b ≡ Some h) (up : IsWith buffer_cmp bs b w new)
+module _ (ac : Accounts) (bs new : Tree) (b : Buffer) (h w : Held) (l : Key) (its : key_extent l ≡ OfBuffer b) (has : tree.get buffer_cmp bs b ≡ Some h) (up : IsWith buffer_cmp bs.entries b w new.entries)
     (left : (k : Key) → key_extent k ≡ OfBuffer b → held_piece (floor_around ac b) (Some w) k ≡ cond (same_key k l) None (held_piece (floor_around ac b) (Some h) k)) where
   taken_at : (e : Extent) (k : Key) → key_extent k ≡ e → tree_piece ac new e k ≡ cond (same_key k l) None (tree_piece ac bs e k)
   taken_at (OfAccount a) k is = gone_stays k l (account_piece a (tree.get text_cmp ac a)) (other_extent k l (λ e. no_account a b (sym is ∙ e ∙ its)))
@@ -406,7 +406,7 @@ module _ (ac : Accounts) (bs : Tree) (keyed : IsKeyedStore (seen ac bs)) (b : Bu
   pub its_buffer : r.buffer ≡ b
   its_buffer = same_buffers r.buffer b r.id r.id (keyed (MessageOf b r.id) (record { number = n; change = Post r }) found_at)
 
-  pub takes_one : (f : ℕ) (new : Tree) (ms : Messages) → r.at < f → ms ≡ finite.remove h.messages r.id → IsWith buffer_cmp bs b (record h { messages = ms }) new → TakesOne (seen ac bs) b f n (seen ac new)
+  pub takes_one : (f : ℕ) (new : Tree) (ms : Messages) → r.at < f → ms ≡ finite.remove h.messages r.id → IsWith buffer_cmp bs.entries b (record h { messages = ms }) new.entries → TakesOne (seen ac bs) b f n (seen ac new)
   takes_one f new ms low left up = record {
     post = r;
     here = its_buffer;

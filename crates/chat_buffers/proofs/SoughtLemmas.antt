@@ -131,14 +131,14 @@ something (Some h) n = (h, refl)
 
 -- the buffers after the last one
 module _ (ac : Accounts) (bs : Tree) (keyed : IsKeyedStore (seen ac bs)) (ordered : tree.IsOrdered buffer_cmp bs) where
-  abbrev entries_are : finite.entries (held_by {R = buffer_cmp} bs) ≡ bs.entries
+  abbrev entries_are : finite.entries (held_by {R = buffer_cmp} bs.entries) ≡ bs.entries
   entries_are = entries-from_ordered buffer_total bs.entries ordered
 
   its_entry : (b : Buffer) (h : Held) → Among (b, h) bs.entries → tree.get buffer_cmp bs b ≡ Some h
-  its_entry b h m = sym (get-held_by buffer_total bs b) ∙ get_entry buffer_total buffer_exact (held_by bs) b h (subst (Among (b, h)) (sym entries_are) m)
+  its_entry b h m = sym (get-held_by buffer_total bs.entries b) ∙ get_entry buffer_total buffer_exact (held_by bs.entries) b h (subst (Among (b, h)) (sym entries_are) m)
 
   entry_of : (b : Buffer) (h : Held) → tree.get buffer_cmp bs b ≡ Some h → Among (b, h) bs.entries
-  entry_of b h here = subst (Among (b, h)) entries_are (got buffer_total buffer_exact (held_by bs) b h (get-held_by buffer_total bs b ∙ here))
+  entry_of b h here = subst (Among (b, h)) entries_are (got buffer_total buffer_exact (held_by bs.entries) b h (get-held_by buffer_total bs.entries b ∙ here))
 
   pub all_ahead : IsAhead (history_in (seen ac bs)) None bs.entries
   all_ahead = record {

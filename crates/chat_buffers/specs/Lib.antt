@@ -19,7 +19,8 @@ pub mod Stamps
 pub mod Held
 -- what a walk over the buffers has ahead of it
 pub mod Ahead
--- how the two maps of a buffer's messages agree
+-- the latest of the records of a buffer, and how the two maps of its messages agree
+pub mod RecordMap
 pub mod Agreement
 -- the ends of ranges, and what a cursor over messages has left
 pub mod Ends

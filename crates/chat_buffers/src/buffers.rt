@@ -56,9 +56,10 @@ impl Model for Buffers {
 
     ghost coded = { spec.coded_store };
 
-    ghost view = { λ b. store_in (held_by b.accounts) (held_by b.held) };
+    ghost view = { λ b. store_in (held_by b.accounts.entries) (held_by b.held.entries) };
 
-    ghost invariant = { λ b. spec.IsKeyedStore (store_in (held_by b.accounts) (held_by b.held)) };
+    ghost invariant = { λ b.
+        spec.IsKeyedStore (store_in (held_by b.accounts.entries) (held_by b.held.entries)) };
 }
 
 impl Buffers {

@@ -13,6 +13,7 @@ ghost use Rattle.chat_buffers.specs.Store as spec;
 use crate::buffers::{Buffers, MessageRef};
 use crate::messages::Messages;
 use chat_change::{Buffer, MsgId};
+use std::ops::Bound;
 
 // Whether a buffer has these names. The target may be spelled in either case.
 fn has_names(buffer: &Buffer, account: &[u8], network: &[u8], target: &[u8]) -> bool
@@ -36,7 +37,9 @@ impl Messages {
         ensures found { IfSome result (λ id. id.now ≡ bytes.now) }
         ensures none { result ≡ None → map.get self.now bytes.now ≡ None }
     {
-        self.by_id.keys().find(|id| has_bytes(id, bytes))
+        let mut entries = self.by_id.from(Bound::Unbounded);
+        let (id, _) = entries.find(|(id, _)| has_bytes(id, bytes))?;
+        Some(id)
     }
 }
 

@@ -18,6 +18,7 @@ mod held;
 mod held_message;
 mod messages;
 mod moment_if_known;
+mod record_map;
 mod sought;
 mod walk;
 

@@ -3,31 +3,30 @@
 ghost use Rattle.std.specs.Prelude.{◌≡◌, ◌≢◌, ◌<◌, Some, None, IsTrue, IsSome, false, IfOk, IfSome};
 ghost use Rattle.std.specs.Prelude.{OnOk, OnErr};
 ghost use Rattle.std.specs.FinMap as map;
-ghost use Rattle.std.specs.BTreeMap as tree;
 ghost use Rattle.std.specs.Map.Iter.{deref};
 ghost use Rattle.chat_change.specs.Order.{id_cmp};
 ghost use Rattle.std.specs.Option.{option_map};
 ghost use Rattle.chat_history.specs.Cut.{of_record, latest_first};
-ghost use Rattle.ordered_maps.specs.MapView.{IsSetTo, IsWithout};
+ghost use Rattle.ordered_maps.specs.MapView.{get, IsSetTo, IsWithout};
 ghost use Rattle.chat_buffers.specs.Agreement.{place};
 ghost use Rattle.chat_buffers.specs.Messages as spec;
 ghost use Rattle.chat_buffers.specs.declared.held_message.HeldMessage.TheVariants as held_message;
 
 use crate::held_message::HeldMessage;
 use crate::moment_if_known::MomentIfKnown;
+use crate::record_map::RecordMap;
 use chat_change::{Moment, MsgId, Record};
 use chat_history::Spot;
-use ordered_maps::{exchange, overwrite, put, take_out};
+use ordered_maps::PackedMap;
 use std::alloc::{AllocError, Global};
-use std::collections::BTreeMap;
 use std::marker::Model;
 
 /// What is held of the messages of one buffer. It is seen as the map from each id to what is held of its message.
 #[derive(Drop)]
 pub(crate) struct Messages {
-    pub(crate) by_id: BTreeMap<MsgId, HeldMessage>,
+    pub(crate) by_id: PackedMap<MsgId, HeldMessage>,
     // the kept records, by where they stand, the latest first
-    pub(crate) by_spot: BTreeMap<Spot, Record>,
+    pub(crate) by_spot: RecordMap,
 }
 
 impl Model for Messages {
@@ -89,13 +88,13 @@ fn copies_of(post: &Record) -> Result<Copies, AllocError>
 }
 
 // Makes what is held of a message what it was before. It takes no memory.
-fn restore(by_id: &mut BTreeMap<MsgId, HeldMessage>, id: &MsgId, before: Option<HeldMessage>)
-    requires held { IsSome (tree.get id_cmp by_id.old id.now) }
+fn restore(by_id: &mut PackedMap<MsgId, HeldMessage>, id: &MsgId, before: Option<HeldMessage>)
+    requires held { IsSome (get id_cmp by_id.old id.now) }
     ensures { IsSetTo id_cmp by_id.old id.now before by_id.new }
 {
     match before {
-        Some(before) => overwrite(by_id, id, before),
-        None => take_out(by_id, id),
+        Some(before) => by_id.overwrite(id, before),
+        None => by_id.take_out(id),
     }
 }
 
@@ -105,8 +104,8 @@ impl Messages {
         ensures { result ≡ map.empty }
     {
         Messages {
-            by_id: BTreeMap::new(alloc),
-            by_spot: BTreeMap::new(alloc),
+            by_id: PackedMap::new(alloc),
+            by_spot: RecordMap::new(alloc),
         }
     }
 
@@ -151,13 +150,13 @@ impl Messages {
             drop(post);
             return Err(AllocError);
         };
-        let Ok(before) = exchange(&mut self.by_id, id, HeldMessage::Kept(post, number)) else {
+        let Ok(before) = self.by_id.exchange(id, HeldMessage::Kept(post, number)) else {
             drop(spot);
             drop(name);
             drop(copy);
             return Err(AllocError);
         };
-        if !put(&mut self.by_spot, spot, copy) {
+        if !self.by_spot.put(spot, copy) {
             restore(&mut self.by_id, &name, before);
             drop(name);
             return Err(AllocError);
@@ -201,7 +200,7 @@ impl Messages {
         ensures refused { result ≡ false → self.new ≡ self.old }
     {
         let gone = HeldMessage::Gone(MomentIfKnown::new(at), number);
-        put(&mut self.by_id, id, gone)
+        self.by_id.put(id, gone)
     }
 
     // Notes that a message was redacted whose record stands at `stood`, and lets that record go.
@@ -210,12 +209,12 @@ impl Messages {
         ensures { self.new ≡ map.insert self.old id (held_message.Gone at number) }
     {
         let gone = HeldMessage::Gone(MomentIfKnown::new(at), number);
-        overwrite(&mut self.by_id, &id, gone);
+        self.by_id.overwrite(&id, gone);
         let spot = Spot {
             at: stood,
             id: Some(id),
         };
-        take_out(&mut self.by_spot, &spot);
+        self.by_spot.take_out(&spot);
         drop(spot);
     }
 
@@ -226,7 +225,7 @@ impl Messages {
         ensures done { result ≡ None → spec.IsFrom floor self.new }
         ensures kept { result ≡ None → self.new ≡ self.old }
     {
-        let at = match self.by_spot.last_key_value() {
+        let at = match self.by_spot.last() {
             Some((spot, _)) => spot.at,
             None => return None,
         };
@@ -236,15 +235,15 @@ impl Messages {
         let (spot, post) = self.by_spot.pop_last()?;
         drop(spot);
         let number = number_of(&self.by_id, post.id());
-        take_out(&mut self.by_id, post.id());
+        self.by_id.take_out(post.id());
         drop(post);
         number
     }
 }
 
 // The number of the piece of a message.
-fn number_of(by_id: &BTreeMap<MsgId, HeldMessage>, id: &MsgId) -> Option<u64>
-    ensures { result ≡ option_map spec.number_of (tree.get id_cmp by_id.now id.now) }
+fn number_of(by_id: &PackedMap<MsgId, HeldMessage>, id: &MsgId) -> Option<u64>
+    ensures { result ≡ option_map spec.number_of (get id_cmp by_id.now id.now) }
 {
     let held_message = by_id.get(id)?;
     Some(held_message.number())
@@ -272,9 +271,9 @@ fn moment_in(held_message: Option<HeldMessage>) -> Option<Moment>
 }
 
 // Takes out the record of a message that stood at another moment than the new one. It takes no memory.
-fn leave_place(by_spot: &mut BTreeMap<Spot, Record>, before: Option<Moment>, id: MsgId, at: Moment)
-    ensures first { before ≡ None → by_spot.new.entries ≡ by_spot.old.entries }
-    ensures same { before ≡ Some at → by_spot.new.entries ≡ by_spot.old.entries }
+fn leave_place(by_spot: &mut RecordMap, before: Option<Moment>, id: MsgId, at: Moment)
+    ensures first { before ≡ None → by_spot.new ≡ by_spot.old }
+    ensures same { before ≡ Some at → by_spot.new ≡ by_spot.old }
     ensures moved { IfSome before (λ t. t ≢ at →
         IsWithout latest_first by_spot.old (place t id) by_spot.new) }
 {
@@ -284,7 +283,7 @@ fn leave_place(by_spot: &mut BTreeMap<Spot, Record>, before: Option<Moment>, id:
                 at: before,
                 id: Some(id),
             };
-            take_out(by_spot, &spot);
+            by_spot.take_out(&spot);
             drop(spot);
         }
         _ => drop(id),

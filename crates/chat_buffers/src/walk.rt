@@ -16,14 +16,14 @@ ghost use Rattle.chat_buffers.specs.Kept.{IsFirstKept, IsLatestKept, AreKept};
 use crate::messages::Messages;
 use chat_change::{Moment, Record};
 use chat_history::{Cut, Spot};
-use std::collections::btree_map::Range;
+use ordered_maps::PackedEntries;
 use std::marker::Model;
 use std::ops::Bound;
 
 /// Records by rising (moment, id). It is seen as the list of what is left.
 #[derive(Drop)]
 pub struct Up<'a> {
-    range: Option<Range<'a, Spot, Record>>,
+    entries: Option<PackedEntries<'a, Spot, Record>>,
 }
 
 impl<'a> Model for Up<'a> {
@@ -33,7 +33,7 @@ impl<'a> Model for Up<'a> {
 
     ghost Value = { List spec.Record };
 
-    ghost view = { λ u. reverse (records_of u.range) };
+    ghost view = { λ u. reverse (records_of u.entries) };
 }
 
 impl<'a> Up<'a> {
@@ -41,13 +41,15 @@ impl<'a> Up<'a> {
     pub(crate) fn empty() -> Up<'a>
         ensures { result ≡ [] }
     {
-        Up { range: None }
+        Up { entries: None }
     }
 
-    fn over(range: Range<'a, Spot, Record>) -> Up<'a>
-        ensures { result ≡ reverse (values_of range.entry) }
+    fn over(entries: PackedEntries<'a, Spot, Record>) -> Up<'a>
+        ensures { result ≡ reverse (values_of entries.entry) }
     {
-        Up { range: Some(range) }
+        Up {
+            entries: Some(entries),
+        }
     }
 }
 
@@ -59,10 +61,10 @@ impl<'a> Iterator for Up<'a> {
     ghost remaining = { λ s. at_most (length s) };
 
     fn next(&mut self) -> Option<&'a Record> {
-        let Some(range) = &mut self.range else {
+        let Some(entries) = &mut self.entries else {
             return None;
         };
-        match range.next_back() {
+        match entries.next_back() {
             Some((_, post)) => Some(post),
             None => None,
         }
@@ -72,7 +74,7 @@ impl<'a> Iterator for Up<'a> {
 /// Records by falling (moment, id). It is seen as the list of what is left, in the order in which it comes.
 #[derive(Drop)]
 pub struct Down<'a> {
-    range: Option<Range<'a, Spot, Record>>,
+    entries: Option<PackedEntries<'a, Spot, Record>>,
 }
 
 impl<'a> Model for Down<'a> {
@@ -82,7 +84,7 @@ impl<'a> Model for Down<'a> {
 
     ghost Value = { List spec.Record };
 
-    ghost view = { λ d. records_of d.range };
+    ghost view = { λ d. records_of d.entries };
 }
 
 impl<'a> Down<'a> {
@@ -90,13 +92,15 @@ impl<'a> Down<'a> {
     pub(crate) fn empty() -> Down<'a>
         ensures { result ≡ [] }
     {
-        Down { range: None }
+        Down { entries: None }
     }
 
-    fn over(range: Range<'a, Spot, Record>) -> Down<'a>
-        ensures { result ≡ values_of range.entry }
+    fn over(entries: PackedEntries<'a, Spot, Record>) -> Down<'a>
+        ensures { result ≡ values_of entries.entry }
     {
-        Down { range: Some(range) }
+        Down {
+            entries: Some(entries),
+        }
     }
 }
 
@@ -108,10 +112,10 @@ impl<'a> Iterator for Down<'a> {
     ghost remaining = { λ s. at_most (length s) };
 
     fn next(&mut self) -> Option<&'a Record> {
-        let Some(range) = &mut self.range else {
+        let Some(entries) = &mut self.entries else {
             return None;
         };
-        match range.next() {
+        match entries.next() {
             Some((_, post)) => Some(post),
             None => None,
         }
@@ -123,7 +127,7 @@ impl Messages {
     pub(crate) fn first(&self) -> Option<&Record>
         ensures { IsFirstKept self.now (option_map deref result) }
     {
-        match self.by_spot.last_key_value() {
+        match self.by_spot.last() {
             Some((_, post)) => Some(post),
             None => None,
         }
@@ -133,10 +137,7 @@ impl Messages {
     pub(crate) fn latest(&self) -> Option<Moment>
         ensures { IsLatestKept self.now result }
     {
-        match self.by_spot.first_key_value() {
-            Some((spot, _)) => Some(spot.at),
-            None => None,
-        }
+        self.by_spot.latest()
     }
 
     /// The kept records after a cut, by rising (moment, id).
@@ -178,7 +179,7 @@ impl Messages {
         ensures { AreKept by_spot
             (is_from (bound_map (λ s. s.now) start.entry)) self.now result }
     {
-        Up::over(self.by_spot.range((Bound::Unbounded, start)))
+        Up::over(self.by_spot.until(start))
     }
 
     // The records up to a bound, the last first.
@@ -186,7 +187,7 @@ impl Messages {
         ensures { AreKept (flip_args by_spot)
             (is_until (bound_map (λ s. s.now) end.entry)) self.now result }
     {
-        Down::over(self.by_spot.range((end, Bound::Unbounded)))
+        Down::over(self.by_spot.from(end))
     }
 
     // The records at a moment or later.

@@ -6,7 +6,6 @@ use Rattle.std.proofs.lemmas.Option.{same_Some}
 use Rattle.std.specs.Cmp.{Equal-is, nat_cmp_total}
 use Rattle.std.specs.Ordering.{eq_by_cmp, is_eq}
 use Rattle.std.specs.Option.{option_map}
-use Rattle.std.specs.BTreeMap as tree
 use Rattle.std.specs.FinMap as finite
 use Rattle.chat_change.specs.Extent.{Extent, OfAccount, OfBuffer}
 use Rattle.chat_change.specs.declared.change.Change.{Change}
@@ -14,7 +13,7 @@ use Rattle.chat_change.specs.declared.change.Change.TheVariants.{Post, Redact, M
 use Rattle.chat_change.specs.Record.{Record}
 use Rattle.chat_change.specs.Key.{Key, MessageOf, key_of, same_key}
 use Rattle.chat_change.proofs.CallerLemmas.{key_total, same_key_is, same_key_itself}
-use Rattle.ordered_maps.specs.MapView.{IsWith, IsWithout}
+use Rattle.ordered_maps.specs.MapView.{get, IsWith, IsWithout}
 use Rattle.chat_history.specs.Retention.{remainder}
 use Rattle.chat_buffers.specs.Store.{Store, Numbered, number_at, change_at, IsFresh, IsKeyedStore}
 use Rattle.chat_buffers.specs.Entering.{with_remainder, beside, IsEntered}
@@ -35,7 +34,7 @@ same_itself a = ap is_eq (tied_itself nat_cmp_total a)
 not_same : (a b : ℕ) → (a ≡ b → ⊥) → same a b ≡ false
 not_same a b h = elim (same a b) as (λ t. same a b ≡ t → t ≡ false) [ true ↦ λ e. absurd (h (same_is a b e)) | false ↦ λ _. refl ] refl
 
-pub indexed_alike : (s : Store) (index new : ByNumber) → IsIndexed s index → ((q : ℕ) → tree.get number_cmp new q ≡ tree.get number_cmp index q) → IsIndexed s new
+pub indexed_alike : (s : Store) (index new : ByNumber) → IsIndexed s index → ((q : ℕ) → get number_cmp new q ≡ get number_cmp index q) → IsIndexed s new
 indexed_alike s index new was alike = record {
   once = was.once;
   listed = λ k p e. alike p.number ∙ was.listed k p e;
@@ -106,10 +105,10 @@ is_at None x = false
 is_at (Some b) x = same b x
 
 -- a number above all others isn't in the index
-pub unlisted_number : (s : Store) (n : ℕ) → IsFresh s n → (index : ByNumber) → IsIndexed s index → tree.get number_cmp index n ≡ None
-unlisted_number s n fresh index was = nothing (tree.get number_cmp index n) refl
+pub unlisted_number : (s : Store) (n : ℕ) → IsFresh s n → (index : ByNumber) → IsIndexed s index → get number_cmp index n ≡ None
+unlisted_number s n fresh index was = nothing (get number_cmp index n) refl
   where
-    nothing : (o : Option PieceName) → tree.get number_cmp index n ≡ o → o ≡ None
+    nothing : (o : Option PieceName) → get number_cmp index n ≡ o → o ≡ None
     nothing None e = refl
     nothing (Some q) e =
         let w = was.right n q e in
@@ -118,11 +117,11 @@ unlisted_number s n fresh index was = nothing (tree.get number_cmp index n) refl
         absurd (omega (arith, l, is))
 
 -- an entry that was taken back
-pub index_restored : (index put out : ByNumber) (n : ℕ) (p : PieceName) → tree.get number_cmp index n ≡ None → IsWith number_cmp index n p put → IsWithout number_cmp put n out → (q : ℕ) → tree.get number_cmp out q ≡ tree.get number_cmp index q
+pub index_restored : (index put out : ByNumber) (n : ℕ) (p : PieceName) → get number_cmp index n ≡ None → IsWith number_cmp index n p put → IsWithout number_cmp put n out → (q : ℕ) → get number_cmp out q ≡ get number_cmp index q
 index_restored index put out n p none up down q =
     down q ∙ ap (cond (same n q) None) (up q)
-    ∙ elim (same n q) as (λ b. same n q ≡ b → cond b None (cond b (Some p) (tree.get number_cmp index q)) ≡ tree.get number_cmp index q) [
-      | true ↦ λ e. sym none ∙ ap (tree.get number_cmp index) (same_is n q e)
+    ∙ elim (same n q) as (λ b. same n q ≡ b → cond b None (cond b (Some p) (get number_cmp index q)) ≡ get number_cmp index q) [
+      | true ↦ λ e. sym none ∙ ap (get number_cmp index) (same_is n q e)
       | false ↦ λ _. refl
     ] refl
 
@@ -148,7 +147,7 @@ module _ (s new : Store) (n : ℕ) (c : Change) (entered : IsEntered s n c new) 
   abbrev mine : Numbered
   mine = record { number = n; change = c }
 
-  module _ (after : ByNumber) (before : Option ℕ) (had : number_at s k ≡ before) (keys : (x : ℕ) → tree.get number_cmp after x ≡ cond (is_at before x) None (cond (same n x) (Some (name_of c)) (tree.get number_cmp index x))) where
+  module _ (after : ByNumber) (before : Option ℕ) (had : number_at s k ≡ before) (keys : (x : ℕ) → get number_cmp after x ≡ cond (is_at before x) None (cond (same n x) (Some (name_of c)) (get number_cmp index x))) where
     before_not : (o : Option ℕ) → (m : ℕ) → (o ≡ Some m → ⊥) → is_at o m ≡ false
     before_not None m h = refl
     before_not (Some b) m h = not_same b m (λ is. h (ap Some is))
@@ -156,10 +155,10 @@ module _ (s new : Store) (n : ℕ) (c : Change) (entered : IsEntered s n c new) 
     at_new : is_at before n ≡ false
     at_new = before_not before n (λ is. let l = below k n (had ∙ is) in omega (arith, l))
 
-    listed_in : (j : Key) (p : Numbered) (a : Bool) → same_key j k ≡ a → cond a (Some mine) (beside c (finite.get s j)) ≡ Some p → tree.get number_cmp after p.number ≡ Some (name_of p.change)
+    listed_in : (j : Key) (p : Numbered) (a : Bool) → same_key j k ≡ a → cond a (Some mine) (beside c (finite.get s j)) ≡ Some p → get number_cmp after p.number ≡ Some (name_of p.change)
     listed_in j p true t e =
-        subst (λ (x : Numbered). tree.get number_cmp after x.number ≡ Some (name_of x.change)) (same_Some mine p e)
-        (keys n ∙ ap (λ b. cond b None (cond (same n n) (Some (name_of c)) (tree.get number_cmp index n))) at_new ∙ ap (λ b. cond b (Some (name_of c)) (tree.get number_cmp index n)) (same_itself n))
+        subst (λ (x : Numbered). get number_cmp after x.number ≡ Some (name_of x.change)) (same_Some mine p e)
+        (keys n ∙ ap (λ b. cond b None (cond (same n n) (Some (name_of c)) (get number_cmp index n))) at_new ∙ ap (λ b. cond b (Some (name_of c)) (get number_cmp index n)) (same_itself n))
     listed_in j p false t e =
         let w = beside_was c (finite.get s j) p e in
         let m = w.0.number in
@@ -168,11 +167,11 @@ module _ (s new : Store) (n : ℕ) (c : Change) (entered : IsEntered s n c new) 
         let one : k ≡ j = was.once k j m (had ∙ is) there in
         false≢true (sym t ∙ ap (same_key j) one ∙ same_key_itself j)) in
         let older : same n m ≡ false = not_same n m (λ is. let l = below j m there in omega (arith, is, l)) in
-        ap (tree.get number_cmp after) w.2.number
-        ∙ keys m ∙ ap (λ b. cond b None (cond (same n m) (Some (name_of c)) (tree.get number_cmp index m))) other ∙ ap (λ b. cond b (Some (name_of c)) (tree.get number_cmp index m)) older ∙ was.listed j w.0 w.1
+        ap (get number_cmp after) w.2.number
+        ∙ keys m ∙ ap (λ b. cond b None (cond (same n m) (Some (name_of c)) (get number_cmp index m))) other ∙ ap (λ b. cond b (Some (name_of c)) (get number_cmp index m)) older ∙ was.listed j w.0 w.1
         ∙ ap Some (sym w.2.name)
 
-    right_in : (m : ℕ) (q : PieceName) (a b : Bool) → is_at before m ≡ a → same n m ≡ b → cond a None (cond b (Some (name_of c)) (tree.get number_cmp index m)) ≡ Some q → (j : Key) × (p : Numbered) × (finite.get new j ≡ Some p) × (p.number ≡ m) × (name_of p.change ≡ q)
+    right_in : (m : ℕ) (q : PieceName) (a b : Bool) → is_at before m ≡ a → same n m ≡ b → cond a None (cond b (Some (name_of c)) (get number_cmp index m)) ≡ Some q → (j : Key) × (p : Numbered) × (finite.get new j ≡ Some p) × (p.number ≡ m) × (name_of p.change ≡ q)
     right_in m q true b f t e = cc e
     right_in m q false true f t e =
         (k, mine, entered k ∙ ap (λ a. cond a (Some mine) (beside c (finite.get s k))) (same_key_itself k), same_is n m t, same_Some (name_of c) q e)
@@ -226,7 +225,7 @@ module _ (s : Store) (index : ByNumber) (was : IsIndexed s index) (k : Key) (p :
   piece_stayed j q true e = cc e
   piece_stayed j q false e = e
 
-  right_left : (m : ℕ) (q : PieceName) (a : Bool) → same p.number m ≡ a → cond a None (tree.get number_cmp index m) ≡ Some q → (j : Key) × (x : Numbered) × (finite.get left j ≡ Some x) × (x.number ≡ m) × (name_of x.change ≡ q)
+  right_left : (m : ℕ) (q : PieceName) (a : Bool) → same p.number m ≡ a → cond a None (get number_cmp index m) ≡ Some q → (j : Key) × (x : Numbered) × (finite.get left j ≡ Some x) × (x.number ≡ m) × (name_of x.change ≡ q)
   right_left m q true t e = cc e
   right_left m q false t e =
       let w = was.right m q e in (
@@ -250,7 +249,7 @@ module _ (s : Store) (index : ByNumber) (was : IsIndexed s index) (k : Key) (p :
         let was_there = sym (left_pieces j) ∙ e in
         let here = piece_stayed j q (same_key j k) was_there in
         let number : cond (same_key j k) None (number_at s j) ≡ Some q.number = sym (left_numbers j) ∙ numbered (finite.get left j) q e in
-        without q.number ∙ ap (λ b. cond b None (tree.get number_cmp index q.number)) (not_gone j q.number (same_key j k) refl number) ∙ was.listed j q here;
+        without q.number ∙ ap (λ b. cond b None (get number_cmp index q.number)) (not_gone j q.number (same_key j k) refl number) ∙ was.listed j q here;
     right = λ m q e. right_left m q (same p.number m) refl (sym (without m) ∙ e);
   }
 

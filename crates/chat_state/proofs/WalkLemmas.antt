@@ -1,16 +1,15 @@
 -- The piece of a number, and the least number above another.
-use Rattle.std.proofs.Common.{◌≡◌, ◌≢◌, refl, sym, ◌∙◌, ap, ℕ, ◌≤◌, List, [], ◌∷◌, ◌++◌, true, false, nat_lt, is_some, Option, Some, None, inl, arith}
+use Rattle.std.proofs.Common.{◌≡◌, ◌≢◌, refl, sym, ◌∙◌, ap, ℕ, ◌≤◌, List, [], ◌∷◌, true, false, nat_lt, is_some, Option, Some, None, inl, arith}
 use Rattle.std.proofs.lemmas.Option.{same_Some}
 use Rattle.std.specs.declared.cmp.Ordering.TheVariants.{Less}
 use Rattle.std.specs.Ordering.{nat_cmp, is_gt, is_lt}
-use Rattle.std.specs.declared.ops.Bound.TheVariants.{Excluded, Unbounded}
 use Rattle.std.specs.Option.{option_map}
-use Rattle.std.specs.BTreeMap as tree
-use Rattle.std.specs.BTreeMap.Range.{IsEntryInRange, IsRangeOf}
 use Rattle.std.specs.FinMap as finite
 use Rattle.chat_change.specs.Key.{Key}
 use Rattle.chat_change.specs.declared.change.Change.{Change}
 use Rattle.chat_change.proofs.CallerLemmas.{key_total, key_exact}
+use Rattle.ordered_maps.specs.MapView.{get}
+use Rattle.ordered_maps.specs.Ends.{IsLastBefore}
 use Rattle.chat_history.specs.Choice.{Among, IsFirst}
 use Rattle.chat_history.proofs.CallerLemmas.{got, get_entry, valued, value_among, among-filter, among_passing}
 use Rattle.chat_buffers.specs.Store.{Store, Numbered, number_at, change_at, by_number, pieces_above, IsKeyedStore}
@@ -41,24 +40,30 @@ held_piece s n k c e f = (refl, k, whole (finite.get s k) n c e f)
 piece_number : (o : Option Numbered) (p : Numbered) → o ≡ Some p → option_map (λ (p : Numbered). p.number) o ≡ Some p.number
 piece_number o p e = ap (option_map (λ (p : Numbered). p.number)) e
 
--- the entries that stand before a number: those of the numbers above it
-abbrev pub AreAbove : ByNumber → ℕ → List (ℕ × PieceName) → Type 0
-AreAbove index n es = IsRangeOf number_cmp Unbounded (Excluded n) index es
+is_above : (n m : ℕ) → nat_lt n m ≡ true → number_cmp m n ≡ Less
+is_above n m h = grind (arith, h)
 
-module _ (s : Store) (index : ByNumber) (keyed : IsKeyedStore s) (was : IsIndexed s index) (n : ℕ) (above : List (ℕ × PieceName)) (are : AreAbove index n above) where
-  is_above : (m : ℕ) → nat_lt n m ≡ true → number_cmp m n ≡ Less
-  is_above m h = grind (arith, h)
+above_is : (n m : ℕ) → number_cmp m n ≡ Less → nat_lt n m ≡ true
+above_is n m h = grind (arith, h)
 
+not_less : (a b : ℕ) → is_lt (number_cmp a b) ≡ false → a ≤ b
+not_less a b h = grind (arith, h)
+
+not_greater : (a b : ℕ) → a ≤ b → is_gt (nat_cmp a b) ≡ false
+not_greater a b l = grind (arith, l)
+
+module _ (s : Store) (index : ByNumber) (keyed : IsKeyedStore s) (was : IsIndexed s index) (n : ℕ) where
   -- a piece above is in the index, above
-  above_listed : (p : Numbered) → Among p (pieces_above n s) → (number_cmp p.number n ≡ Less) × (q : PieceName) × (tree.get number_cmp index p.number ≡ Some q)
+  above_listed : (p : Numbered) → Among p (pieces_above n s) → (number_cmp p.number n ≡ Less) × (q : PieceName) × (get number_cmp index p.number ≡ Some q)
   above_listed p m =
       let both = among-filter (λ (p : Numbered). nat_lt n p.number) (finite.values s) p m in
       let v = valued (finite.entries s) p both.0 in
       let here = get_entry key_total key_exact s v.0 p v.1 in
-      (is_above p.number both.1, name_of p.change, was.listed v.0 p here)
+      (is_above n p.number both.1, name_of p.change, was.listed v.0 p here)
 
-  pub none_above : above ≡ [] → IsFirst by_number (pieces_above n s) None
-  none_above e = empty (pieces_above n s) (λ p m. let x = above_listed p m in not_both (tree.get number_cmp index p.number) x.1 x.2 (are.5 e p.number (tt, x.0)))
+  -- the greatest number comes first, so those above stand before
+  pub none_above : IsLastBefore number_cmp n index None → IsFirst by_number (pieces_above n s) None
+  none_above none = empty (pieces_above n s) (λ p m. let x = above_listed p m in not_both (get number_cmp index p.number) x.1 x.2 (none p.number x.0))
     where
       not_both : (o : Option PieceName) (q : PieceName) → o ≡ Some q → o ≡ None → ⊥
       not_both o q e f = cc
@@ -67,10 +72,7 @@ module _ (s : Store) (index : ByNumber) (keyed : IsKeyedStore s) (was : IsIndexe
       empty [] h = refl
       empty (p ∷ ps) h = absurd (h p (inl refl))
 
-  module _ (m : ℕ) (q : PieceName) (rest : List (ℕ × PieceName)) (e : above ≡ rest ++ (m, q) ∷ []) where
-    last : IsEntryInRange number_cmp Unbounded (Excluded n) index (m, q)
-    last = are.3 (m, q) rest e
-
+  module _ (m : ℕ) (q : PieceName) (last : IsLastBefore number_cmp n index (Some (m, q))) where
     pub stands_next : number_at s q.key ≡ Some m
     stands_next =
         let w = was.right m q last.1 in
@@ -80,19 +82,10 @@ module _ (s : Store) (index : ByNumber) (keyed : IsKeyedStore s) (was : IsIndexe
     at_least : (p : Numbered) → Among p (pieces_above n s) → m ≤ p.number
     at_least p a =
         let x = above_listed p a in
-        not_less m p.number (are.4 (m, q) rest e p.number (tt, x.0) (ap is_some x.2))
-      where
-        not_less : (a b : ℕ) → is_lt (number_cmp a b) ≡ false → a ≤ b
-        not_less a b h = grind (arith, h)
+        not_less m p.number (last.2 p.number x.0 (ap is_some x.2))
 
     pub first_above : (p : Numbered) → IsPieceOf s m p → IsFirst by_number (pieces_above n s) (Some p)
     first_above p is =
         let among = value_among (finite.entries s) is.1 p (got key_total key_exact s is.1 p is.2) in
-        let high : nat_lt n p.number ≡ true = ap (nat_lt n) is.0 ∙ above_is m last.0.1 in
+        let high : nat_lt n p.number ≡ true = ap (nat_lt n) is.0 ∙ above_is n m last.0 in
         (among_passing (λ (p : Numbered). nat_lt n p.number) (finite.values s) p among high, λ y a. let l = at_least y a in let same = is.0 in not_greater p.number y.number (omega (arith, l, same)))
-      where
-        above_is : (m : ℕ) → number_cmp m n ≡ Less → nat_lt n m ≡ true
-        above_is m h = grind (arith, h)
-
-        not_greater : (a b : ℕ) → a ≤ b → is_gt (nat_cmp a b) ≡ false
-        not_greater a b l = grind (arith, l)

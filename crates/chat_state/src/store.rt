@@ -25,11 +25,10 @@ use chat_buffers::Buffers;
 use chat_change::{Account, Buffer, Change, Moment};
 pub(crate) use form::{form_of, piece_in};
 use number::Number;
-use ordered_maps::{put, take_out};
+use ordered_maps::PackedMap;
 pub use piece::Piece;
 use piece_name::{PieceName, name_of};
 use std::alloc::{AllocError, Global};
-use std::collections::BTreeMap;
 use std::marker::Model;
 
 /// The numbered pieces of many buffers, one for each key at most. Each is found by its number. They are seen as one store.
@@ -38,7 +37,7 @@ pub(crate) struct Store {
     alloc: Global,
     buffers: Buffers,
     // what the piece of each number is known by
-    index: BTreeMap<Number, PieceName>,
+    index: PackedMap<Number, PieceName>,
 }
 
 impl Model for Store {
@@ -62,7 +61,7 @@ impl Store {
         Store {
             alloc,
             buffers: Buffers::new(alloc),
-            index: BTreeMap::new(alloc),
+            index: PackedMap::new(alloc),
         }
     }
 
@@ -149,16 +148,16 @@ impl Store {
             drop(change);
             return false;
         };
-        if !put(&mut self.index, Number::of(number), name) {
+        if !self.index.put(Number::of(number), name) {
             drop(change);
             return false;
         }
         let Ok(before) = self.buffers.enter(number, change) else {
-            take_out(&mut self.index, &Number::of(number));
+            self.index.take_out(&Number::of(number));
             return false;
         };
         if let Some(before) = before {
-            take_out(&mut self.index, &Number::of(before));
+            self.index.take_out(&Number::of(before));
         }
         true
     }
@@ -200,7 +199,7 @@ impl Store {
         ensures { IsFloorSwept buffer.now floor self.old self.new }
     {
         if let Some(gone) = self.buffers.remove_floor_to(buffer, floor) {
-            take_out(&mut self.index, &Number::of(gone));
+            self.index.take_out(&Number::of(gone));
         }
     }
 
@@ -219,7 +218,7 @@ impl Store {
     {
         match self.buffers.remove_first_below(buffer, floor) {
             Some(gone) => {
-                take_out(&mut self.index, &Number::of(gone));
+                self.index.take_out(&Number::of(gone));
                 true
             }
             None => false,

@@ -17,8 +17,8 @@ use Rattle.worker_io.specs.Timers.{Timers, IsFrom, IsLaterThan}
 use Rattle.worker_io.proofs.OrderLemmas.{timer_total, timer_exact, same_timer, same_timer_is, same_timer_itself, same_due}
 
 -- the moment of a timer, as it is found
-pub found : (moments : Moments) (s : Timers) (k : Timer) → held_by moments ≡ s → tree.get timer_cmp moments k ≡ finite.get s k
-found moments s k is = sym (get-held_by timer_total moments k) ∙ ap (λ (x : Timers). finite.get x k) is
+pub found : (moments : Moments) (s : Timers) (k : Timer) → held_by moments.entries ≡ s → tree.get timer_cmp moments k ≡ finite.get s k
+found moments s k is = sym (get-held_by timer_total moments.entries k) ∙ ap (λ (x : Timers). finite.get x k) is
 
 -- the order after a timer at a moment came in, or went
 abbrev pub Turns : Dues → ℕ → Timer → Bool → Dues → Type 0
@@ -45,7 +45,7 @@ module _ (m n : Dues) (at : ℕ) (k : Timer) (b : Bool) (up : Turns m at k b n) 
 settled : (m u : Dues) (ids jds : Moments) (k : Timer) (v : Option ℕ)
     → ((t : ℕ) (j : Timer) → same_timer k j ≡ false → sorted.contains due_cmp u (due t j) ≡ sorted.contains due_cmp m (due t j))
     → ((t : ℕ) → sorted.contains due_cmp u (due t k) ≡ is_then t v)
-    → IsSetTo timer_cmp ids k v jds → Agree m ids → Agree u jds
+    → IsSetTo timer_cmp ids.entries k v jds.entries → Agree m ids → Agree u jds
 settled m u ids jds k v elsewhere here stands a t j = by (same_timer k j) refl
   where
     by : (b : Bool) → same_timer k j ≡ b → sorted.contains due_cmp u (due t j) ≡ is_then t (tree.get timer_cmp jds j)
@@ -64,7 +64,7 @@ itself t = grind arith
 
 -- a timer comes to its moment
 module _ (m n : Dues) (ids jds : Moments) (a : Agree m ids) (k : Timer) (at : ℕ)
-    (up : Turns m at k true n) (stands : IsWith timer_cmp ids k at jds) where
+    (up : Turns m at k true n) (stands : IsWith timer_cmp ids.entries k at jds.entries) where
   there : (t : ℕ) (o : Option ℕ) → tree.get timer_cmp ids k ≡ o → sorted.contains due_cmp n (due t k) ≡ cond (nat_eq at t) true (is_then t o)
   there t o e = turned_here m n at k true up t ∙ ap (cond (nat_eq at t) true) (a t k ∙ ap (is_then t) e)
 
@@ -115,7 +115,7 @@ restored m n u ids jds a k at up down none same t j = back (same_timer k j) refl
 
 -- a timer goes
 pub gone_agree : (m u : Dues) (ids jds : Moments) → Agree m ids → (k : Timer) (at : ℕ) → Turns m at k false u
-    → tree.get timer_cmp ids k ≡ Some at → IsWithout timer_cmp ids k jds → Agree u jds
+    → tree.get timer_cmp ids k ≡ Some at → IsWithout timer_cmp ids.entries k jds.entries → Agree u jds
 gone_agree m u ids jds a k at out is stands =
     settled m u ids jds k None (turned_elsewhere m u at k false out)
     (λ t. turned_here m u at k false out t ∙ ap (cond (nat_eq at t) false) (a t k ∙ ap (is_then t) is) ∙ now (nat_eq at t) t refl) stands a
@@ -138,11 +138,11 @@ not_after : (a b : ℕ) (o : Ordering) → is_gt (ordering_then (nat_cmp a b) o)
 not_after a b o h = grind (arith, h)
 
 -- each timer that is set stands in the order
-pub stands_in : (m : Dues) (ids : Moments) → Agree m ids → (t : ℕ) (k : Timer) → finite.get (held_by {R = timer_cmp} ids) k ≡ Some t → sorted.contains due_cmp m (due t k) ≡ true
-stands_in m ids a t k e = a t k ∙ ap (is_then t) (sym (get-held_by timer_total ids k) ∙ e) ∙ itself t
+pub stands_in : (m : Dues) (ids : Moments) → Agree m ids → (t : ℕ) (k : Timer) → finite.get (held_by {R = timer_cmp} ids.entries) k ≡ Some t → sorted.contains due_cmp m (due t k) ≡ true
+stands_in m ids a t k e = a t k ∙ ap (is_then t) (sym (get-held_by timer_total ids.entries k) ∙ e) ∙ itself t
 
 -- and none is due before the first
-pub from_least : (m : Dues) (ids : Moments) → Agree m ids → (first : Due) → sorted.IsLowerBound due_cmp m first → IsFrom first.at (held_by ids)
+pub from_least : (m : Dues) (ids : Moments) → Agree m ids → (first : Due) → sorted.IsLowerBound due_cmp m first → IsFrom first.at (held_by ids.entries)
 from_least m ids a first least k u e = not_after first.at u _ (least (due u k) (stands_in m ids a u k e))
 
 found_in : (q : Due) (m : Dues) (ks : List Due) → m.keys ≡ ks → sorted.contains due_cmp m q ≡ true → 0 < length ks
@@ -157,10 +157,10 @@ none_set m ids a none k = by (tree.get timer_cmp ids k) refl
     by None e = refl
     by (Some u) e = absurd (none (found_in (due u k) m m.keys refl (a u k ∙ ap (is_then u) e ∙ itself u)))
 
-pub empty_of : (m : Dues) (ids : Moments) → Agree m ids → (0 < length m.keys → ⊥) → held_by {R = timer_cmp} ids ≡ finite.empty
+pub empty_of : (m : Dues) (ids : Moments) → Agree m ids → (0 < length m.keys → ⊥) → held_by {R = timer_cmp} ids.entries ≡ finite.empty
 empty_of m ids a none =
-    finite.same_map timer_total timer_exact (held_by ids) finite.empty (λ q.
-    get-held_by timer_total ids q ∙ none_set m ids a none q ∙ sym (finite.get-empty timer_cmp q))
+    finite.same_map timer_total timer_exact (held_by ids.entries) finite.empty (λ q.
+    get-held_by timer_total ids.entries q ∙ none_set m ids a none q ∙ sym (finite.get-empty timer_cmp q))
 
-pub later_of_none : (m : Dues) (ids : Moments) → Agree m ids → (0 < length m.keys → ⊥) → (t : ℕ) → IsLaterThan t (held_by ids)
-later_of_none m ids a none t k u e = cc (sym (get-held_by timer_total ids k ∙ none_set m ids a none k) ∙ e)
+pub later_of_none : (m : Dues) (ids : Moments) → Agree m ids → (0 < length m.keys → ⊥) → (t : ℕ) → IsLaterThan t (held_by ids.entries)
+later_of_none m ids a none t k u e = cc (sym (get-held_by timer_total ids.entries k ∙ none_set m ids a none k) ∙ e)

@@ -29,7 +29,7 @@ impl Model for Timers {
 
     ghost coded = { spec.coded_timers };
 
-    ghost view = { λ t. held_by t.moments };
+    ghost view = { λ t. held_by t.moments.entries };
 
     ghost invariant = { λ t. Agree t.order t.moments };
 }

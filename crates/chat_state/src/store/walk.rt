@@ -15,7 +15,6 @@ use crate::store::piece::Piece;
 use crate::store::piece_name::PieceName;
 use chat_buffers::MessageRef;
 use chat_change::{Buffer, ChangeRef, Extent, Key, MsgId};
-use std::ops::Bound;
 
 impl Store {
     /// The piece with the least number above another. It takes no memory.
@@ -24,9 +23,8 @@ impl Store {
             (option_map numbered_of result) }
     {
         let key = Number::of(number);
-        // the greatest number comes first, so those above stand before
-        let mut above = self.index.range((Bound::Unbounded, Bound::Excluded(&key)));
-        match above.next_back() {
+        // the greatest number comes first, so the least above is the last before
+        match self.index.last_before(&key) {
             Some((next, name)) => Some(self.piece_at(next.value(), name)),
             None => None,
         }

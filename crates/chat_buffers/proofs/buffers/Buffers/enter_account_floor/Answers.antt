@@ -11,7 +11,7 @@ use Rattle.chat_buffers.proofs.buffers.Buffers.enter_account_floor.Goals as goal
 
 -- where the floor found no room
 pub invariant_of-self : goal.invariant_of-self
-invariant_of-self c = subst (λ es. IsKeyedStore (store_in (map.from_entries es) (held_by c.self.inside.held))) (sym c.in_err-before.ensures.refused) c.self.invariant
+invariant_of-self c = subst (λ es. IsKeyedStore (store_in (map.from_entries es) (held_by c.self.inside.held.entries))) (sym c.in_err-before.ensures.refused) c.self.invariant
 
 pub invariant_of-self-2 : goal.invariant_of-self-2
 invariant_of-self-2 c =

@@ -22,7 +22,7 @@ module _ (ac : Accounts) (bs : Tree) (s : Store) (is : seen ac bs ≡ s) (x : Ch
       ∙ ap (λ p. cond (same_key k (key_of x)) (Some (record { number = n; change = x })) (beside x p))
       (nothing (floor_around ac b) k ∙ sym (absent k (e ∙ at)) ∙ has_here ac bs s b (tree.get buffer_cmp bs b) is refl k (e ∙ at))
 
-  first_entered : FitsStore s x → ((f : ℕ) → Fits f h x → Settles f (Some h) n x w) → (new : Tree) → IsWith buffer_cmp bs b w new → IsEntered (seen ac bs) n x (seen ac new)
+  first_entered : FitsStore s x → ((f : ℕ) → Fits f h x → Settles f (Some h) n x w) → (new : Tree) → IsWith buffer_cmp bs.entries b w new.entries → IsEntered (seen ac bs) n x (seen ac new)
   first_entered fits settles new up =
       let f = floor_around ac b in
       let fit = fits_from s f h b (own_account ac bs s b.account is) (λ k e. absent k e ∙ sym (nothing f k)) x at fits in
@@ -30,7 +30,7 @@ module _ (ac : Accounts) (bs : Tree) (s : Store) (is : seen ac bs ≡ s) (x : Ch
 
 -- where the buffer found no room
 pub invariant_of-self : goal.invariant_of-self
-invariant_of-self c = subst (λ es. IsKeyedStore (store_in (held_by c.self.inside.accounts) (map.from_entries es))) (sym (c.if-not-put.ensures.refused refl)) c.self.invariant
+invariant_of-self c = subst (λ es. IsKeyedStore (store_in (held_by c.self.inside.accounts.entries) (map.from_entries es))) (sym (c.if-not-put.ensures.refused refl)) c.self.invariant
 
 pub invariant_of-self-2 : goal.invariant_of-self-2
 invariant_of-self-2 c =

@@ -17,7 +17,7 @@ use Rattle.chat_buffers.proofs.buffers.Buffers.enter_in_buffer.Goals as goal
 
 -- a piece of a buffer of which something was held
 held_entered : (ac : Accounts) (bs : Tree) (s : Store) → seen ac bs ≡ s → (x : Change) (n : ℕ) (b : Buffer) → key_extent (key_of x) ≡ OfBuffer b → (h w : Held) → tree.get buffer_cmp bs b ≡ Some h
-    → FitsStore s x → ((f : ℕ) → Fits f h x → Settles f (Some h) n x w) → (new : Tree) → IsWith buffer_cmp bs b w new → IsEntered (seen ac bs) n x (seen ac new)
+    → FitsStore s x → ((f : ℕ) → Fits f h x → Settles f (Some h) n x w) → (new : Tree) → IsWith buffer_cmp bs.entries b w new.entries → IsEntered (seen ac bs) n x (seen ac new)
 held_entered ac bs s is x n b at h w has fits settles new up =
     let f = floor_around ac b in
     let fit = fits_from s f h b (own_account ac bs s b.account is) (has_here ac bs s b (Some h) is has) x at fits in
@@ -61,7 +61,7 @@ invariant_of-self-2 c =
     let w = c.settle.new.held in
     let here : tree.get buffer_cmp bs b ≡ Some h = search rules in
     let new = c.get_mut.follows.lender w in
-    let up : IsWith buffer_cmp bs b w new = ((c.get_mut.follows.holds w).3 (search rules)).0 in
+    let up : IsWith buffer_cmp bs.entries b w new.entries = ((c.get_mut.follows.holds w).3 (search rules)).0 in
     elim c.settle.result as (λ t. c.settle.result ≡ t → IsKeyedStore (seen ac new)) [
       | Ok n ↦ λ e.
           let settled = subst (λ t. OnOk t ((f : ℕ) → Fits f h x → Settles f (Some h) c.args.number x w)) e c.settle.ensures.settled in
@@ -90,7 +90,7 @@ returns-clause-entered c =
     let w = c.settle.new.held in
     let here : tree.get buffer_cmp bs b ≡ Some h = search rules in
     let new = c.get_mut.follows.lender w in
-    let up : IsWith buffer_cmp bs b w new = ((c.get_mut.follows.holds w).3 (search rules)).0 in
+    let up : IsWith buffer_cmp bs.entries b w new.entries = ((c.get_mut.follows.holds w).3 (search rules)).0 in
     on_ok_weaker c.settle.result
     (λ settled. subst (λ s. IsEntered s c.args.number x (seen ac new)) c.self.view_is (held_entered ac bs c.args.self.now c.self.view_is x c.args.number b at h w here c.requires.fits settled new up)) c.settle.ensures.settled
 
@@ -104,5 +104,5 @@ returns-clause-refused c =
     let w = c.settle.new.held in
     let here : tree.get buffer_cmp bs b ≡ Some h = search rules in
     let new = c.get_mut.follows.lender w in
-    let up : IsWith buffer_cmp bs b w new = ((c.get_mut.follows.holds w).3 (search rules)).0 in
+    let up : IsWith buffer_cmp bs.entries b w new.entries = ((c.get_mut.follows.holds w).3 (search rules)).0 in
     on_err_weaker c.settle.result (λ e. unchanged_store ac bs new b w (here ∙ ap Some (sym e)) up ∙ c.self.view_is) c.settle.ensures.refused

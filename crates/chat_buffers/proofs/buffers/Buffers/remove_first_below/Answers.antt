@@ -30,7 +30,7 @@ invariant_of-self-2 c =
     let w = record h { messages = c.remove_first_below.new.self } in
     let new = c.get_mut.follows.lender w in
     let here : tree.get buffer_cmp bs b ≡ Some h = search rules in
-    let up : IsWith buffer_cmp bs b w new = ((c.get_mut.follows.holds w).3 (search rules)).0 in
+    let up : IsWith buffer_cmp bs.entries b w new.entries = ((c.get_mut.follows.holds w).3 (search rules)).0 in
     elim c.remove_first_below.result as (λ o. c.remove_first_below.result ≡ o → IsKeyedStore (seen ac new)) [
       | None ↦ λ e.
           subst IsKeyedStore (sym (unchanged_store ac bs new b w (here ∙ (λ i. Some (record h { messages = sym (c.remove_first_below.ensures.kept e) i }))) up)) c.self.invariant
@@ -49,7 +49,7 @@ returns-clause-one c =
     let w = record h { messages = c.remove_first_below.new.self } in
     let new = c.get_mut.follows.lender w in
     let here : tree.get buffer_cmp bs b ≡ Some h = search rules in
-    let up : IsWith buffer_cmp bs b w new = ((c.get_mut.follows.holds w).3 (search rules)).0 in
+    let up : IsWith buffer_cmp bs.entries b w new.entries = ((c.get_mut.follows.holds w).3 (search rules)).0 in
     elim c.remove_first_below.result as (λ o. c.remove_first_below.result ≡ o → IfSome o (λ n. TakesOne c.args.self.now b c.args.floor n (seen ac new))) [
       | None ↦ λ _. tt
       | Some n ↦ λ e.
@@ -67,9 +67,9 @@ returns-clause-done c none =
     let w = record h { messages = c.remove_first_below.new.self } in
     let new = c.get_mut.follows.lender w in
     let here : tree.get buffer_cmp bs b ≡ Some h = search rules in
-    let up : IsWith buffer_cmp bs b w new = ((c.get_mut.follows.holds w).3 (search rules)).0 in
+    let up : IsWith buffer_cmp bs.entries b w new.entries = ((c.get_mut.follows.holds w).3 (search rules)).0 in
     let same = unchanged_store ac bs new b w (here ∙ (λ i. Some (record h { messages = sym (c.remove_first_below.ensures.kept none) i }))) up in
-    swept_here ac new (subst IsKeyedStore (sym same) c.self.invariant) b w (written buffer_total bs new b w up) c.args.floor (c.remove_first_below.ensures.done none)
+    swept_here ac new (subst IsKeyedStore (sym same) c.self.invariant) b w (written buffer_total bs.entries new.entries b w up) c.args.floor (c.remove_first_below.ensures.done none)
 
 pub returns-clause-kept : goal.returns-clause-kept
 returns-clause-kept c none =
@@ -80,5 +80,5 @@ returns-clause-kept c none =
     let w = record h { messages = c.remove_first_below.new.self } in
     let new = c.get_mut.follows.lender w in
     let here : tree.get buffer_cmp bs b ≡ Some h = search rules in
-    let up : IsWith buffer_cmp bs b w new = ((c.get_mut.follows.holds w).3 (search rules)).0 in
+    let up : IsWith buffer_cmp bs.entries b w new.entries = ((c.get_mut.follows.holds w).3 (search rules)).0 in
     unchanged_store ac bs new b w (here ∙ (λ i. Some (record h { messages = sym (c.remove_first_below.ensures.kept none) i }))) up ∙ c.self.view_is

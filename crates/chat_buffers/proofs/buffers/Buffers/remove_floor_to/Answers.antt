@@ -32,7 +32,7 @@ invariant_of-self-2 c =
     let w = record h { floor = c.take_floor_to.new.own } in
     let new = c.get_mut.follows.lender w in
     let here : tree.get buffer_cmp bs b ≡ Some h = search rules in
-    let up : IsWith buffer_cmp bs b w new = ((c.get_mut.follows.holds w).3 (search rules)).0 in
+    let up : IsWith buffer_cmp bs.entries b w new.entries = ((c.get_mut.follows.holds w).3 (search rules)).0 in
     let reached = subst (λ x. c.args.floor ≤ x) (own_account ac bs c.args.self.now b.account c.self.view_is) c.requires.reached in
     elim c.take_floor_to.result as (λ o. c.take_floor_to.result ≡ o → IsKeyedStore (seen ac new)) [
       | None ↦ λ e. subst IsKeyedStore (sym (unchanged_store ac bs new b w (here ∙ (λ i. Some (record h { floor = sym (c.take_floor_to.ensures.kept e) i }))) up)) c.self.invariant
@@ -51,7 +51,7 @@ returns-clause-one c =
     let w = record h { floor = c.take_floor_to.new.own } in
     let new = c.get_mut.follows.lender w in
     let here : tree.get buffer_cmp bs b ≡ Some h = search rules in
-    let up : IsWith buffer_cmp bs b w new = ((c.get_mut.follows.holds w).3 (search rules)).0 in
+    let up : IsWith buffer_cmp bs.entries b w new.entries = ((c.get_mut.follows.holds w).3 (search rules)).0 in
     let reached = subst (λ x. c.args.floor ≤ x) (own_account ac bs c.args.self.now b.account c.self.view_is) c.requires.reached in
     elim c.take_floor_to.result as (λ o. c.take_floor_to.result ≡ o → IfSome o (λ n. TakesFloor c.args.self.now b c.args.floor n (seen ac new))) [
       | None ↦ λ _. tt
@@ -70,8 +70,8 @@ returns-clause-done c none =
     let w = record h { floor = c.take_floor_to.new.own } in
     let new = c.get_mut.follows.lender w in
     let here : tree.get buffer_cmp bs b ≡ Some h = search rules in
-    let up : IsWith buffer_cmp bs b w new = ((c.get_mut.follows.holds w).3 (search rules)).0 in
-    floor_above ac new b w (written buffer_total bs new b w up) c.args.floor (c.take_floor_to.ensures.done none)
+    let up : IsWith buffer_cmp bs.entries b w new.entries = ((c.get_mut.follows.holds w).3 (search rules)).0 in
+    floor_above ac new b w (written buffer_total bs.entries new.entries b w up) c.args.floor (c.take_floor_to.ensures.done none)
 
 pub returns-clause-kept : goal.returns-clause-kept
 returns-clause-kept c none =
@@ -82,5 +82,5 @@ returns-clause-kept c none =
     let w = record h { floor = c.take_floor_to.new.own } in
     let new = c.get_mut.follows.lender w in
     let here : tree.get buffer_cmp bs b ≡ Some h = search rules in
-    let up : IsWith buffer_cmp bs b w new = ((c.get_mut.follows.holds w).3 (search rules)).0 in
+    let up : IsWith buffer_cmp bs.entries b w new.entries = ((c.get_mut.follows.holds w).3 (search rules)).0 in
     unchanged_store ac bs new b w (here ∙ (λ i. Some (record h { floor = sym (c.take_floor_to.ensures.kept none) i }))) up ∙ c.self.view_is

@@ -22,5 +22,5 @@ returns c =
     let now = c.args.self.now in
     kept_alike (flip_args by_spot) (λ (r : Record). p (of_record r)) now c.over.result (is_until end) (λ r _. within_end end (of_record r))
     (subst (λ (ms : Messages). AreKept (flip_args by_spot) (λ r. p (of_record r)) ms c.over.result) c.self.view_is
-    (range_kept c.self.inside.by_spot c.self.inside.by_id c.self.invariant c.range.ensures.ordered p c.over.result
-    (c.over.ensures ∙ ap values_of (c.range.ensures.between tt))))
+    (range_kept c.self.inside.by_spot c.self.inside.by_id c.self.invariant c.from.ensures.ordered p c.over.result
+    (c.over.ensures ∙ ap values_of (c.from.ensures.between))))

@@ -1,26 +1,28 @@
-use Rattle.std.proofs.Common.{rules, tests, ◌≡◌, ◌∙◌, None, refl, sym}
-use Rattle.std.specs.BTreeMap as tree
-use Rattle.std.specs.Map.Iter.{deref}
-use Rattle.std.specs.Ordering.{eq_by_cmp}
+use Rattle.std.proofs.Common.{rules, tests, ◌∙◌, sym, ap}
+use Rattle.std.specs.Map.Iter.{deref_pair}
+use Rattle.std.specs.Option.{option_map}
 use Rattle.std.proofs.lemmas.Iterator.Search.{find_from_yields_List}
 use Rattle.std.proofs.lemmas.Iterator.Consumers.{YieldsList-from_rest}
-use Rattle.chat_change.specs.Order.{id_cmp}
 use Rattle.chat_change.proofs.CallerLemmas.{id_total, id_exact}
-use Rattle.chat_buffers.proofs.FindingLemmas.{is_sought, is_absent}
+use Rattle.chat_buffers.proofs.CursorLemmas.{filter_all}
+use Rattle.chat_buffers.proofs.FindingLemmas.{at_key, is_at_sought, none_at}
 use Rattle.chat_buffers.proofs.StepLemmas.{found}
 use Rattle.chat_buffers.proofs.messages.Messages.find_id.Goals as goal
+
+pub returns-in_err-id-clause-none : goal.returns-in_err-id-clause-none
+returns-in_err-id-clause-none c _ =
+    let bytes = c.args.bytes.now in
+    let ids = c.self.inside.by_id in
+    let first =
+    find_from_yields_List (at_key id_total id_exact bytes) _ _ c.find.result c.find.ensures.ran
+    (YieldsList-from_rest {shows = deref_pair} _ (c.from-entries.ensures.between ∙ filter_all ids)) (λ x b q k. search (rules, tests)) in
+    sym (found ids c.args.self.now bytes c.self.view_is) ∙ none_at id_total id_exact bytes ids (sym (ap (option_map deref_pair) c.in_err-id.was) ∙ first)
 
 pub returns-clause-found : goal.returns-clause-found
 returns-clause-found c =
     let bytes = c.args.bytes.now in
-    is_sought id_total id_exact c.find.result bytes c.keys.result
-    (find_from_yields_List (eq_by_cmp id_cmp bytes) _ _ c.find.result c.find.ensures.ran (YieldsList-from_rest {shows = deref} c.keys.result refl) (λ x b q k. search (rules, tests)))
-
-pub returns-clause-none : goal.returns-clause-none
-returns-clause-none c none =
-    let bytes = c.args.bytes.now in
-    let gone : tree.get id_cmp c.self.inside.by_id bytes ≡ None =
-    is_absent id_total id_exact c.find.result bytes c.keys.result (tree.get id_cmp c.self.inside.by_id bytes)
-    (find_from_yields_List (eq_by_cmp id_cmp bytes) _ _ c.find.result c.find.ensures.ran (YieldsList-from_rest {shows = deref} c.keys.result refl) (λ x b q k. search (rules, tests)))
-    (c.keys.ensures.has bytes) none in
-    sym (found c.self.inside.by_id c.args.self.now bytes c.self.view_is) ∙ gone
+    let ids = c.self.inside.by_id in
+    let first =
+    find_from_yields_List (at_key id_total id_exact bytes) _ _ c.find.result c.find.ensures.ran
+    (YieldsList-from_rest {shows = deref_pair} _ (c.from-entries.ensures.between ∙ filter_all ids)) (λ x b q k. search (rules, tests)) in
+    is_at_sought id_total id_exact bytes (deref_pair (c.in_ok-id.id, c.in_ok-id.field-0-1)) ids (sym (ap (option_map deref_pair) c.in_ok-id.was) ∙ first)

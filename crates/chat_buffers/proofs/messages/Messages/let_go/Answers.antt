@@ -16,14 +16,14 @@ pub invariant_of-self : goal.invariant_of-self
 invariant_of-self c =
     let ids = c.self.inside.by_id in
     let kept = ap kept_moment (found ids c.args.self.now c.args.id c.self.view_is) ∙ c.requires.kept in
-    let stands : IsWith id_cmp ids c.args.id (held_message.Gone c.args.at c.args.number) c.overwrite.new.map =
-    subst (λ t. IsWith id_cmp ids c.args.id (held_message.Gone t c.args.number) c.overwrite.new.map) c.new.ensures c.overwrite.ensures in
-    gone_agree c.self.inside.by_spot ids c.overwrite.new.map c.self.invariant c.args.id c.args.at c.args.number stands c.take_out.new.map c.args.stood kept c.take_out.ensures
+    let stands : IsWith id_cmp ids c.args.id (held_message.Gone c.args.at c.args.number) c.overwrite.new.self =
+    subst (λ t. IsWith id_cmp ids c.args.id (held_message.Gone t c.args.number) c.overwrite.new.self) c.new.ensures c.overwrite.ensures in
+    gone_agree c.self.inside.by_spot ids c.overwrite.new.self c.self.invariant c.args.id c.args.at c.args.number stands c.take_out.new.self c.args.stood kept c.take_out.ensures
 
 pub returns : goal.returns
 returns c =
     let ids = c.self.inside.by_id in
-    let stands : IsWith id_cmp ids c.args.id (held_message.Gone c.args.at c.args.number) c.overwrite.new.map =
-    subst (λ t. IsWith id_cmp ids c.args.id (held_message.Gone t c.args.number) c.overwrite.new.map) c.new.ensures c.overwrite.ensures in
-    inserted id_total id_exact ids c.overwrite.new.map c.args.id (held_message.Gone c.args.at c.args.number) stands
+    let stands : IsWith id_cmp ids c.args.id (held_message.Gone c.args.at c.args.number) c.overwrite.new.self =
+    subst (λ t. IsWith id_cmp ids c.args.id (held_message.Gone t c.args.number) c.overwrite.new.self) c.new.ensures c.overwrite.ensures in
+    inserted id_total id_exact ids c.overwrite.new.self c.args.id (held_message.Gone c.args.at c.args.number) stands
     ∙ ap (λ (s : Messages). map.insert s c.args.id (held_message.Gone c.args.at c.args.number)) c.self.view_is

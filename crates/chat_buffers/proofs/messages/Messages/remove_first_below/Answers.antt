@@ -1,10 +1,9 @@
-use Rattle.std.proofs.Common.{rules, ◌≡◌, ◌≤◌, ◌<◌, ◌∙◌, refl, sym, ap, subst, Some, None, true, false, arith}
+use Rattle.std.proofs.Common.{rules, ◌≡◌, ◌≤◌, ◌<◌, ◌∙◌, refl, sym, ap, subst, Some, None, arith}
 use Rattle.std.specs.FinMap as map
-use Rattle.std.specs.BTreeMap as tree
 use Rattle.std.specs.Option.{IfSome, option_map}
 use Rattle.chat_change.specs.Order.{id_cmp}
 use Rattle.chat_change.proofs.CallerLemmas.{id_total, id_exact}
-use Rattle.ordered_maps.specs.MapView.{held_by, IsWithout}
+use Rattle.ordered_maps.specs.MapView.{held_by, get, IsWithout}
 use Rattle.ordered_maps.proofs.CallerLemmas.{removed}
 use Rattle.chat_buffers.specs.Messages.{Messages, number_of, IsFrom, TakesOne}
 use Rattle.chat_buffers.proofs.AgreementLemmas.{its_place}
@@ -14,20 +13,20 @@ use Rattle.chat_buffers.proofs.messages.Messages.remove_first_below.Goals as goa
 pub returns-in-None-clause-done : goal.returns-in-None-clause-done
 returns-in-None-clause-done c _ =
     subst (IsFrom c.args.floor) c.self.view_is
-    (from_empty c.self.inside.by_spot c.self.inside.by_id c.self.invariant c.args.floor (λ h. let is : false ≡ true = c.in-None.ensures.variant.1 h in cc is))
+    (from_empty c.self.inside.by_spot c.self.inside.by_id c.self.invariant c.args.floor (c.in-None.ensures.none refl))
 
 pub returns-then-ms-clause-done : goal.returns-then-ms-clause-done
 returns-then-ms-clause-done c _ =
     let high : c.args.floor ≤ c.in-Some.spot.now.at = search rules in
     subst (IsFrom c.args.floor) c.self.view_is
-    (from_last c.self.inside.by_spot c.self.inside.by_id c.self.invariant c.args.floor c.in-Some.spot.now c.in-Some.ensures.greatest high)
+    (from_last c.self.inside.by_spot c.self.inside.by_id c.self.invariant c.args.floor (c.in-Some.spot.now, c.in-Some.field-0-1.now) c.in-Some.ensures.greatest high)
 
 pub invariant_of-self-2 : goal.invariant_of-self-2
 invariant_of-self-2 c =
     let ids = c.self.inside.by_id in
     let r = c.in_ok-spot.post in
-    let stands : IsWithout id_cmp ids r.id c.take_out.new.map = subst (λ x. IsWithout id_cmp ids x c.take_out.new.map) c.id-2.ensures c.take_out.ensures in
-    taken_agree c.self.inside.by_spot c.pop_last.new.self ids c.take_out.new.map c.self.invariant c.in_ok-spot.spot r c.in_ok-spot.ensures.value c.in_ok-spot.ensures.updates.0 stands
+    let stands : IsWithout id_cmp ids r.id c.take_out.new.self = subst (λ x. IsWithout id_cmp ids x c.take_out.new.self) c.id-2.ensures c.take_out.ensures in
+    taken_agree c.self.inside.by_spot c.pop_last.new.self ids c.take_out.new.self c.self.invariant c.in_ok-spot.spot r c.in_ok-spot.ensures.greatest.value c.in_ok-spot.ensures.without stands
 
 pub returns-clause-one : goal.returns-clause-one
 returns-clause-one c =
@@ -35,21 +34,21 @@ returns-clause-one c =
     let ids = c.self.inside.by_id in
     let k = c.in_ok-spot.spot in
     let r = c.in_ok-spot.post in
-    let new = c.take_out.new.map in
-    let at = c.in_ok-spot.ensures.value in
-    let out = c.in_ok-spot.ensures.updates.0 in
+    let new = c.take_out.new.self in
+    let at = c.in_ok-spot.ensures.greatest.value in
+    let out = c.in_ok-spot.ensures.without in
     let stands : IsWithout id_cmp ids r.id new = subst (λ x. IsWithout id_cmp ids x new) c.id-2.ensures c.take_out.ensures in
-    let number : option_map number_of (tree.get id_cmp ids r.id) ≡ c.number_of-number.result =
-    ap (λ x. option_map number_of (tree.get id_cmp ids x)) (sym c.id.ensures) ∙ sym c.number_of-number.ensures in
+    let number : option_map number_of (get id_cmp ids r.id) ≡ c.number_of-number.result =
+    ap (λ x. option_map number_of (get id_cmp ids x)) (sym c.id.ensures) ∙ sym c.number_of-number.ensures in
     let low : c.in-Some.spot.now.at < c.args.floor = search rules in
-    let under = not_after k c.in-Some.spot.now (c.in_ok-spot.ensures.greatest c.in-Some.spot.now (search rules)) in
+    let under = not_after k c.in-Some.spot.now (c.in_ok-spot.ensures.greatest.above c.in-Some.spot.now (search rules)) in
     let same : k.at ≡ r.at = ap (λ s. s.at) (its_place m ids c.self.invariant k r at) in
     elim c.number_of-number.result as (λ o. c.number_of-number.result ≡ o → IfSome o (λ n. TakesOne c.args.self.now c.args.floor n (held_by new))) [
       | None ↦ λ _. tt
       | Some n ↦ λ g. record {
         post = r;
         low = (let l : r.at < c.args.floor = omega (arith, low, under, same) in l);
-        was = sym (found ids c.args.self.now r.id c.self.view_is) ∙ was_kept m c.pop_last.new.self ids new c.self.invariant k r at out stands n (tree.get id_cmp ids r.id) refl (number ∙ g);
+        was = sym (found ids c.args.self.now r.id c.self.view_is) ∙ was_kept m c.pop_last.new.self ids new c.self.invariant k r at out stands n (get id_cmp ids r.id) refl (number ∙ g);
         left = removed id_total id_exact ids new r.id stands ∙ ap (λ (s : Messages). map.remove s r.id) c.self.view_is;
       }
     ] refl
@@ -60,11 +59,11 @@ returns-clause-done c none =
     let ids = c.self.inside.by_id in
     let k = c.in_ok-spot.spot in
     let r = c.in_ok-spot.post in
-    let new = c.take_out.new.map in
+    let new = c.take_out.new.self in
     let stands : IsWithout id_cmp ids r.id new = subst (λ x. IsWithout id_cmp ids x new) c.id-2.ensures c.take_out.ensures in
-    let number : option_map number_of (tree.get id_cmp ids r.id) ≡ c.number_of-number.result =
-    ap (λ x. option_map number_of (tree.get id_cmp ids x)) (sym c.id.ensures) ∙ sym c.number_of-number.ensures in
-    absurd (was_known m c.pop_last.new.self ids new c.self.invariant k r c.in_ok-spot.ensures.value c.in_ok-spot.ensures.updates.0 stands (tree.get id_cmp ids r.id) refl (number ∙ none))
+    let number : option_map number_of (get id_cmp ids r.id) ≡ c.number_of-number.result =
+    ap (λ x. option_map number_of (get id_cmp ids x)) (sym c.id.ensures) ∙ sym c.number_of-number.ensures in
+    absurd (was_known m c.pop_last.new.self ids new c.self.invariant k r c.in_ok-spot.ensures.greatest.value c.in_ok-spot.ensures.without stands (get id_cmp ids r.id) refl (number ∙ none))
 
 pub returns-clause-kept : goal.returns-clause-kept
 returns-clause-kept c none =
@@ -72,8 +71,8 @@ returns-clause-kept c none =
     let ids = c.self.inside.by_id in
     let k = c.in_ok-spot.spot in
     let r = c.in_ok-spot.post in
-    let new = c.take_out.new.map in
+    let new = c.take_out.new.self in
     let stands : IsWithout id_cmp ids r.id new = subst (λ x. IsWithout id_cmp ids x new) c.id-2.ensures c.take_out.ensures in
-    let number : option_map number_of (tree.get id_cmp ids r.id) ≡ c.number_of-number.result =
-    ap (λ x. option_map number_of (tree.get id_cmp ids x)) (sym c.id.ensures) ∙ sym c.number_of-number.ensures in
-    absurd (was_known m c.pop_last.new.self ids new c.self.invariant k r c.in_ok-spot.ensures.value c.in_ok-spot.ensures.updates.0 stands (tree.get id_cmp ids r.id) refl (number ∙ none))
+    let number : option_map number_of (get id_cmp ids r.id) ≡ c.number_of-number.result =
+    ap (λ x. option_map number_of (get id_cmp ids x)) (sym c.id.ensures) ∙ sym c.number_of-number.ensures in
+    absurd (was_known m c.pop_last.new.self ids new c.self.invariant k r c.in_ok-spot.ensures.greatest.value c.in_ok-spot.ensures.without stands (get id_cmp ids r.id) refl (number ∙ none))

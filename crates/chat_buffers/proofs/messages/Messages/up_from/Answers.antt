@@ -19,11 +19,11 @@ pub returns : goal.returns
 returns c =
     let start : Bound Spot = bound_map (λ (x : Bor Spot). x.now) c.args.start in
     let p : Spot → Bool = λ s. not (is_past_end latest_first start s) in
-    let falling : List Record = values_of c.range.result in
+    let falling : List Record = values_of c.until.result in
     let now = c.args.self.now in
     subst (λ (rs : List Record). AreKept by_spot (is_from start) now rs) (sym c.over.ensures)
     (kept_alike by_spot (λ (r : Record). p (of_record r)) now _ (is_from start) (λ r _. within_start start (of_record r))
     (kept_reversed (flip_args by_spot) (λ (r : Record). p (of_record r)) now falling
     (subst (λ (ms : Messages). AreKept (flip_args by_spot) (λ r. p (of_record r)) ms falling) c.self.view_is
-    (range_kept c.self.inside.by_spot c.self.inside.by_id c.self.invariant c.range.ensures.ordered p falling
-    (ap values_of (c.range.ensures.between tt))))))
+    (range_kept c.self.inside.by_spot c.self.inside.by_id c.self.invariant c.until.ensures.ordered p falling
+    (ap values_of (c.until.ensures.between))))))

@@ -17,10 +17,10 @@ invariant_of-self c =
     let s = c.self.inside.buffers in
     let one = c.in-Some.ensures.one in
     let key = FloorOf (OfBuffer c.args.buffer.now) in
-    let out = changed_at number_cmp c.self.inside.index c.take_out.new.map None c.of.result c.in-Some.gone c.of.ensures c.take_out.ensures in
-    subst (λ x. IsKeyedStore x × IsIndexed x c.take_out.new.map) (sym one.left) (
+    let out = changed_at number_cmp c.self.inside.index c.take_out.new.self None c.of.result c.in-Some.gone c.of.ensures c.take_out.ensures in
+    subst (λ x. IsKeyedStore x × IsIndexed x c.take_out.new.self) (sym one.left) (
       removed_keyed s key c.self.invariant.0,
-      indexed_left s c.self.inside.index c.self.invariant.1 key (record { number = c.in-Some.gone; change = value.Floor c.args.buffer.now one.at }) one.was c.take_out.new.map out,
+      indexed_left s c.self.inside.index c.self.invariant.1 key (record { number = c.in-Some.gone; change = value.Floor c.args.buffer.now one.at }) one.was c.take_out.new.self out,
     )
 
 pub invariant_of-self-in_default : goal.invariant_of-self-in_default

@@ -13,10 +13,10 @@ invariant_of-self c =
 
 pub returns-in-Some : goal.returns-in-Some
 returns-in-Some c =
-    removed timer_total timer_exact c.self.inside.moments c.remove.new.self c.args.timer c.remove.ensures.updates.0
+    removed timer_total timer_exact c.self.inside.moments.entries c.remove.new.self.entries c.args.timer c.remove.ensures.updates.0
     ∙ ap (λ (s : Timers). map.remove s c.args.timer) c.self.view_is
 
 pub returns-in_default : goal.returns-in_default
 returns-in_default c =
-    removed timer_total timer_exact c.self.inside.moments c.remove.new.self c.args.timer c.remove.ensures.updates.0
+    removed timer_total timer_exact c.self.inside.moments.entries c.remove.new.self.entries c.args.timer c.remove.ensures.updates.0
     ∙ ap (λ (s : Timers). map.remove s c.args.timer) c.self.view_is

@@ -30,15 +30,15 @@ invariant_of-self-in_default-before c =
 
 pub returns-then-before-at-clause-set : goal.returns-then-before-at-clause-set
 returns-then-before-at-clause-set c =
-    inserted timer_total timer_exact c.self.inside.moments c.insert-2.new.self c.args.timer c.args.at c.in-Ok-insert.ensures.updates.0
+    inserted timer_total timer_exact c.self.inside.moments.entries c.insert-2.new.self.entries c.args.timer c.args.at c.in-Ok-insert.ensures.updates.0
     ∙ ap (λ (s : Timers). map.insert s c.args.timer c.args.at) c.self.view_is
 
 pub returns-else-before-at-clause-set : goal.returns-else-before-at-clause-set
 returns-else-before-at-clause-set c =
-    inserted timer_total timer_exact c.self.inside.moments c.insert-2.new.self c.args.timer c.args.at c.in-Ok-insert.ensures.updates.0
+    inserted timer_total timer_exact c.self.inside.moments.entries c.insert-2.new.self.entries c.args.timer c.args.at c.in-Ok-insert.ensures.updates.0
     ∙ ap (λ (s : Timers). map.insert s c.args.timer c.args.at) c.self.view_is
 
 pub returns-in_default-before-clause-set : goal.returns-in_default-before-clause-set
 returns-in_default-before-clause-set c =
-    inserted timer_total timer_exact c.self.inside.moments c.insert-2.new.self c.args.timer c.args.at c.in-Ok-insert.ensures.updates.0
+    inserted timer_total timer_exact c.self.inside.moments.entries c.insert-2.new.self.entries c.args.timer c.args.at c.in-Ok-insert.ensures.updates.0
     ∙ ap (λ (s : Timers). map.insert s c.args.timer c.args.at) c.self.view_is

@@ -38,5 +38,5 @@ returns-clause-taken c =
       was = sym (found moments c.args.self.now first.timer c.self.view_is) ∙ its_moment order moments c.self.invariant first.at first.timer c.in_ok-first.ensures.member;
       due = is_due;
       earliest = subst (IsFrom first.at) c.self.view_is (from_least order moments c.self.invariant first c.in_ok-first.ensures.least);
-      left = removed timer_total timer_exact moments c.remove-2.new.self first.timer c.remove-2.ensures.updates.0 ∙ ap (λ (s : Timers). map.remove s first.timer) c.self.view_is;
+      left = removed timer_total timer_exact moments.entries c.remove-2.new.self.entries first.timer c.remove-2.ensures.updates.0 ∙ ap (λ (s : Timers). map.remove s first.timer) c.self.view_is;
     }
