@@ -3,7 +3,7 @@
 runs what it wrote.
 
     ./tables.py          writes data/looks, data/orders, data/long, data/short, data/steps, data/limits, data/floors,
-                         data/states_refused, data/delta_refused
+                         data/pages, data/states_refused, data/delta_refused, data/pages_refused
 """
 
 import itertools
@@ -75,7 +75,7 @@ def stands_after(post, cut):
 def walks_of(model, channel, cuts):
     posts = model.visible(net(channel))
     counts = [sum(stands_after(post, cut) for post in posts) for cut in cuts]
-    return "".join(f"{count}{len(posts) - count}" for count in counts)
+    return "".join(f"{count} {len(posts) - count};" for count in counts)
 
 
 class Case:
@@ -886,6 +886,60 @@ def floors():
     ]
 
 
+# ---- more messages than lie side by side in memory
+
+COUNT = 150
+
+
+def numbered(number, at):
+    """A message whose id rises with its number."""
+    return message("#a", f"m{number:03}", at, "")
+
+
+def outside_in(count):
+    """The first, the last, the second, and so on."""
+    return [number // 2 if number % 2 == 0 else count - 1 - number // 2 for number in range(count)]
+
+
+COMING = {
+    "in the order of their moments": list(range(COUNT)),
+    "the latest first": list(range(COUNT))[::-1],
+    "from both ends": outside_in(COUNT),
+    "from the middle": outside_in(COUNT)[::-1],
+    "in no order": [67 * number % COUNT for number in range(COUNT)],
+}
+
+
+def many_come(name, order, falling):
+    """Messages come in that order, some are redacted, some take another moment, and floors take the rest away part by part.
+    Where `falling`, the ids fall as the moments rise."""
+    moments = [1000 * number for number in range(COUNT)]
+    cuts = cuts_at([0, 63000, 64000, 64500, 128000, 149000], ["m000", "m064", "m085", "m149"])
+    case = Case(f"{COUNT} messages come {name}{', with falling ids' if falling else ''}", ["#a"], ["m000", "m064", "m149"], cuts)
+    posts = [numbered(COUNT - 1 - number if falling else number, moments[number]) for number in order]
+    numbers = case.learn(posts)
+    for first, end in ((0, 63), (63, 64), (64, 65), (65, 128), (128, 129), (129, COUNT)):
+        case.take(numbers[first:end])
+        case.walks()
+        case.front()
+    case.all()
+    case.take(case.learn([redact("#a", post.id) for post in posts[::3]]))
+    case.take(case.learn([post._replace(at=post.at + 200500) for post in posts[1::9]]))
+    case.all()
+    case.newer(COUNT + 20, 300)
+    for at in (500, 40000, 64000, 128000, 149500, 290000):
+        case.absorb(case.learn([floor("#a", at)]))
+        case.walks()
+    case.all()
+    case.take(case.learn([numbered(number + 200, 400000 - number) for number in range(70)]))
+    case.all()
+    return case
+
+
+def pages():
+    return [many_come(name, order, falling) for name, order in COMING.items() for falling in (False, True)]
+
+
 # ---- rows that are refused memory
 
 
@@ -949,6 +1003,17 @@ def copies_are_refused():
     return case
 
 
+def more_than_lie_together():
+    """Messages of which 64 lie side by side in memory: the next ones, and some between them."""
+    case = Refused("a message that comes to many is refused", ["#a"], ["m000", "m063"])
+    numbers = case.learn([numbered(number, 1000 * number) for number in range(0, 126, 2)])
+    case.run([numbers])
+    later = [numbered(number, 1000 * number) for number in (126, 128, 63, 130, 1)]
+    case.absorb(case.learn(later + [redact("#a", "m064"), numbered(2, 500000)]))
+    case.delta(60)
+    return case
+
+
 def delta_of_many():
     """A state with one marker more than a delta has changes, as in the worked example."""
     case = Refused("deltas of 257 markers", ["#0", "#256"], ["m1"])
@@ -967,8 +1032,10 @@ def main():
         "steps": [random_steps(seed, 40) for seed in range(201, 213)],
         "limits": limits(),
         "floors": floors(),
+        "pages": pages(),
         "states_refused": [each_change_grows(), lists_are_taken_in_part(), merges_are_taken_in_part(), copies_are_refused()],
         "delta_refused": [delta_of_many()],
+        "pages_refused": [more_than_lie_together()],
     }
     here = os.path.dirname(os.path.abspath(__file__))
     for name, cases in files.items():

@@ -16,6 +16,7 @@ CALLS = os.path.join(TESTS, "calls")
 ALL = 1 << 30
 ROWS = ((1, ALL), (2, ALL), (3, ALL))
 SAMPLED = ((1, 600), (2, 600), (3, 600))
+ALONE = ((1, ALL),)
 
 
 def refuse(fixture, run, rows=ROWS):
@@ -60,6 +61,7 @@ file_is_right("test_lines", "lines_refused", "5 rows, 0 wrong")
 # (these have rows that say what stands after a refusal)
 file_is_right("test_state", "states_refused", "4 cases, 0 rows wrong")
 file_is_right("test_state", "delta_refused", "1 cases, 0 rows wrong", rows=SAMPLED)
+file_is_right("test_state", "pages_refused", "1 cases, 0 rows wrong", rows=ALONE)
 file_is_right("test_peers", "links_refused", "2 cases of 40 rows, 0 wrong")
 
 

@@ -12,7 +12,7 @@
 //! With `speed` as its first word it measures, by hand, and plays nothing (`speed`).
 //!
 //! A row that is refused memory is played again, once what stands is looked at; it is wrong where a row `stands` says
-//! otherwise. `tests/suites/calls.py` refuses each request of `states_refused` and `delta_refused`.
+//! otherwise. `tests/suites/calls.py` refuses each request of `states_refused`, `delta_refused` and `pages_refused`.
 #![tactic(auto)]
 
 mod acts;

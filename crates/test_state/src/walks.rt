@@ -6,6 +6,7 @@ use chat_change::{Buffer, Moment, MsgId};
 use chat_state::{Cut, Down, Spot, State, Up};
 use std::alloc::{AllocError, Global};
 use std::io;
+use std::io::Write;
 
 /// The texts of all records of a channel, upwards and downwards.
 #[derive(Drop)]
@@ -25,17 +26,25 @@ fn whole_of(alloc: Global, state: &State, buffer: &Buffer) -> io::Result<Whole> 
 }
 
 // How many records there are in a text, if they are the last ones of the whole.
-fn digit_of(whole: &[u8], part: &[u8]) -> u8 {
+fn count_of(whole: &[u8], part: &[u8]) -> Option<usize> {
     if !whole.ends_with(part) {
-        return b'?';
+        return None;
     }
-    let mut digit = b'0';
+    let mut count: usize = 0;
     for byte in part {
         if *byte == b';' {
-            digit = digit.saturating_add(1);
+            count = count.saturating_add(1);
         }
     }
-    digit
+    Some(count)
+}
+
+// Writes how many records there are in a text, or that they aren't the last ones of the whole.
+fn put_count(whole: &[u8], part: &[u8], out: &mut Vec<u8>) -> io::Result<()> {
+    match count_of(whole, part) {
+        Some(count) => write!(out, "{count}"),
+        None => write!(out, "?"),
+    }
 }
 
 fn up<'a>(state: &'a State, buffer: &Buffer, side: &str, spot: &Spot) -> Up<'a> {
@@ -64,16 +73,26 @@ fn down<'a>(state: &'a State, buffer: &Buffer, side: &str, spot: &Spot) -> Down<
     }
 }
 
-fn up_digit(alloc: Global, records: Up<'_>, whole: &Whole) -> io::Result<u8> {
+fn put_up(
+    alloc: Global,
+    records: Up<'_>,
+    whole: &Whole,
+    out: &mut Vec<u8>,
+) -> io::Result<()> {
     let mut part = Vec::new(alloc);
     put_rising(records, &mut part)?;
-    Ok(digit_of(&whole.rising, &part))
+    put_count(&whole.rising, &part, out)
 }
 
-fn down_digit(alloc: Global, records: Down<'_>, whole: &Whole) -> io::Result<u8> {
+fn put_down(
+    alloc: Global,
+    records: Down<'_>,
+    whole: &Whole,
+    out: &mut Vec<u8>,
+) -> io::Result<()> {
     let mut part = Vec::new(alloc);
     put_falling(records, &mut part)?;
-    Ok(digit_of(&whole.falling, &part))
+    put_count(&whole.falling, &part, out)
 }
 
 // A place, as a moment or as a moment, a colon and an id.
@@ -97,10 +116,10 @@ fn put_walk(
     whole: &Whole,
     out: &mut Vec<u8>,
 ) -> io::Result<()> {
-    let above = up_digit(alloc, up(state, buffer, side, spot), whole)?;
-    let below = down_digit(alloc, down(state, buffer, side, spot), whole)?;
-    out.extend_from_slice(&[above, below])?;
-    Ok(())
+    put_up(alloc, up(state, buffer, side, spot), whole, out)?;
+    write!(out, " ")?;
+    put_down(alloc, down(state, buffer, side, spot), whole, out)?;
+    write!(out, ";")
 }
 
 // The walk from a cut as it is spelled: `bottom`, `top`, or `under`, `over`, `before` or `after` with a place.
