@@ -1,12 +1,10 @@
 //! The run of a node over sockets: its name, its floors, and its workers, each on a thread of its own. What is made before, and
 //! who takes connections in, is `node_intake`; what a worker does is `bnc_work`.
-ghost use Rattle.std.specs.Prelude.{◌≡◌};
 ghost use Rattle.shared_node.specs.Names.{IsNamed};
-ghost use Rattle.bnc.specs.Start as spec;
 
 use attach::{Attachment, RingClient};
 use bnc_ports::{Carries, Gate};
-use bnc_work::{StartFault, WorkEnd, WorkPort, WorkerConfig, work_all};
+use bnc_work::{WorkEnd, WorkPort, WorkerConfig, work_all};
 use chat_change::Change;
 use node_intake::{Intake, ServeFault, begin_node};
 use shared_node::{Naming, Unnamed};
@@ -26,16 +24,6 @@ struct Open;
 impl Gate for Open {
     fn before_answer(&self, _: usize) -> bool {
         true
-    }
-}
-
-// The fault where the workers can't begin.
-fn fault_of_start(fault: StartFault) -> ServeFault
-    ensures { result ≡ spec.fault_of_start fault }
-{
-    match fault {
-        StartFault::NoMemory => ServeFault::NoMemory,
-        StartFault::NoThread => ServeFault::NoThread,
     }
 }
 
@@ -70,10 +58,7 @@ where
         Ok(begun) => begun,
         Err(fault) => return Err(fault),
     };
-    match work_all(rt, &node, jobs, &Open) {
-        Ok(ends) => Ok(ends),
-        Err(fault) => Err(fault_of_start(fault)),
-    }
+    Ok(work_all(rt, &node, jobs, &Open)?)
 }
 
 /// Runs a node as [`run_node`] does, under a name that no other node of the program has.

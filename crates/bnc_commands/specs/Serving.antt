@@ -5,7 +5,7 @@ use Rattle.std.specs.IoError.{error_kind}
 use Rattle.std.specs.declared.io.Error.{Error}
 use Rattle.std.specs.List.{All}
 use Rattle.std.specs.declared.alloc.Global.{Global}
-use Rattle.node_intake.specs.declared.fault.ServeFault.{ServeFault}
+use Rattle.bnc_ports.specs.declared.serve_fault.ServeFault.{ServeFault}
 use Rattle.worker_io.specs.declared.worker_config.WorkEnd.{WorkEnd}
 use Rattle.worker_io.specs.declared.worker_config.WorkEnd.TheVariants.{Failed}
 use Rattle.node_config.specs.declared.config.Config.{Config}

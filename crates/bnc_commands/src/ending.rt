@@ -2,10 +2,10 @@
 ghost use Rattle.std.specs.Prelude.{◌≡◌};
 ghost use Rattle.bnc_commands.specs.Status.{status_of, end_of_file, end_of_words};
 
+use bnc_ports::ServeFault;
 use bnc_server::ReplayFault;
 use chat_change::ChangeFault;
 use node_config::ConfigFault;
-use node_intake::ServeFault;
 use std::fmt;
 use std::io::ErrorKind;
 

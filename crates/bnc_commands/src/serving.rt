@@ -5,8 +5,8 @@ ghost use Rattle.std.specs.List.{All};
 ghost use Rattle.bnc_commands.specs.Serving.{IsConfigOf, IsEndOfRun, Serves};
 
 use crate::ending::End;
+use bnc_ports::ServeFault;
 use node_config::{Config, read_config};
-use node_intake::ServeFault;
 use std::alloc::Global;
 use std::io;
 use worker_io::WorkEnd;

@@ -16,9 +16,9 @@ mod starting;
 mod work_port;
 mod worker;
 
-pub use bnc_ports::{Gate, Lobby, Port};
+pub use bnc_ports::{Gate, Lobby, Port, StartFault};
 pub use passed_lines::Mail;
 pub use starting::work_all;
 pub use work_port::WorkPort;
 pub use worker::work;
-pub use worker_io::{StartFault, WorkEnd, WorkerConfig};
+pub use worker_io::{WorkEnd, WorkerConfig};

@@ -2,14 +2,14 @@
 use crate::work_port::WorkPort;
 use crate::worker::try_work;
 use attach::Attachment;
-use bnc_ports::{Carries, Gate};
+use bnc_ports::{Carries, Gate, StartFault, each_in_a_thread};
 use shared_node::{Naming, Pass, SharedNode};
 use std::sync::Wait;
 use std::thread::Threads;
 use work_clients::ToClient;
 use work_peers::ToPeer;
 use work_servers::ToServer;
-use worker_io::{StartFault, WorkEnd, WorkerConfig, each_in_a_thread};
+use worker_io::{WorkEnd, WorkerConfig};
 
 /// Runs [`work`](crate::work) for each, as worker 0, 1, .. in the list's order, each on a thread of its own, and answers
 /// their ends in that order. Where a worker has no memory to begin, that is a fault, told once the others have ended.

@@ -1,4 +1,4 @@
--- what a reader must believe: the fault that the operator is told where a part of a node can't begin, and what the
--- workers begin with
+-- what a reader must believe: the fault that the operator is told where a node can't be shared among its workers, and what
+-- these begin with
 pub mod Fault
 pub mod WorkerConfigs

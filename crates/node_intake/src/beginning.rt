@@ -1,13 +1,14 @@
 //! The node before its workers begin, and what each of them begins with.
+ghost use Rattle.std.specs.Prelude.{◌≡◌};
+ghost use Rattle.node_intake.specs.Fault as spec;
 ghost use Rattle.shared_node.specs.Names.{IsNamed};
 
-use crate::fault::ServeFault;
 use crate::floors::put_floors;
 use crate::intake::Intake;
 use attach::{Attachment, RingClient};
-use bnc_ports::Port;
+use bnc_ports::{Port, ServeFault};
 use chat_change::Change;
-use shared_node::{Naming, Pass, SharedNode, Unnamed};
+use shared_node::{Naming, NodeFault, Pass, SharedNode, Unnamed};
 use std::alloc::{AllocError, Global};
 use std::io::Eprint;
 use std::sync::Wait;
@@ -51,6 +52,17 @@ where
     }
 }
 
+// The fault where what the node holds can't be shared among its workers.
+fn fault_of_node(fault: NodeFault) -> ServeFault
+    ensures { result ≡ spec.fault_of_node fault }
+{
+    match fault {
+        NodeFault::NoMemory => ServeFault::NoMemory,
+        NodeFault::BadCount => ServeFault::BadCount,
+        NodeFault::NoReader => ServeFault::NoReader,
+    }
+}
+
 // A node of that name, in which the floors are put, and a job for each of its passes.
 fn node_with<'a, J, R, X, P>(
     rt: &'a R,
@@ -65,7 +77,10 @@ where
     P: Port,
     requires { IsNamed J.book J.name J.parts name }
 {
-    let (node, mut passes) = SharedNode::<J, &R>::new(rt.alloc(), rt, name)?;
+    let (node, mut passes) = match SharedNode::<J, &R>::new(rt.alloc(), rt, name) {
+        Ok(made) => made,
+        Err(fault) => return Err(fault_of_node(fault)),
+    };
     if let Some(pass) = passes.first_mut() {
         put_floors(rt, &node, pass, floors)?;
     }

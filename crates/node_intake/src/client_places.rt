@@ -1,7 +1,6 @@
 //! The places of clients, and who gives way where each is taken.
-use crate::fault::ServeFault;
 use attach::{ClaimFault, Clerk, Places, Stand};
-use bnc_ports::Waiting;
+use bnc_ports::{ServeFault, Waiting};
 use std::alloc::{AllocError, Global};
 
 // After so many milliseconds a client that was asked to go is taken to stay.

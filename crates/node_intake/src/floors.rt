@@ -3,8 +3,7 @@ ghost use Rattle.std.specs.Prelude.{◌≡◌, ◌++◌, IfOk, IsTrue};
 ghost use Rattle.std.specs.Option.{option_to_list};
 ghost use Rattle.node_intake.specs.WorkerConfigs as spec;
 
-use crate::fault::ServeFault;
-use bnc_ports::Event;
+use bnc_ports::{Event, ServeFault};
 use bnc_sockets::{now_ms, report};
 use byte_text::NoMemory;
 use chat_change::{Change, Moment};
@@ -62,7 +61,10 @@ pub(crate) fn put_floors<J: Naming, R: Wait + Clock + Eprint + Drop, W: Wait + C
     if floors.is_empty() {
         return Ok(());
     }
-    node.put(rt, pass, floors)?;
+    // a node that begins has numbers left, so it can only want memory
+    if node.put(rt, pass, floors).is_err() {
+        return Err(ServeFault::NoMemory);
+    }
     let now = now_ms(rt).unwrap_or(0);
     for floor in floors {
         if let Change::AccountFloor { account, at } = floor {

@@ -1,11 +1,10 @@
 //! Where connections are taken in.
 use crate::client_places::ClientPlaces;
-use crate::fault::ServeFault;
 use crate::listeners::{Caller, Entrance, Listeners};
 use crate::queue::{MOST_QUEUED, Queue};
 use crate::worker_intakes::WorkerIntakes;
 use attach::{Attachment, Boxed, RingClient, Stand};
-use bnc_ports::Reason;
+use bnc_ports::{Reason, ServeFault};
 use bnc_sockets::{WorkerIntake, monotonic_ms};
 use passed_lines::Mail;
 use std::alloc::Global;

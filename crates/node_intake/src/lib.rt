@@ -8,7 +8,6 @@
 
 mod beginning;
 mod client_places;
-mod fault;
 mod floors;
 mod intake;
 mod listeners;
@@ -19,6 +18,6 @@ mod worker_intakes;
 mod workers;
 
 pub use beginning::{Job, begin_node};
-pub use fault::ServeFault;
+pub use bnc_ports::ServeFault;
 pub use intake::Intake;
 pub use prepared::{Prepared, prepare};

@@ -1,6 +1,5 @@
 //! The sockets on which a node accepts connections.
-use crate::fault::ServeFault;
-use bnc_ports::Event;
+use bnc_ports::{Event, ServeFault};
 use bnc_sockets::report;
 use mio::net::{TcpListener, TcpStream};
 use mio::{Events, Interest, Poll, Token};

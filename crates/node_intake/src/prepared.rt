@@ -1,11 +1,10 @@
 //! What is made before a node runs.
-use crate::fault::ServeFault;
 use crate::floors::floors_of;
 use crate::intake::Intake;
 use crate::listeners::Listeners;
 use crate::workers::Workers;
 use attach::{Attachment, Boxed};
-use bnc_ports::Event;
+use bnc_ports::{Event, ServeFault};
 use bnc_sockets::{SocketPort, now_ms, report};
 use chat_change::Change;
 use node_config::Config;

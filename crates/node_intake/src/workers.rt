@@ -2,10 +2,9 @@
 ghost use Rattle.std.specs.Prelude.{◌≡◌, IfOk, map};
 
 use crate::client_places::ClientPlaces;
-use crate::fault::ServeFault;
 use crate::worker_configs::worker_config_of;
 use attach::Attachment;
-use bnc_ports::{Arrival, Lobby};
+use bnc_ports::{Arrival, Lobby, ServeFault};
 use bnc_sockets::{Addresses, Delivery, Mailbox, Newcomer, SocketPort, WorkerIntake, waker_of};
 use crossbeam_channel::{Receiver, Sender, unbounded};
 use mio::Poll;

@@ -1,7 +1,7 @@
 //! What the parts of a worker share: its view of the node and of the time, its port, its timers, and lines for other workers.
 //!
-//! A worker is given a [`WorkerConfig`], begins with what that comes to ([`Beginning`]), on a thread of its own
-//! ([`each_in_a_thread`]), and ends with a [`WorkEnd`]. A [`Context`] is lent to the part that has its turn: the
+//! A worker is given a [`WorkerConfig`], begins with what that comes to ([`Beginning`]), and ends with a
+//! [`WorkEnd`]. A [`Context`] is lent to the part that has its turn: the
 //! servers, the clients or the peers. Its [`NodeView`] is what the node's configuration and directory say; its [`Schedule`] rings
 //! when a connection is to be tried again, is silent, or a floor is due; its [`Shortage`] counts what is closed for want of
 //! memory. [`Closing`] says whether a connection stays, and a [`ClockWatch`] whether the wall clock keeps time. [`Connections`]
@@ -25,7 +25,6 @@ mod node_view;
 mod schedule;
 mod shared_line;
 mod shortage;
-mod threads;
 mod timer;
 mod timers;
 mod waits;
@@ -41,7 +40,6 @@ pub use node_view::NodeView;
 pub use schedule::Schedule;
 pub use shared_line::SharedLine;
 pub use shortage::Shortage;
-pub use threads::{StartFault, each_in_a_thread};
 pub use timer::Timer;
 pub use timers::Timers;
 pub use waits::{PATIENCE, RETRY};

@@ -1,9 +1,9 @@
 //! Why a node can't begin.
 ghost use Rattle.std.specs.Prelude.{◌≡◌, ◌≢◌, ◌↔◌};
 
+use crate::threads::StartFault;
 use attach::PlacesFault;
 use byte_text::NoMemory;
-use shared_node::{NodeFault, PutFault};
 use std::alloc::AllocError;
 use std::io;
 use std::io::ErrorKind;
@@ -71,7 +71,7 @@ impl From<io::Error> for ServeFault {
 
 impl From<AllocError> for ServeFault {
     ghost use Rattle.std.specs.Prelude.{◌≡◌};
-    ghost use Rattle.node_intake.specs.declared.fault.ServeFault.TheVariants as fault_case;
+    ghost use Rattle.bnc_ports.specs.declared.serve_fault.ServeFault.TheVariants as fault_case;
 
     ghost from_gives = { λ _ fault. fault ≡ fault_case.NoMemory };
 
@@ -82,7 +82,7 @@ impl From<AllocError> for ServeFault {
 
 impl From<NoMemory> for ServeFault {
     ghost use Rattle.std.specs.Prelude.{◌≡◌};
-    ghost use Rattle.node_intake.specs.declared.fault.ServeFault.TheVariants as fault_case;
+    ghost use Rattle.bnc_ports.specs.declared.serve_fault.ServeFault.TheVariants as fault_case;
 
     ghost from_gives = { λ _ fault. fault ≡ fault_case.NoMemory };
 
@@ -91,24 +91,9 @@ impl From<NoMemory> for ServeFault {
     }
 }
 
-impl From<NodeFault> for ServeFault {
-    ghost use Rattle.std.specs.Prelude.{◌≡◌};
-    ghost use Rattle.node_intake.specs.Fault.{fault_of_node};
-
-    ghost from_gives = { λ part fault. fault ≡ fault_of_node part };
-
-    fn from(fault: NodeFault) -> ServeFault {
-        match fault {
-            NodeFault::NoMemory => ServeFault::NoMemory,
-            NodeFault::BadCount => ServeFault::BadCount,
-            NodeFault::NoReader => ServeFault::NoReader,
-        }
-    }
-}
-
 impl From<PlacesFault> for ServeFault {
     ghost use Rattle.std.specs.Prelude.{◌≡◌};
-    ghost use Rattle.node_intake.specs.Fault.{fault_of_places};
+    ghost use Rattle.bnc_ports.specs.Faults.{fault_of_places};
 
     ghost from_gives = { λ part fault. fault ≡ fault_of_places part };
 
@@ -120,14 +105,16 @@ impl From<PlacesFault> for ServeFault {
     }
 }
 
-impl From<PutFault> for ServeFault {
+impl From<StartFault> for ServeFault {
     ghost use Rattle.std.specs.Prelude.{◌≡◌};
-    ghost use Rattle.node_intake.specs.declared.fault.ServeFault.TheVariants as fault_case;
+    ghost use Rattle.bnc_ports.specs.Faults.{fault_of_start};
 
-    ghost from_gives = { λ _ fault. fault ≡ fault_case.NoMemory };
+    ghost from_gives = { λ part fault. fault ≡ fault_of_start part };
 
-    // A node that begins has numbers left.
-    fn from(_: PutFault) -> ServeFault {
-        ServeFault::NoMemory
+    fn from(fault: StartFault) -> ServeFault {
+        match fault {
+            StartFault::NoMemory => ServeFault::NoMemory,
+            StartFault::NoThread => ServeFault::NoThread,
+        }
     }
 }
