@@ -3,6 +3,7 @@ use Rattle.std.proofs.Common.{◌≡◌, refl, sym, ◌∙◌, ap, subst, ℕ, m
 use Rattle.std.specs.Prelude.{Contains}
 use Rattle.std.proofs.lemmas.Bool.{false≢true}
 use Rattle.std.proofs.lemmas.Option.{same_Some}
+use Rattle.std.proofs.lemmas.List.{map-append}
 use Rattle.std.proofs.lemmas.List.Elements.{Contains-append_left, Contains-append_right}
 use Rattle.std.proofs.lemmas.List.Kept.{IsStrictlySortedBy-filter}
 use Rattle.std.proofs.lemmas.Cmp.{tied_itself}
@@ -40,7 +41,7 @@ use Rattle.chat_buffers.proofs.SettleLemmas.{no_account, stays, gone_stays, othe
 use Rattle.chat_buffers.specs.Ahead.{Entries}
 use Rattle.chat_buffers.proofs.SoughtLemmas.{something}
 
-same_account_itself : (a : List ℕ) → same_account a a ≡ true
+pub same_account_itself : (a : List ℕ) → same_account a a ≡ true
 same_account_itself a = ap is_eq (tied_itself text_total a)
 
 one_account : (a d : List ℕ) → OfAccount a ≡ OfAccount d → a ≡ d
@@ -225,10 +226,10 @@ module _ (ac : Accounts) (bs : Tree) (ordered : tree.IsOrdered buffer_cmp bs) (a
       of_its_account a e
       (between middle e.0 f.0 (up_to (buffer_cmp middle e.0) from) (ap is_gt less) (its ∙ sym (its_account a f t)) ∙ its_account a f t))
 
-  abbrev pub taken_below : Entries
+  abbrev taken_below : Entries
   taken_below = take (prefix_len (is_of a) (reverse lower)) (reverse lower)
 
-  abbrev pub taken_from : Entries
+  abbrev taken_from : Entries
   taken_from = take (prefix_len (is_of a) upper) upper
 
   below_or_from : (e : Buffer × Held) → Among e bs.entries → Among e lower ⊎ Among e upper
@@ -251,11 +252,11 @@ module _ (ac : Accounts) (bs : Tree) (ordered : tree.IsOrdered buffer_cmp bs) (a
       let here = something (tree.get buffer_cmp bs b) (λ none. cc (sym (has_here ac bs (seen ac bs) b None refl none k is) ∙ e)) in
       (here.0, subst (Among (b, here.0)) (entries-from_ordered buffer_total bs.entries ordered) (got buffer_total buffer_exact (held_by bs.entries) b here.0 (get-held_by buffer_total bs.entries b ∙ here.1)))
 
-  pub all_taken : (found : List Buffer) → found ≡ map (λ (e : Buffer × Held). e.0) (taken_below ++ taken_from) → AreBuffersOf (seen ac bs) a found
+  pub all_taken : (found : List Buffer) → found ≡ map (λ (e : Buffer × Held). e.0) taken_below ++ map (λ (e : Buffer × Held). e.0) taken_from → AreBuffersOf (seen ac bs) a found
   all_taken found taken k p b e is at =
       let here = held_here k p b e is in
       let all : Entries = taken_below ++ taken_from in
-      subst (λ bs. Contains bs b) (sym taken)
+      subst (λ bs. Contains bs b) (map-append (λ (x : Buffer × Held). x.0) taken_below taken_from ∙ sym taken)
       (contained (map (λ (x : Buffer × Held). x.0) all) b
       (image (λ (x : Buffer × Held). x.0) all (b, here.0)
       (among all (b, here.0) (entry_taken (b, here.0) here.1 (of_its_account a (b, here.0) at)))))

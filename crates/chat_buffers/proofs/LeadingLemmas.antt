@@ -1,15 +1,9 @@
--- Lists in which each value that passes a test comes before each that doesn't, and walks that end at the first that
--- doesn't.
-use Rattle.std.proofs.Common.{◌≡◌, refl, sym, ◌∙◌, ap, subst, suc, ◌+◌, Bool, true, cond, List, [], ◌∷◌, length, take, reverse, ⊎_elim, inl, inr, arith}
-use Rattle.std.proofs.lemmas.List.{reverse-append}
-use Rattle.std.proofs.lemmas.Iterator.{YieldsList}
-use Rattle.std.proofs.lemmas.Iterator.Consumers.{YieldsList-from_shown}
+-- Lists in which each value that passes a test comes before each that doesn't.
+use Rattle.std.proofs.Common.{◌≡◌, refl, sym, ◌∙◌, ap, subst, suc, ◌+◌, Bool, true, cond, List, [], ◌∷◌, take, ⊎_elim, inl, inr, arith}
 use Rattle.std.specs.declared.cmp.Ordering.{Ordering}
 use Rattle.std.specs.declared.cmp.Ordering.TheVariants.{Less}
 use Rattle.std.specs.List.{prefix_len}
 use Rattle.std.specs.List.Sorted.{IsStrictlySortedBy}
-use Rattle.std.specs.Map.Iter.{TakesLast}
-use Rattle.std.specs.Iterator.Adapters.{rev_source, rev_steps}
 use Rattle.chat_history.specs.Choice.{Among}
 use Rattle.chat_history.proofs.CallerLemmas.{member}
 
@@ -33,11 +27,3 @@ leading_taken p (y ∷ ys) lead x m t =
     let len : prefix_len p (y ∷ ys) ≡ suc (prefix_len p ys) = ap (λ b. cond b (1 + prefix_len p ys) 0) first ∙ omega arith in
     subst (λ n. Among x (take n (y ∷ ys))) (sym len)
     (⊎_elim (λ e. inl e) (λ a. inr (leading_taken p ys lead.1 x a t)) m)
-
--- a walk over a part of a map from its end gives that part in reverse
-pub YieldsList-from_rev : {A X : Type 0} {shows : A → X} {s : _} (xs : List X) → rev_source s ≡ xs → YieldsList (rev_steps (TakesLast shows)) shows s (reverse xs)
-YieldsList-from_rev {A} {X} {shows} {s} xs is =
-    subst (λ ys. YieldsList (rev_steps (TakesLast shows)) shows s (reverse ys)) is
-    (YieldsList-from_shown (rev_steps (TakesLast shows)) shows (λ r. reverse (rev_source r))
-    (λ r t step. ap (λ ys. length (reverse ys)) step.0)
-    (λ r x t step. ap reverse step ∙ reverse-append (rev_source t) (shows x ∷ [])) s)

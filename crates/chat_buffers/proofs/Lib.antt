@@ -12,4 +12,5 @@ mod CursorLemmas
 mod SoughtLemmas
 mod LeadingLemmas
 mod AccountLemmas
+mod AddedLemmas
 pub mod CallerLemmas

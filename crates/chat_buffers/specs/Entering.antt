@@ -1,5 +1,5 @@
 -- How a piece enters a store, and how what lies below a floor leaves it piece by piece.
-use Rattle.std.specs.Prelude.{ℕ, ◌≡◌, ◌≤◌, ◌<◌, ⊤, ◌&&◌, Bool, false, nat_lt, nat_le, Option, Some, List, Contains, if◌then◌else◌}
+use Rattle.std.specs.Prelude.{ℕ, ◌≡◌, ◌≤◌, ◌<◌, ⊤, ◌&&◌, Bool, false, nat_lt, nat_le, Option, Some, None, List, [], ◌∷◌, ◌++◌, Contains, if◌then◌else◌}
 use Rattle.std.specs.Option.{option_map}
 use Rattle.std.specs.FinMap as finite
 use Rattle.chat_change.specs.Buffer.{Buffer}
@@ -80,3 +80,9 @@ abbrev pub AreBuffersOf : Store → List ℕ → List Buffer → Type 0
 AreBuffersOf s a buffers =
     (k : Key) (p : Numbered) (b : Buffer) → finite.get s k ≡ Some p → key_extent k ≡ OfBuffer b →
     b.account ≡ a → Contains buffers b
+
+-- a buffer, where there is one and it is of an account, was added to a list
+abbrev pub IsAddedOf : List ℕ → Option Buffer → List Buffer → List Buffer → Bool → Type 0
+IsAddedOf a None old new is = (is ≡ false) × (new ≡ old)
+IsAddedOf a (Some b) old new is =
+    (is ≡ same_account b.account a) × (new ≡ (if is then old ++ b ∷ [] else old))

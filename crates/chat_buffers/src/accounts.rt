@@ -1,14 +1,15 @@
 //! Floors of accounts, and what they reach in the accounts' buffers.
 
 ghost use Rattle.std.specs.Prelude.{◌≡◌, ◌≤◌, IfOk, OnOk, OnErr, None, IfSome};
+ghost use Rattle.std.specs.Option.{option_map};
 ghost use Rattle.chat_change.specs.Extent.{OfAccount};
 ghost use Rattle.chat_change.specs.Key.{FloorOf};
 ghost use Rattle.chat_change.specs.declared.change.Change.TheVariants.{AccountFloor};
 ghost use Rattle.chat_buffers.specs.Store as spec;
-ghost use Rattle.chat_buffers.specs.Entering.{IsEntered, TakesFloor, HasNoFloorTo, AreBuffersOf};
+ghost use Rattle.chat_buffers.specs.Entering.{IsEntered, TakesFloor, HasNoFloorTo, AreBuffersOf, IsAddedOf};
 
 use crate::buffers::Buffers;
-use crate::held::{Stamp, number_of, take_floor_to};
+use crate::held::{Held, Stamp, number_of, take_floor_to};
 use chat_change::{Account, Buffer, ChangeFault, Moment};
 use ordered_maps::exchange;
 use std::alloc::{AllocError, Global};
@@ -52,15 +53,30 @@ impl Buffers {
     {
         // the buffers of an account stand side by side, so the others lie right below any one of them and right above
         let middle = some_buffer_of(alloc, account)?;
-        let below = self.held.range(..&middle).rev();
-        let above = self.held.range(&middle..);
-        let below = below.take_while(|(buffer, _)| buffer.owner() == account);
-        let above = above.take_while(|(buffer, _)| buffer.owner() == account);
         let mut buffers = Vec::new(alloc);
-        for (buffer, _) in below.chain(above) {
-            buffers.push(buffer.try_clone()?)?;
-        }
+        let mut below = self.held.range(..&middle);
+        while push_of(account, below.next_back(), &mut buffers)? {}
+        let mut above = self.held.range(&middle..);
+        while push_of(account, above.next(), &mut buffers)? {}
         Ok(buffers)
+    }
+}
+
+// Adds the buffer of an entry where it is of an account. The answer is whether it is.
+fn push_of(
+    account: &Account,
+    entry: Option<(&Buffer, &Held)>,
+    buffers: &mut Vec<Buffer>,
+) -> Result<bool, AllocError>
+    ensures { IfOk result (IsAddedOf account.now (option_map (λ e. e.0.now) entry.entry)
+        buffers.old.items buffers.new.items) }
+{
+    match entry {
+        Some((buffer, _)) if buffer.owner().is_same(account) => {
+            buffers.push(buffer.try_clone()?)?;
+            Ok(true)
+        }
+        _ => Ok(false),
     }
 }
 
