@@ -5,35 +5,22 @@ ghost use Rattle.chat_history.specs.Visible.{records_in};
 ghost use Rattle.chat_page.specs.Cuts.{between_cuts};
 ghost use Rattle.chat_page.specs.Page.{last};
 
-use chat_change::{Buffer, Record};
+use chat_change::{Buffer, Moment, Record};
 use chat_history::is_after;
-use chat_state::{Cut, Down, State, Up};
+use chat_state::{Cut, Spot, State};
 use std::alloc::{AllocError, Global};
 
 // The borrow checker doesn't cover `*cut`, of an enum that holds a reference.
-fn up<'a>(state: &'a State, buffer: &Buffer, cut: &Cut<'_>) -> Up<'a>
-    ensures { result ≡ after_cut cut.now (records_in state.now.history buffer.now) }
+fn copy_of<'c>(cut: &Cut<'c>) -> Cut<'c>
+    ensures { result ≡ cut.now }
 {
     match cut {
-        Cut::Bottom => state.up(buffer, Cut::Bottom),
-        Cut::UnderTime(at) => state.up(buffer, Cut::UnderTime(*at)),
-        Cut::OverTime(at) => state.up(buffer, Cut::OverTime(*at)),
-        Cut::UnderMsg(spot) => state.up(buffer, Cut::UnderMsg(spot)),
-        Cut::OverMsg(spot) => state.up(buffer, Cut::OverMsg(spot)),
-        Cut::Top => state.up(buffer, Cut::Top),
-    }
-}
-
-fn down<'a>(state: &'a State, buffer: &Buffer, cut: &Cut<'_>) -> Down<'a>
-    ensures { result ≡ reverse (before_cut cut.now (records_in state.now.history buffer.now)) }
-{
-    match cut {
-        Cut::Bottom => state.down(buffer, Cut::Bottom),
-        Cut::UnderTime(at) => state.down(buffer, Cut::UnderTime(*at)),
-        Cut::OverTime(at) => state.down(buffer, Cut::OverTime(*at)),
-        Cut::UnderMsg(spot) => state.down(buffer, Cut::UnderMsg(spot)),
-        Cut::OverMsg(spot) => state.down(buffer, Cut::OverMsg(spot)),
-        Cut::Top => state.down(buffer, Cut::Top),
+        Cut::Bottom => Cut::Bottom,
+        Cut::UnderTime(at) => Cut::UnderTime(*at),
+        Cut::OverTime(at) => Cut::OverTime(*at),
+        Cut::UnderMsg(spot) => Cut::UnderMsg(*spot),
+        Cut::OverMsg(spot) => Cut::OverMsg(*spot),
+        Cut::Top => Cut::Top,
     }
 }
 
@@ -49,7 +36,10 @@ pub(crate) fn first_between<'a>(
     ensures { IfOk result (λ page. map (λ r. r.now) page.items
         ≡ take n (between_cuts low.now high.now (records_in state.now.history buffer.now))) }
 {
-    up(state, buffer, low)
+    // Without it the prover doesn't find the types that a cut may hold.
+    let _held: (Option<Moment>, Option<&Spot>) = (None, None);
+    state
+        .up(buffer, copy_of(low))
         .take_while(|post| !is_after(high, post))
         .take(n)
         .collect(alloc)
@@ -67,7 +57,10 @@ pub(crate) fn last_between<'a>(
     ensures { IfOk result (λ page. map (λ r. r.now) page.items
         ≡ last n (between_cuts low.now high.now (records_in state.now.history buffer.now))) }
 {
-    let mut page: Vec<&'a Record> = down(state, buffer, high)
+    // Without it the prover doesn't find the types that a cut may hold.
+    let _held: (Option<Moment>, Option<&Spot>) = (None, None);
+    let mut page: Vec<&'a Record> = state
+        .down(buffer, copy_of(high))
         .take_while(|post| is_after(low, post))
         .take(n)
         .collect(alloc)?;

@@ -1,4 +1,4 @@
-use Rattle.std.proofs.Common.{◌≡◌, map, not, rules, subst, take}
+use Rattle.std.proofs.Common.{◌≡◌, ◌∙◌, ap, map, not, rules, subst, take}
 use Rattle.std.specs.Prelude.{IfOk}
 use Rattle.std.specs.Map.Iter.{deref}
 use Rattle.std.proofs.lemmas.Iterator.{YieldsList-from_take}
@@ -17,5 +17,5 @@ returns c =
     (map_from_collect c.collect.result c.collect.ensures.ran
     (YieldsList-from_take c.args.n (YieldsList-at c.take.ensures.source
     (YieldsList-from_take_while _ (λ r. not (is_after_cut c.args.high.now r))
-    (YieldsList-at c.take_while.ensures.source (YieldsList-from_first deref (λ s. s) (after_cut c.args.low.now (records_in c.args.state.now.history c.args.buffer.now)) c.up.ensures))
+    (YieldsList-at c.take_while.ensures.source (YieldsList-from_first deref (λ s. s) (after_cut c.args.low.now (records_in c.args.state.now.history c.args.buffer.now)) (c.up.ensures ∙ ap (λ cut. after_cut cut (records_in c.args.state.now.history c.args.buffer.now)) c.copy_of.ensures)))
     c.take_while.ensures.closure c.take_while.ensures.done (λ x r q k. search rules))) c.take.ensures.count))

@@ -17,7 +17,7 @@ returns c =
     ∙ ap reverse (map_from_collect {E = Unit {0}} (Ok c.in_ok-page.page) c.in_ok-page.ensures.ran
     (YieldsList-from_take c.args.n (YieldsList-at c.take.ensures.source
     (YieldsList-from_take_while _ (is_after_cut c.args.low.now)
-    (YieldsList-at c.take_while.ensures.source (YieldsList-from_first deref (λ s. s) (reverse (before_cut c.args.high.now (records_in c.args.state.now.history c.args.buffer.now))) c.down.ensures))
+    (YieldsList-at c.take_while.ensures.source (YieldsList-from_first deref (λ s. s) (reverse (before_cut c.args.high.now (records_in c.args.state.now.history c.args.buffer.now))) (c.down.ensures ∙ ap (λ cut. reverse (before_cut cut (records_in c.args.state.now.history c.args.buffer.now))) c.copy_of.ensures)))
     c.take_while.ensures.closure c.take_while.ensures.done (λ x r q k. search rules))) c.take.ensures.count))
     ∙ ap (λ l. reverse (take c.args.n l)) (down_between c.args.low.now c.args.high.now (records_in c.args.state.now.history c.args.buffer.now) (records_sorted c.args.state.now.history c.args.buffer.now))
     ∙ last_from_end c.args.n (between_cuts c.args.low.now c.args.high.now (records_in c.args.state.now.history c.args.buffer.now))
