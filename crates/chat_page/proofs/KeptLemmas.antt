@@ -1,5 +1,5 @@
 -- The first or the last of a set of buffers, kept while buffers are put into it one by one.
-use Rattle.std.proofs.Common.{◌≡◌, ◌<◌, ◌≤◌, ◌-◌, ℕ, zero, suc, Bool, true, false, List, [], ◌∷◌, ◌++◌, Some, length, take, drop, filter, map, if◌then◌else◌, slice_get, All, refl, sym, ap, ◌∙◌, ⊎_elim, arith}
+use Rattle.std.proofs.Common.{◌≡◌, ◌<◌, ◌≤◌, ◌-◌, ℕ, zero, suc, Bool, true, false, List, [], ◌∷◌, ◌++◌, Some, length, take, drop, filter, map, if◌then◌else◌, slice_get, All, cond, refl, sym, ap, ◌∙◌, subst, append-nil, ⊎_elim, arith}
 use Rattle.std.specs.Prelude.{◌||◌}
 use Rattle.std.specs.declared.cmp.Ordering.{Ordering}
 use Rattle.std.specs.declared.cmp.Ordering.TheVariants.{Less, Equal, Greater}
@@ -12,7 +12,7 @@ use Rattle.std.specs.BTreeSet as tree
 use Rattle.std.specs.BTreeSet.{BTreeSet, insert_key}
 use Rattle.std.proofs.lemmas.Bool.{false≢true, cases_lt}
 use Rattle.std.proofs.lemmas.List.{take_all, take-take}
-use Rattle.std.proofs.lemmas.List.Elements.{All-head, All-tail}
+use Rattle.std.proofs.lemmas.List.Elements.{All-head, All-tail, filter-append}
 use Rattle.std.proofs.lemmas.List.Folds.{list_any-append}
 use Rattle.chat_history.specs.Visible.{spot_cmp}
 use Rattle.chat_history.proofs.CallerLemmas.{spot_total}
@@ -177,6 +177,15 @@ module _ (forward : Bool) (n : ℕ) where
     by : (b : Bool) → (λ (f : List Listed → List Listed). f (insert_key spot_cmp (f h.0.keys) x) ≡ f (insert_key spot_cmp h.0.keys x)) (λ l. if b then take n l else last n l)
     by true = take_insert spot_cmp n h.0.keys x
     by false = last_insert spot_total n h.0.keys x h.1.1
+
+  -- the same where those of a list that pass are put in
+  pub cut_passing : (p : Listed → Bool) (xs : List Listed) (x : Listed) (old kept : BTreeSet Listed) → p x ≡ true → IsCutOf (filter p xs) old → kept.keys ≡ cut (insert_key spot_cmp old.keys x) → IsCutOf (filter p (xs ++ x ∷ [])) kept
+  cut_passing p xs x old kept t h e =
+      subst (λ l. IsCutOf l kept) (sym (filter-append p xs (x ∷ []) ∙ ap (λ b. filter p xs ++ cond b (x ∷ []) []) t)) (cut_more (filter p xs) x old kept h e)
+
+  pub cut_other : (p : Listed → Bool) (xs : List Listed) (x : Listed) (kept : BTreeSet Listed) → p x ≡ false → IsCutOf (filter p xs) kept → IsCutOf (filter p (xs ++ x ∷ [])) kept
+  cut_other p xs x kept f h =
+      subst (λ l. IsCutOf l kept) (sym (filter-append p xs (x ∷ []) ∙ ap (λ b. filter p xs ++ cond b (x ∷ []) []) f ∙ append-nil (filter p xs))) h
 
   pub cut_is : (p : Listed → Bool) (xs : List Listed) (kept : BTreeSet Listed) → IsCutOf (filter p xs) kept → kept.keys ≡ cut (filter p (keys (from_entries {R = spot_cmp} (map (λ (e : Listed). (e, e)) xs))))
   cut_is p xs kept h = h.2 ∙ ap cut (set_is p xs h.0 h.1)

@@ -226,11 +226,12 @@ fn found_between<'a>(
         (buffers_in state.now.history scope.now)) }
 {
     let latest = state.latest(scope.account(), scope.network());
-    let between = Listing { latest }.filter(|buffer| lies_between(one, other, buffer));
     let forward = one.ms() < other.ms();
     let mut found = BTreeSet::new(alloc);
-    for buffer in between {
-        keep(&mut found, forward, n, buffer)?;
+    for buffer in (Listing { latest }) {
+        if lies_between(one, other, &buffer) {
+            keep(&mut found, forward, n, buffer)?;
+        }
     }
     Ok(found)
 }

@@ -1,13 +1,19 @@
-use Rattle.std.proofs.Common.{◌≡◌, ◌∙◌, ap, map-id, nat_lt, rules, subst₂, sym}
-use Rattle.std.proofs.lemmas.Iterator.Consumers.{YieldsList-at, YieldsList-from_filter, YieldsList-from_first, YieldsList-end}
+use Rattle.std.proofs.Common.{◌≡◌, ◌∙◌, ap, filter, map-id, nat_lt, subst₂, sym}
+use Rattle.std.proofs.lemmas.Iterator.Consumers.{YieldsList-at, YieldsList-from_first, YieldsList-end}
 use Rattle.chat_history.specs.Latest.{latest_in}
 use Rattle.chat_page.specs.Page.{listed, lies_between}
-use Rattle.chat_page.proofs.KeptLemmas.{IsCutOf, cut_is, cut_more}
+use Rattle.chat_page.proofs.KeptLemmas.{IsCutOf, cut_is, cut_passing, cut_other}
 use Rattle.chat_page.proofs.listed_buffer.found_between.Goals as goal
+
+pub loop-buffer-preserved-in-Continue-1 : goal.loop-buffer-preserved-in-Continue-1
+loop-buffer-preserved-in-Continue-1 c =
+    cut_passing (nat_lt c.ms.result c.ms-2.result) c.args.n (lies_between c.args.one c.args.other) c.loop-buffer.yielded c.in-Some.buffer c.loop-buffer.found c.keep.new.kept
+    (sym c.lies_between.ensures ∙ c.if-lies_between.true) c.loop-buffer.invariant c.in_ok-keep.ensures
 
 pub loop-buffer-preserved : goal.loop-buffer-preserved
 loop-buffer-preserved c =
-    (search rules, search rules, cut_more (nat_lt c.ms.result c.ms-2.result) c.args.n c.loop-buffer.yielded c.in-Some.buffer c.loop-buffer.found c.keep.new.kept c.loop-buffer.invariant.2 c.in_ok-keep.ensures)
+    cut_other (nat_lt c.ms.result c.ms-2.result) c.args.n (lies_between c.args.one c.args.other) c.loop-buffer.yielded c.in-Some.buffer c.loop-buffer.found
+    (sym c.lies_between.ensures ∙ c.if-lies_between.false) c.loop-buffer.invariant
 
 pub returns : goal.returns
 returns c =
@@ -15,11 +21,9 @@ returns c =
     let passing = lies_between c.args.one c.args.other in
     let end = YieldsList-end
     (YieldsList-at c.into_iter-buffer-iterator.ensures.into_iter_gives
-    (YieldsList-from_filter _ passing
-    (YieldsList-at c.filter-between.ensures.source (YieldsList-from_first (λ b. b) (λ s. s) all
+    (YieldsList-from_first (λ b. b) (λ s. s) all
     (ap listed (c.latest-latest.ensures ∙ (λ i. latest_in c.args.state.now.history (c.account.ensures i) (c.network.ensures i))))))
-    c.filter-between.ensures.closure (λ x r q k. search rules)))
     c.loop-buffer.yielded _ c.loop-buffer.yielded_by _ _ c.in-None.is c.next.ensures.steps in
     let forward : nat_lt c.ms.result c.ms-2.result ≡ nat_lt c.args.one c.args.other = λ i. nat_lt (c.ms.ensures.value i) (c.ms-2.ensures.value i) in
     cut_is (nat_lt c.args.one c.args.other) c.args.n passing all c.loop-buffer.found
-    (subst₂ (λ b l. IsCutOf b c.args.n l c.loop-buffer.found) forward (sym (map-id c.loop-buffer.yielded) ∙ end.0) c.loop-buffer.invariant.2)
+    (subst₂ (λ b l. IsCutOf b c.args.n (filter passing l) c.loop-buffer.found) forward (sym (map-id c.loop-buffer.yielded) ∙ end.0) c.loop-buffer.invariant)

@@ -1,8 +1,8 @@
+use Rattle.std.proofs.Common.{filter}
+use Rattle.chat_page.specs.Page.{lies_between}
 use Rattle.chat_page.proofs.KeptLemmas.{IsCutOf}
 use Rattle.chat_page.proofs.listed_buffer.found_between.Given as goal
 
 abbrev pub invariant-loop-buffer : goal.invariant-loop-buffer
 invariant-loop-buffer l =
-    (goal.iterator-loop-buffer).can_next l.buffer-iterator ×
-    (goal.iterator-loop-buffer).is_finite l.buffer-iterator ×
-    IsCutOf l.forward l.n l.yielded l.found
+    IsCutOf l.forward l.n (filter (lies_between l.one l.other) l.yielded) l.found
