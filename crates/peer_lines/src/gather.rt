@@ -1,5 +1,5 @@
 //! A gather joins the head of a packet with its changes.
-ghost use Rattle.std.specs.Prelude.{◌≡◌, ◌++◌, ◌∷◌, [], None, IfOk, OnOk, OnErr};
+ghost use Rattle.std.specs.Prelude.{◌≡◌, ◌==◌, ◌++◌, ◌∷◌, [], length, None, IfOk, OnOk, OnErr};
 ghost use Rattle.std.specs.Option.{option_map};
 ghost use Rattle.std.specs.Map.Iter.{deref};
 ghost use Rattle.peer_lines.specs.declared.peer_line.PeerLine.TheVariants as of_line;
@@ -12,7 +12,7 @@ use crate::peer_line::PeerLine;
 use crate::shared_word::SharedWord;
 use crate::version::Version;
 use chat_change::{Buffer, Change, Extent};
-use std::alloc::Global;
+use std::alloc::{AllocError, Global};
 use std::marker::Model;
 
 /// What arrived from a peer.
@@ -41,6 +41,19 @@ impl Model for Gathering {
     ghost Value = { spec.Gathering };
 
     ghost view = { λ g. record { head = g.head; changes = g.changes.items } };
+}
+
+impl Gathering {
+    // Takes a change, and says whether the packet is whole with it.
+    fn push(&mut self, change: Change) -> Result<bool, AllocError>
+        ensures head { self.new.head ≡ self.old.head }
+        ensures changes { IfOk result (λ _. self.new.changes ≡ self.old.changes ++ change ∷ []) }
+        ensures whole { IfOk result (λ is_whole.
+            is_whole ≡ (length self.new.changes == self.old.head.count)) }
+    {
+        self.changes.push(change)?;
+        Ok(self.changes.len() as u64 == self.head.count)
+    }
 }
 
 /// Joins the lines of packets that came over one connection: contracts see it as the packet that isn't whole yet, if
@@ -126,14 +139,13 @@ impl Gather {
             drop(change);
             return Err(LinkFault::BadForm);
         };
-        if gathering.changes.push(change).is_err() {
-            self.gathering = None;
-            return Err(LinkFault::NoMemory);
-        }
-        if gathering.changes.len() as u64 == gathering.head.count {
-            Ok(self.finish())
-        } else {
-            Ok(None)
+        match gathering.push(change) {
+            Ok(true) => Ok(self.finish()),
+            Ok(false) => Ok(None),
+            Err(AllocError) => {
+                drop(self.gathering.take());
+                Err(LinkFault::NoMemory)
+            }
         }
     }
 
@@ -150,8 +162,9 @@ impl Gather {
         if let PeerLine::Change(change) = line {
             return self.push_change(change);
         }
-        if self.gathering.take().is_some() {
+        if self.gathering.is_some() {
             drop(line);
+            drop(self.gathering.take());
             return Err(LinkFault::BadForm);
         }
         let (gathering, answer) = begun(alloc, line);
