@@ -1,5 +1,5 @@
 -- A walk over entries that adds the buffers of an account to a list, and ends at the first of another account.
-use Rattle.std.proofs.Common.{◌≡◌, ℕ, refl, sym, ◌∙◌, ap, suc, ◌+◌, ◌<◌, length, length-append, List, [], ◌∷◌, ◌++◌, map, take, reverse, Bool, true, false, cond, Option, Some, None, Bor, append_assoc, append-nil, arith}
+use Rattle.std.proofs.Common.{◌≡◌, ℕ, refl, sym, ◌∙◌, ap, suc, ◌+◌, ◌<◌, length, length-append, List, [], ◌∷◌, ◌++◌, map, take, reverse, true, false, cond, Option, Some, None, Bor, append_assoc, append-nil, arith}
 use Rattle.std.proofs.lemmas.Bool.{false≢true}
 use Rattle.std.proofs.lemmas.List.{reverse-append}
 use Rattle.std.specs.BTreeMap as tree

@@ -1,4 +1,4 @@
-use Rattle.std.proofs.Common.{◌∙◌, sym, refl, ap, reverse, ◌++◌, subst, List}
+use Rattle.std.proofs.Common.{◌∙◌, refl, ap, reverse, ◌++◌, subst, List}
 use Rattle.chat_change.specs.Buffer.{Buffer}
 use Rattle.chat_buffers.specs.Entering.{AreBuffersOf, IsAddedOf}
 use Rattle.chat_buffers.specs.Store.{Store}
