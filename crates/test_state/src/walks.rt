@@ -73,23 +73,13 @@ fn down<'a>(state: &'a State, buffer: &Buffer, side: &str, spot: &Spot) -> Down<
     }
 }
 
-fn put_up(
-    alloc: Global,
-    records: Up<'_>,
-    whole: &Whole,
-    out: &mut Vec<u8>,
-) -> io::Result<()> {
+fn put_up(alloc: Global, records: Up<'_>, whole: &Whole, out: &mut Vec<u8>) -> io::Result<()> {
     let mut part = Vec::new(alloc);
     put_rising(records, &mut part)?;
     put_count(&whole.rising, &part, out)
 }
 
-fn put_down(
-    alloc: Global,
-    records: Down<'_>,
-    whole: &Whole,
-    out: &mut Vec<u8>,
-) -> io::Result<()> {
+fn put_down(alloc: Global, records: Down<'_>, whole: &Whole, out: &mut Vec<u8>) -> io::Result<()> {
     let mut part = Vec::new(alloc);
     put_falling(records, &mut part)?;
     put_count(&whole.falling, &part, out)
