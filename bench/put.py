@@ -26,7 +26,8 @@ PARTS = (
     ("it is put into the node", PUT),
     ("it is told to the client", r"\bwork_clients::\S*::tell_message\b"),
 )
-ALL = r"\bbnc_work::worker::serve\b"
+# (`serve` may stand within its caller)
+ALL = r"\bbnc_work::worker::(serve|try_work)\b"
 
 
 def instructions(of, log):
