@@ -12,13 +12,34 @@ use std::io::{ErrorKind, Write};
 /// That it fails only where the writer failed can't be said of an unknown writer, since nothing in `Write` tells that one
 /// has failed: the tests show it of a writer that takes one byte at a time and is interrupted at every second write, and
 /// of one that fails at some write.
-// Most texts are a few bytes, for which a call takes longer than the write.
+// Most texts are a few bytes, for which a call takes longer than the write, and most writers take all of them at once.
 #[inline(always)]
 pub fn put<W: Write>(writer: &mut W, bytes: &[u8]) -> io::Result<()>
     ensures { Writes W.contents writer.old writer.new result bytes.now }
 {
+    if bytes.is_empty() {
+        return Ok(());
+    }
+    match writer.write(bytes) {
+        Ok(n) if n == bytes.len() => Ok(()),
+        Ok(0) => Err(io::Error::from(ErrorKind::WriteZero)),
+        Ok(n) => put_rest(writer, &bytes[n..]),
+        Err(e) => {
+            if e.kind() != ErrorKind::Interrupted {
+                return Err(e);
+            }
+            put_rest(writer, bytes)
+        }
+    }
+}
+
+// Writes the bytes that are left after a write that took a part of them, or none.
+#[inline(never)]
+fn put_rest<W: Write>(writer: &mut W, bytes: &[u8]) -> io::Result<()>
+    ensures { Writes W.contents writer.old writer.new result bytes.now }
+{
     let mut sent = 0;
-    'writes: for _ in 0..u64::MAX {
+    'writes: for _ in 1..u64::MAX {
         if sent >= bytes.len() {
             return Ok(());
         }
