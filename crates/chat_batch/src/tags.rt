@@ -1,8 +1,10 @@
 //! The tags of a message (IRCv3 message-tags), each written only where the session has its capability.
-ghost use Rattle.std.specs.Prelude.{◌≡◌, ◌++◌, ◌||◌, [], codes, if◌then◌else◌, OnOk};
+ghost use Rattle.std.specs.Prelude.{◌≡◌, ◌++◌, ◌||◌, [], true, codes, if◌then◌else◌, OnOk};
 ghost use Rattle.byte_text.specs.Writes.{Writes};
 ghost use Rattle.std.specs.List.{list_all};
 ghost use Rattle.irc_tags.specs.Value.{value_text};
+ghost use Rattle.chat_change.specs.Words.{is_id};
+ghost use Rattle.chat_batch.specs.declared.tags.Tag.TheVariants.{MsgId};
 ghost use Rattle.chat_batch.specs.Tags.{next_tag, tag_part, has_own_tags, batch_tags, message_tags, separator, key_text, is_plain_byte};
 
 use crate::batch::put_pair;
@@ -11,6 +13,7 @@ use chat_change::Record;
 use irc_caps::CapSet;
 use irc_tags::write_value;
 use irc_time::write_time;
+use memchr::memchr2;
 use std::io;
 use std::io::Write;
 
@@ -29,36 +32,33 @@ pub(crate) fn put_three<W: Write>(
     put(writer, third)
 }
 
-// Whether a byte of a value is written as it is.
-fn is_plain_byte(b: u8) -> bool
-    ensures { result ≡ is_plain_byte b }
+// Whether an id has no byte that is escaped. No id has a space, CR or LF, which are escaped too.
+fn is_plain(id: &[u8]) -> bool
+    requires { is_id id.now ≡ true }
+    ensures { result ≡ list_all is_plain_byte id.now }
 {
-    !matches!(b, b';' | b' ' | b'\\' | b'\r' | b'\n')
+    memchr2(b';', b'\\', id).is_none()
 }
 
-fn is_plain(value: &[u8]) -> bool
-    ensures { result ≡ list_all is_plain_byte value.now }
+/// Writes an id with the escapes of a value. Most ids have none, and are written at once.
+fn put_id<W: Write>(writer: &mut W, id: &[u8]) -> io::Result<()>
+    requires { is_id id.now ≡ true }
+    ensures { Writes W.contents writer.old writer.new result (value_text id.now) }
 {
-    value.iter().all(|b| is_plain_byte(*b))
-}
-
-/// Writes a value with its escapes. Most ids have none, and are written at once.
-fn put_value<W: Write>(writer: &mut W, value: &[u8]) -> io::Result<()>
-    ensures { Writes W.contents writer.old writer.new result (value_text value.now) }
-{
-    if is_plain(value) {
-        put(writer, value)
+    if is_plain(id) {
+        put(writer, id)
     } else {
-        write_value(value, writer)
+        write_value(id, writer)
     }
 }
 
-/// Writes a tag whose value is written with the escapes of a value.
-fn put_escaped<W: Write>(writer: &mut W, key: &[u8], value: &[u8]) -> io::Result<()>
-    ensures { Writes W.contents writer.old writer.new result (key.now ++ value_text value.now) }
+/// Writes a tag whose value is an id.
+fn put_id_tag<W: Write>(writer: &mut W, key: &[u8], id: &[u8]) -> io::Result<()>
+    requires { is_id id.now ≡ true }
+    ensures { Writes W.contents writer.old writer.new result (key.now ++ value_text id.now) }
 {
     put(writer, key)?;
-    put_value(writer, value)
+    put_id(writer, id)
 }
 
 /// A tag that a line has before the record's own.
@@ -120,24 +120,19 @@ impl TagWriter {
         put_pair(writer, key, value)
     }
 
-    /// Writes a tag where the flag is set, with the escapes of a value.
-    fn escaped_tag<W: Write>(
-        &mut self,
-        writer: &mut W,
-        flag: bool,
-        tag: Tag,
-        value: &[u8],
-    ) -> io::Result<()>
+    /// Writes the tag of an id where the flag is set, with the escapes of a value.
+    fn id_tag<W: Write>(&mut self, writer: &mut W, flag: bool, id: &[u8]) -> io::Result<()>
+        requires { is_id id.now ≡ true }
         ensures text { Writes W.contents writer.old writer.new result
-            (next_tag self.old.begun flag (key_text tag ++ value_text value.now)) }
+            (next_tag self.old.begun flag (key_text MsgId ++ value_text id.now)) }
         ensures begun { OnOk result (self.new.begun ≡ (self.old.begun || flag)) }
     {
         if !flag {
             return Ok(());
         }
-        let key = tag.key(self.begun);
+        let key = Tag::MsgId.key(self.begun);
         self.begun = true;
-        put_escaped(writer, key, value)
+        put_id_tag(writer, key, id)
     }
 
     /// Writes tags that stand as they are written, where the flag is set.
@@ -189,7 +184,7 @@ pub(crate) fn put_tags<W: Write>(
     let id = message.id().as_bytes();
     let mut tags = TagWriter { begun: false };
     tags.tag(writer, caps.batch, Tag::Batch, reference)?;
-    tags.escaped_tag(writer, caps.message_tags, Tag::MsgId, id)?;
+    tags.id_tag(writer, caps.message_tags, id)?;
     tags.tag(writer, caps.server_time, Tag::Time, time.as_slice())?;
     tags.written_tags(writer, has_own_tags(caps, message), message.tags())?;
     tags.end(writer)
