@@ -1,6 +1,6 @@
 -- A walk over the buffers, to the first of which a record is sought.
-use Rattle.std.proofs.Common.{◌≡◌, refl, sym, ◌∙◌, ap, subst, ℕ, ◌≤◌, Bool, true, false, cond, ◌&&◌, List, [], ◌∷◌, map, Option, Some, None, ◌⊎◌, ⊎_elim, inl, inr}
-use Rattle.std.proofs.lemmas.Bool.{false≢true}
+use Rattle.std.proofs.Common.{◌≡◌, refl, sym, ◌∙◌, ap, subst, ℕ, ◌≤◌, Bool, true, false, cond, ◌&&◌, nat_le, List, [], ◌∷◌, map, Option, Some, None, ◌⊎◌, ⊎_elim, inl, inr}
+use Rattle.std.proofs.lemmas.Bool.{false≢true, and_parts}
 use Rattle.std.proofs.lemmas.Option.{same_Some}
 use Rattle.std.proofs.lemmas.Cmp.{tied_itself}
 use Rattle.std.specs.declared.cmp.Ordering.{Ordering}
@@ -81,7 +81,8 @@ no_first R xs h = first_alike R [] xs (λ x. (λ m. absurd m, λ m. absurd (h x 
 
 -- ---- the buffers that are sought
 
-made_post : (p : Record → Bool) (c : Change) (b : Buffer) → buffer_where p c ≡ Some b → (r : Record) × (c ≡ Post r) × (p r ≡ true) × (r.buffer ≡ b)
+-- a buffer that is listed is that of a post which passes
+pub made_post : (p : Record → Bool) (c : Change) (b : Buffer) → buffer_where p c ≡ Some b → (r : Record) × (c ≡ Post r) × (p r ≡ true) × (r.buffer ≡ b)
 made_post p (Post r) b e =
     elim (p r) as (λ t. p r ≡ t → cond t (Some r.buffer) None ≡ Some b → (q : Record) × (Post r ≡ Post q) × (p q ≡ true) × (q.buffer ≡ b)) [
       | true ↦ λ t f. (r, refl, t, same_Some r.buffer b f)
@@ -224,20 +225,16 @@ behind Equal Equal z e = refl
 behind Equal Greater z e = cc e
 behind Greater y z e = cc e
 
-and_both : (a b : Bool) → (a && b) ≡ true → (a ≡ true) × (b ≡ true)
-and_both true b e = (refl, e)
-and_both false b e = absurd (false≢true e)
-
 its_names : (a n : List ℕ) (b : Buffer) → is_of_network a n b ≡ true → (b.account ≡ a) × (b.network ≡ n)
 its_names a n b e =
-    let both = and_both (is_eq (text_cmp b.account a)) (is_eq (text_cmp b.network n)) e in
+    let both = and_parts (is_eq (text_cmp b.account a)) (is_eq (text_cmp b.network n)) e in
     (text_exact b.account a ((Equal-is (text_cmp b.account a)).0 both.0), text_exact b.network n ((Equal-is (text_cmp b.network n)).0 both.1))
 
 -- no record after a buffer that lies behind is sought
 pub not_behind : (s : Sought) (b : Buffer) (r : Record) → is_sought s r ≡ true → (b ≡ r.buffer) ⊎ (buffer_cmp b r.buffer ≡ Less) → is_behind s b ≡ false
 not_behind (Outdated t) b r e at = refl
-not_behind (OfNetwork a n) b r e at =
-    let names = its_names a.now n.now r.buffer e in
+not_behind (OfNetwork a n since) b r e at =
+    let names = its_names a.now n.now r.buffer (and_parts (nat_le since r.at) (is_of_network a.now n.now r.buffer) e).1 in
     ap (λ x. is_gt (ordering_then (text_cmp b.account x) (text_cmp b.network n.now))) (sym names.0)
     ∙ ap (λ x. is_gt (ordering_then (text_cmp b.account r.buffer.account) (text_cmp b.network x))) (sym names.1)
     ∙ ⊎_elim

@@ -1,5 +1,5 @@
 -- What a walk over the buffers has ahead of it.
-use Rattle.std.specs.Prelude.{◌≡◌, Bool, true, false, Option, List, [], ◌∷◌}
+use Rattle.std.specs.Prelude.{ℕ, ◌≡◌, Bool, true, false, nat_le, Option, List, [], ◌∷◌}
 use Rattle.std.specs.declared.cmp.Ordering.TheVariants.{Less}
 use Rattle.std.specs.Ordering.{is_gt, ordering_then}
 use Rattle.chat_change.specs.Buffer.{Buffer}
@@ -42,6 +42,14 @@ HasSought s messages = (r : Record) × IsKept messages r × (is_sought s r ≡ t
 abbrev pub HasNoneSought : Sought → Messages → Type 0
 HasNoneSought s messages = (r : Record) → IsKept messages r → is_sought s r ≡ false
 
+-- a kept record is not older than a moment
+abbrev pub HasSince : ℕ → Messages → Type 0
+HasSince t messages = (r : Record) × IsKept messages r × (nat_le t r.at ≡ true)
+
+-- every kept record is older than a moment
+abbrev pub HasNoneSince : ℕ → Messages → Type 0
+HasNoneSince t messages = (r : Record) → IsKept messages r → nat_le t r.at ≡ false
+
 -- the kept records are all of that buffer
 abbrev pub AreOf : Buffer → Messages → Type 0
 AreOf b messages = (r : Record) → IsKept messages r → r.buffer ≡ b
@@ -49,5 +57,5 @@ AreOf b messages = (r : Record) → IsKept messages r → r.buffer ≡ b
 -- the buffer is of a later account than the one that is sought, or of its, on a later network
 abbrev pub is_behind : Sought → Buffer → Bool
 is_behind (Outdated t) b = false
-is_behind (OfNetwork account network) b =
+is_behind (OfNetwork account network since) b =
     is_gt (ordering_then (text_cmp b.account account.now) (text_cmp b.network network.now))

@@ -1,5 +1,5 @@
 -- The search for the next buffer of which certain records are held.
-use Rattle.std.specs.Prelude.{Bool, true, Option, Some, None, List, nat_lt}
+use Rattle.std.specs.Prelude.{Bool, true, ◌&&◌, Option, Some, None, List, nat_lt, nat_le}
 use Rattle.std.specs.Ordering.{is_lt}
 use Rattle.std.specs.List.{filter_map}
 use Rattle.chat_change.specs.Buffer.{Buffer}
@@ -13,10 +13,11 @@ use Rattle.chat_buffers.specs.declared.sought.Sought.{Sought}
 use Rattle.chat_buffers.specs.declared.sought.Sought.TheVariants.{Outdated, OfNetwork}
 
 -- whether a record is one of those that are sought: older than a moment, or of an account on a
--- network
+-- network and not older than a moment
 abbrev pub is_sought : Sought → Record → Bool
 is_sought (Outdated t) r = nat_lt r.at t
-is_sought (OfNetwork account network) r = is_of_network account.now network.now r.buffer
+is_sought (OfNetwork account network since) r =
+    nat_le since r.at && is_of_network account.now network.now r.buffer
 
 -- the buffer of a change that posts such a record
 abbrev pub sought_in : Sought → Change → Option Buffer

@@ -57,7 +57,7 @@ impl Buffers {
 impl<'a> BufferWalk<'a> {
     /// The next buffer of which a record is sought, and the moment of its latest visible record. It takes no memory.
     ///
-    /// It goes past the buffers up to that one, or past the last of the account's on the network.
+    /// It goes past the buffers up to that one, or a little past the last of the account's on the network.
     pub fn next_sought(&mut self, sought: &Sought<'_>) -> Option<(&'a Buffer, Moment)>
         ensures first { IsFirst buffer_cmp (all_past sought.now self.old.last
             (history_in self.old.store)) (option_map (λ found. found.0.now) result) }
@@ -66,12 +66,14 @@ impl<'a> BufferWalk<'a> {
         ensures walked { IfSome result (λ found.
             self.new ≡ walk_after self.old.store (Some found.0.now)) }
     {
+        let mut passed: u32 = 0;
         while let Some((buffer, held)) = self.later.next() {
             self.last = Some(buffer);
             if sought.is_any_sought(buffer, &held.messages) {
                 return Some((buffer, held.messages.latest()?));
             }
-            if sought.is_behind(buffer) {
+            passed = passed.wrapping_add(1);
+            if sought.is_end(buffer, &held.messages, passed) {
                 return None;
             }
         }

@@ -9,4 +9,6 @@ mod LookupLemmas
 mod MergeLemmas
 mod NewerLemmas
 mod BuffersLemmas
+mod SinceLemmas
 mod LatestLemmas
+pub mod CallerLemmas

@@ -4,6 +4,8 @@
 pub mod Run
 -- a piece that is lent
 pub mod Piece
+-- the buffers that had a message since a moment
+pub mod LatestSince
 -- ---- what only the proofs use of the code
 
 pub mod State

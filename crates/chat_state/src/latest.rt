@@ -4,17 +4,20 @@ ghost use Rattle.std.specs.Prelude.{◌≡◌, length};
 ghost use Rattle.std.specs.Iterator.{at_most};
 ghost use Rattle.std.specs.Map.Iter.{TakesFirst};
 ghost use Rattle.chat_history.specs.Latest.{latest_in};
+ghost use Rattle.chat_state.specs.LatestSince.{latest_since_in};
 
+use crate::lookups::first_moment;
 use crate::state::State;
 use chat_buffers::{BufferWalk, Sought};
 use chat_change::{Buffer, Moment};
 use std::marker::Model;
 
-/// Buffers that have a visible record, each with the moment of its latest, by target. It is seen as the list of what is
-/// left.
+/// Buffers whose latest visible record isn't older than a moment, each with the moment of that record, by target. It is
+/// seen as the list of what is left.
 #[derive(Drop)]
 pub struct Latest<'a> {
     walk: BufferWalk<'a>,
+    since: Moment,
     next: Option<(&'a Buffer, Moment)>,
 }
 
@@ -26,9 +29,9 @@ impl<'a> Model for Latest<'a> {
 
     ghost Value = { List (spec.Buffer × ℕ) };
 
-    ghost view = { λ l. latest_from (history_in l.walk.store) (next_of l.next) };
+    ghost view = { λ l. latest_from (history_in l.walk.store) l.since (next_of l.next) };
 
-    ghost invariant = { λ l. IsAtBuffer (history_in l.walk.store) l.walk.last l.next };
+    ghost invariant = { λ l. IsAtBuffer (history_in l.walk.store) l.since l.walk.last l.next };
 }
 
 impl<'a> Iterator for Latest<'a> {
@@ -43,7 +46,11 @@ impl<'a> Iterator for Latest<'a> {
             return None;
         };
         let (buffer, at) = (*buffer, *at);
-        let network = Sought::OfNetwork(buffer.account(), buffer.network());
+        let network = Sought::OfNetwork {
+            account: buffer.account(),
+            network: buffer.network(),
+            since: self.since,
+        };
         self.next = self.walk.next_sought(&network);
         Some((buffer, at))
     }
@@ -54,8 +61,20 @@ impl State {
     pub fn latest(&self, account: &[u8], network: &[u8]) -> Latest<'_>
         ensures { result ≡ latest_in self.now.history account.now network.now }
     {
+        self.latest_since(account, network, first_moment())
+    }
+
+    /// Those of them whose latest visible record isn't older than a moment. A buffer with an older one costs a look at
+    /// that moment, and mostly none at its names.
+    pub fn latest_since(&self, account: &[u8], network: &[u8], since: Moment) -> Latest<'_>
+        ensures { result ≡ latest_since_in self.now.history account.now network.now since }
+    {
         let mut walk = self.store.walk();
-        let next = walk.next_sought(&Sought::OfNetwork(account, network));
-        Latest { walk, next }
+        let next = walk.next_sought(&Sought::OfNetwork {
+            account,
+            network,
+            since,
+        });
+        Latest { walk, since, next }
     }
 }

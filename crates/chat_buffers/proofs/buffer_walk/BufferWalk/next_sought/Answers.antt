@@ -43,21 +43,21 @@ is_any_sought-requires c =
     let left = subst (λ (es : Entries). IsLeft h s from es) c.in-Some.ensures.steps c.loop-buffer.invariant.1 in
     record { of = are_of h s from c.in-Some.buffer.now c.in-Some.held.now c.next.new.self left }
 
-pub invariant_of-self-then-is_behind : goal.invariant_of-self-then-is_behind
-invariant_of-self-then-is_behind c =
+pub invariant_of-self-then-is_end : goal.invariant_of-self-then-is_end
+invariant_of-self-then-is_end c =
     let h = history_in c.loop-buffer.self-inside.buffers.now in
     let last : Option Buffer = option_map deref c.loop-buffer.self-inside.last in
     let ahead = subst (λ (es : Entries). IsAhead h last es) c.in-Some.ensures.steps c.loop-buffer.invariant.0 in
     ahead_step h last c.in-Some.buffer.now c.in-Some.held.now c.next.new.self ahead
 
-pub returns-then-is_behind-clause-first : goal.returns-then-is_behind-clause-first
-returns-then-is_behind-clause-first c =
+pub returns-then-is_end-clause-first : goal.returns-then-is_end-clause-first
+returns-then-is_end-clause-first c =
     let h = history_in c.loop-buffer.self-inside.buffers.now in
     let s = c.args.sought.now in
     let from = c.args.self.now.last in
     let left = subst (λ (es : Entries). IsLeft h s from es) c.in-Some.ensures.steps c.loop-buffer.invariant.1 in
     subst (λ (x : Store). IsFirst buffer_cmp (all_past s from (history_in x)) None) (sym c.loop-buffer.invariant.2)
-    (all_behind h s from c.in-Some.buffer.now c.in-Some.held.now c.next.new.self left (sym c.is_behind.ensures ∙ c.if-is_behind.true))
+    (all_behind h s from c.in-Some.buffer.now c.in-Some.held.now c.next.new.self left (c.is_end.ensures c.if-is_end.true))
 
 pub invariant_of-self-then-is_any_sought : goal.invariant_of-self-then-is_any_sought
 invariant_of-self-then-is_any_sought c =

@@ -1,7 +1,6 @@
-use Rattle.std.proofs.Common.{subst, Option, Some, None, ℕ}
+use Rattle.std.proofs.Common.{subst}
 use Rattle.chat_buffers.specs.Kept.{IsLatestKept}
 use Rattle.chat_buffers.specs.Messages.{Messages}
-use Rattle.chat_buffers.specs.RecordMap.{IsLatestIn}
 use Rattle.chat_buffers.proofs.KeptRecordLemmas.{latest_kept}
 use Rattle.chat_buffers.proofs.messages.Messages.latest.Goals as goal
 

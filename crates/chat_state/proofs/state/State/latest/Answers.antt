@@ -1,16 +1,11 @@
 use Rattle.std.proofs.Common.{◌∙◌, ap}
-use Rattle.chat_history.specs.StateValue.{StateValue}
-use Rattle.chat_history.specs.Latest.{latest_in}
-use Rattle.chat_state.proofs.LatestLemmas.{at_next, latest_all}
+use Rattle.chat_state.specs.LatestSince.{latest_since_in}
+use Rattle.chat_state.proofs.SinceLemmas.{all_since}
 use Rattle.chat_state.proofs.state.State.latest.Goals as goal
-
-pub invariant_of-result : goal.invariant_of-result
-invariant_of-result c =
-    let next = c.next_sought-next in
-    at_next c.walk-walk.result next.new.self c.args.account c.args.network next.result next.ensures.first next.ensures.latest next.ensures.walked
 
 pub returns : goal.returns
 returns c =
-    let next = c.next_sought-next in
-    latest_all c.self.inside.store c.walk-walk.result next.new.self c.walk-walk.ensures c.args.account c.args.network next.result next.ensures.first next.ensures.walked
-    ∙ ap (λ (s : StateValue). latest_in s.history c.args.account.now c.args.network.now) c.self.view_is
+    let history = c.args.self.now.history in
+    let account = c.args.account.now in
+    let network = c.args.network.now in
+    c.latest_since.ensures ∙ ap (latest_since_in history account network) c.first_moment.ensures ∙ all_since history account network
