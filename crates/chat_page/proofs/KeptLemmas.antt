@@ -1,22 +1,27 @@
 -- The first or the last of a set of buffers, kept while buffers are put into it one by one.
-use Rattle.std.proofs.Common.{◌≡◌, ◌<◌, ◌≤◌, ◌-◌, ℕ, zero, suc, Bool, true, false, List, [], ◌∷◌, ◌++◌, Some, length, take, drop, filter, map, if◌then◌else◌, slice_get, All, cond, refl, sym, ap, ◌∙◌, subst, append-nil, ⊎_elim, arith}
+use Rattle.std.proofs.Common.{◌≡◌, ◌<◌, ◌≤◌, ◌-◌, ℕ, zero, suc, Bool, true, false, List, [], ◌∷◌, ◌++◌, Some, length, take, drop, filter, map, if◌then◌else◌, slice_get, All, cond, min, max, nat_lt, refl, sym, ap, ◌∙◌, subst, append-nil, ⊎_elim, arith}
 use Rattle.std.specs.Prelude.{◌||◌}
 use Rattle.std.specs.declared.cmp.Ordering.{Ordering}
 use Rattle.std.specs.declared.cmp.Ordering.TheVariants.{Less, Equal, Greater}
-use Rattle.std.specs.Ordering.{is_lt, is_le, is_ge, eq_by_cmp, match_ordering, ordering_reverse}
+use Rattle.std.specs.Ordering.{is_lt, is_le, is_ge, eq_by_cmp, match_ordering, ordering_reverse, nat_cmp}
 use Rattle.std.specs.Cmp.{IsTotalOrder}
 use Rattle.std.specs.List.{AllByRecursion, list_any}
 use Rattle.std.specs.List.Sorted.{IsStrictlySortedBy}
 use Rattle.std.specs.FinMap.{from_entries, keys}
 use Rattle.std.specs.BTreeSet as tree
 use Rattle.std.specs.BTreeSet.{BTreeSet, insert_key}
-use Rattle.std.proofs.lemmas.Bool.{false≢true, cases_lt}
+use Rattle.std.proofs.lemmas.Bool.{false≢true, cases_lt, cond-false, false_from_ne_true, and_parts, ltb-true, le-leb}
+use Rattle.std.proofs.lemmas.Bool.Decides.{nat_tests}
 use Rattle.std.proofs.lemmas.List.{take_all, take-take}
 use Rattle.std.proofs.lemmas.List.Elements.{All-head, All-tail, filter-append}
 use Rattle.std.proofs.lemmas.List.Folds.{list_any-append}
+use Rattle.chat_change.specs.Buffer.{Buffer}
+use Rattle.chat_history.specs.History.{History}
+use Rattle.chat_history.specs.Latest.{latest_in}
 use Rattle.chat_history.specs.Visible.{spot_cmp}
 use Rattle.chat_history.proofs.CallerLemmas.{spot_total}
-use Rattle.chat_page.specs.Page.{last}
+use Rattle.chat_state.specs.LatestSince.{is_since, latest_since_in}
+use Rattle.chat_page.specs.Page.{last, listed, lies_between}
 use Rattle.chat_page.proofs.BufferLemmas.{Listed, spot_exact, set_is}
 
 -- ---- the last of a list
@@ -189,3 +194,26 @@ module _ (forward : Bool) (n : ℕ) where
 
   pub cut_is : (p : Listed → Bool) (xs : List Listed) (kept : BTreeSet Listed) → IsCutOf (filter p xs) kept → kept.keys ≡ cut (filter p (keys (from_entries {R = spot_cmp} (map (λ (e : Listed). (e, e)) xs))))
   cut_is p xs kept h = h.2 ∙ ap cut (set_is p xs h.0 h.1)
+
+-- ---- what is left out before
+
+-- what is left out for a reason why it wouldn't pass changes nothing
+passing_alike : {A B : Type 0} (f : A → B) (p : B → Bool) (q : A → Bool) → ((x : A) → p (f x) ≡ true → q x ≡ true) → (xs : List A) → filter p (map f (filter q xs)) ≡ filter p (map f xs)
+passing_alike f p q h [] = refl
+passing_alike f p q h (x ∷ xs) =
+    elim (q x) as (λ b. q x ≡ b → filter p (map f (cond b (x ∷ filter q xs) (filter q xs))) ≡ cond (p (f x)) (f x ∷ filter p (map f xs)) (filter p (map f xs))) [
+      | true ↦ λ _. ap (λ l. cond (p (f x)) (f x ∷ l) l) (passing_alike f p q h xs)
+      | false ↦ λ e. passing_alike f p q h xs ∙ sym (cond-false (p (f x)) (f x ∷ filter p (map f xs)) (filter p (map f xs)) (false_from_ne_true (p (f x)) (λ t. false≢true (sym e ∙ h x t))))
+    ] refl
+
+pub least_is : (t u : ℕ) → cond (is_lt (nat_cmp u t)) u t ≡ min t u
+least_is t u = grind (arith, nat_tests)
+
+-- of the buffers that lie between two moments none has its latest record before the lower one
+pub between_since : (history : History) (account network : List ℕ) (t u low : ℕ) → low ≡ min t u → filter (lies_between t u) (listed (latest_since_in history account network low)) ≡ filter (lies_between t u) (listed (latest_in history account network))
+between_since history account network t u low is =
+    passing_alike (λ (b : Buffer × ℕ). (b.1, b.0.target)) (lies_between t u) (is_since low) late (latest_in history account network) where
+      late : (b : Buffer × ℕ) → lies_between t u (b.1, b.0.target) ≡ true → is_since low b ≡ true
+      late b e =
+          let above : min t u < b.1 = ltb-true (min t u) b.1 (and_parts (nat_lt (min t u) b.1) (nat_lt b.1 (max t u)) e).0 in
+          le-leb low b.1 (omega arith)

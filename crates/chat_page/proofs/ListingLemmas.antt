@@ -1,28 +1,25 @@
 -- What TARGETS lists: the buffers of a scope with their latest moments.
-use Rattle.std.proofs.Common.{◌≡◌, ◌<◌, ◌≤◌, ◌-◌, ℕ, Bool, true, false, cond, Some, None, List, [], ◌∷◌, filter, map, take, length, min, max, nat_lt, refl, sym, ◌∙◌, ap, subst, arith, ⊎_elim, inl, inr}
+use Rattle.std.proofs.Common.{◌≡◌, ◌<◌, ◌≤◌, ◌-◌, ℕ, Bool, true, Some, List, [], ◌∷◌, filter, take, length, min, max, nat_lt, refl, sym, ◌∙◌, ap, subst, arith, inl}
 use Rattle.std.specs.Prelude.{◌↔◌, Contains}
 use Rattle.std.specs.Ordering.{is_eq}
 use Rattle.std.specs.Cmp.{Equal-is}
-use Rattle.std.specs.Option.{unwrap_or}
 use Rattle.std.specs.List.Sorted.{IsStrictlySortedBy}
-use Rattle.std.specs.FinMap.{get}
-use Rattle.std.proofs.lemmas.Bool.{and_parts, and_from, ltb-true, lt-ltb, le-ltb, cases_lt, cond-true, cond-false}
+use Rattle.std.proofs.lemmas.Bool.{and_parts, and_from, ltb-true, lt-ltb, le-ltb, cond-true, cond-false}
 use Rattle.std.proofs.lemmas.Cmp.{tied_itself}
 use Rattle.std.proofs.lemmas.List.Kept.{IsStrictlySortedBy-filter}
 use Rattle.chat_change.specs.Buffer.{Buffer}
 use Rattle.chat_change.specs.Record.{Record}
 use Rattle.chat_change.specs.Order.{text_cmp}
-use Rattle.chat_change.specs.Key.{MessageOf}
 use Rattle.chat_change.specs.declared.change.Change.{Change}
-use Rattle.chat_change.specs.declared.change.Change.TheVariants.{Post, Redact, Mark, Floor, AccountFloor}
 use Rattle.chat_change.proofs.CallerLemmas.{text_total, text_exact}
 use Rattle.chat_history.specs.Choice.{Among}
-use Rattle.chat_history.specs.History.{History, norm, changes_of, IsKeyed}
+use Rattle.chat_history.specs.History.{History, norm, IsKeyed}
 use Rattle.chat_history.specs.Visible.{records_in, spot_cmp}
-use Rattle.chat_history.specs.Buffers.{buffer_where, is_of_network}
+use Rattle.chat_history.specs.Buffers.{is_of_network}
 use Rattle.chat_history.specs.Latest.{latest_moment, with_moment, network_buffers, latest_in}
-use Rattle.chat_history.proofs.CallerLemmas.{among, contained, among-filter, among_passing, among-filter_map, among_made, mapped, image, sorted_alike, norm_keyed, most_greatest}
-use Rattle.chat_history.proofs.CallerLemmas.{spot_total, change_held, held_change, record_of, of_record, in_order_member, member_in_order}
+use Rattle.chat_history.proofs.CallerLemmas.{among, contained, among-filter, among_passing, mapped, image, sorted_alike, norm_keyed}
+use Rattle.chat_history.proofs.CallerLemmas.{spot_total, record_of}
+use Rattle.chat_state.proofs.CallerLemmas.{latest_among, among_latest, listed_record, record_listed}
 use Rattle.chat_page.specs.Scope.{Scope}
 use Rattle.chat_page.specs.Page.{buffer_of, listed, buffers_in, lies_between, last, of_buffers, page_in, page}
 use Rattle.chat_page.specs.Listing.{IsLatestOf, IsLatestBetween, IsListing}
@@ -30,43 +27,16 @@ use Rattle.chat_page.specs.declared.query.Query.TheVariants.{Targets}
 use Rattle.chat_page.proofs.BufferLemmas.{keys_among, keys_rise}
 use Rattle.chat_page.proofs.WalkLemmas.{drop_none}
 
--- ---- the greatest of some moments
-
-abbrev IsGreatestOf : List ℕ → ℕ → Type 0
-IsGreatestOf ts g = Among g ts × ((u : ℕ) → Among u ts → u ≤ g)
-
-with_more : (t g : ℕ) (ts : List ℕ) → IsGreatestOf ts g → (k : ℕ) × IsGreatestOf (t ∷ ts) k
-with_more t g ts h = ⊎_elim
-    (λ (l : t < g). (g, (inr h.0, λ u m. ⊎_elim (λ (e : t ≡ u). let r : u ≤ g = omega arith in r) (λ a. h.1 u a) m)))
-    (λ (l : g ≤ t). (t, (inl refl, λ u m. ⊎_elim (λ (e : t ≡ u). let r : u ≤ t = omega arith in r) (λ a. let s = h.1 u a in let r : u ≤ t = omega arith in r) m)))
-    (cases_lt t g)
-
-greatest_exists : (ts : List ℕ) (t : ℕ) → Among t ts → (g : ℕ) × IsGreatestOf ts g
-greatest_exists [] t m = absurd m
-greatest_exists (v ∷ []) t m = (v, (inl refl, λ u n. ⊎_elim (λ (e : v ≡ u). let r : u ≤ v = omega arith in r) (λ a. absurd a) n))
-greatest_exists (v ∷ w ∷ ts) t m = let g = greatest_exists (w ∷ ts) w (inl refl) in with_more v g.0 (w ∷ ts) g.1
-
 -- ---- the latest record of a buffer
 
 module _ (h : History) (b : Buffer) where
-  abbrev moments : List ℕ
-  moments = map (λ (r : Record). r.at) (records_in h b)
-
   latest_is : (t : ℕ) → IsLatestOf (records_in h b) t → latest_moment h b ≡ t
-  latest_is t l =
-      let there = image (λ (r : Record). r.at) (records_in h b) l.0.0 (among (records_in h b) l.0.0 l.0.1) in
-      ap (λ o. unwrap_or o 0) (most_greatest moments t (subst (λ x. Among x moments) l.0.2 there)
-      (λ u m. let r = mapped (λ (r : Record). r.at) (records_in h b) u m in subst (λ x. x ≤ t) r.2 (l.1 r.0 (contained (records_in h b) r.0 r.1))))
+  latest_is t l = latest_among h b t ((l.0.0, among (records_in h b) l.0.0 l.0.1, l.0.2), λ r m. l.1 r (contained (records_in h b) r m))
 
   is_latest : (r : Record) → Among r (records_in h b) → IsLatestOf (records_in h b) (latest_moment h b)
   is_latest r m =
-      let g = greatest_exists moments r.at (image (λ (r : Record). r.at) (records_in h b) r m) in
-      let q = mapped (λ (r : Record). r.at) (records_in h b) g.0 g.1.0 in
-      let s : IsLatestOf (records_in h b) g.0 = (
-        (q.0, contained (records_in h b) q.0 q.1, q.2),
-        λ p n. g.1.1 p.at (image (λ (r : Record). r.at) (records_in h b) p (among (records_in h b) p n)),
-      ) in
-      subst (IsLatestOf (records_in h b)) (sym (latest_is g.0 s)) s
+      let l = among_latest h b r m in
+      ((l.0.0, contained (records_in h b) l.0.0 l.0.1, l.0.2), λ q n. l.1 q (among (records_in h b) q n))
 
 -- ---- the buffers of an account on a network
 
@@ -81,17 +51,6 @@ scope_buffer scope b e =
     let n : b.network ≡ scope.network = text_exact b.network scope.network ((Equal-is (text_cmp b.network scope.network)).0 both.1) in
     λ i. record { account = a i; network = n i; target = b.target }
 
-post_where : (p : Record → Bool) (c : Change) (b : Buffer) → buffer_where p c ≡ Some b → (r : Record) × (c ≡ Post r) × (r.buffer ≡ b) × (p r ≡ true)
-post_where p (Post r) b e =
-    elim (p r) as (λ t. p r ≡ t → cond t (Some r.buffer) None ≡ Some b → (q : Record) × (Post r ≡ Post q) × (q.buffer ≡ b) × (p q ≡ true)) [
-      | true ↦ λ t e. let s : r.buffer ≡ b = cc in (r, refl, s, t)
-      | false ↦ λ t e. cc
-    ] refl e
-post_where p (Redact d m t) b e = cc
-post_where p (Mark d t) b e = cc
-post_where p (Floor d t) b e = cc
-post_where p (AccountFloor a t) b e = cc
-
 module _ (h : History) (keyed : IsKeyed h) (scope : Scope) where
   abbrev is_ours : Record → Bool
   is_ours r = is_of_network scope.account scope.network r.buffer
@@ -101,20 +60,12 @@ module _ (h : History) (keyed : IsKeyed h) (scope : Scope) where
 
   -- a buffer of the scope that has a record
   by_record : (b : Buffer) (r : Record) → Among r (records_in h b) → is_of_network scope.account scope.network b ≡ true → Among b ours
-  by_record b r m e =
-      let p = record_of h keyed b r m in
-      let held = held_change h keyed (Post r) (ap (λ d. get h (MessageOf d r.id)) p.0 ∙ p.1) in
-      let here : buffer_where is_ours (Post r) ≡ Some b = ap (λ t. cond t (Some r.buffer) None) (ap (is_of_network scope.account scope.network) p.0 ∙ e) ∙ ap Some p.0 in
-      member_in_order _ b (among_made (buffer_where is_ours) (changes_of h) (Post r) b held here)
+  by_record b r m e = record_listed h keyed is_ours b r m (ap (is_of_network scope.account scope.network) (record_of h keyed b r m).0 ∙ e)
 
   has_record : (b : Buffer) → Among b ours → ((r : Record) × Among r (records_in h b)) × (is_of_network scope.account scope.network b ≡ true)
   has_record b m =
-      let s = among-filter_map (buffer_where is_ours) (changes_of h) b (in_order_member _ b m) in
-      let q = post_where is_ours s.0 b s.2 in
-      let held = change_held h keyed (Post q.0) (subst (λ c. Among c (changes_of h)) q.1 s.1) in (
-        (q.0, of_record h keyed b q.0 (q.2, ap (λ d. get h (MessageOf d q.0.id)) (sym q.2) ∙ held)),
-        ap (is_of_network scope.account scope.network) (sym q.2) ∙ q.3,
-      )
+      let r = listed_record h keyed is_ours b m in
+      ((r.0, r.1), ap (is_of_network scope.account scope.network) (sym r.2) ∙ r.3)
 
   abbrev all : List (ℕ × List ℕ)
   all = listed (latest_in h scope.account scope.network)

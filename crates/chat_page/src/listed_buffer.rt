@@ -225,7 +225,7 @@ fn found_between<'a>(
     ensures { IfOk result (λ found. found.keys ≡ targets_cut n one other
         (buffers_in state.now.history scope.now)) }
 {
-    let latest = state.latest(scope.account(), scope.network());
+    let latest = state.latest_since(scope.account(), scope.network(), one.min(other));
     let forward = one.ms() < other.ms();
     let mut found = BTreeSet::new(alloc);
     for buffer in (Listing { latest }) {
