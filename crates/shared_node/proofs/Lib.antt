@@ -1,5 +1,5 @@
 mod PrefixLemmas
 mod AddLemmas
+mod ListLemmas
 mod StateLemmas
-mod ChainLemmas
 mod ReadLemmas

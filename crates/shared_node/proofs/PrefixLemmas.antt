@@ -1,7 +1,7 @@
 -- Prefixes of one list.
-use Rattle.std.proofs.Common.{◌≡◌, ◌≤◌, List, [], ◌∷◌, ◌++◌, length, refl, ap, sym, ◌∙◌, arith, append_assoc}
-use Rattle.std.proofs.lemmas.List.{append-nil}
-use mathlib.Core.List.{IsPrefix}
+use Rattle.std.proofs.Common.{◌≡◌, ◌≤◌, ◌+◌, List, [], ◌∷◌, ◌++◌, length, drop, refl, ap, sym, ◌∙◌, arith, append_assoc, length-append}
+use Rattle.std.proofs.lemmas.List.{append-nil, drop_at}
+use mathlib.Core.List.{IsPrefix, IsSuffix}
 
 pub prefix_self : {A : Type 0} (xs : List A) → IsPrefix xs xs
 prefix_self xs = ([], append-nil xs)
@@ -36,3 +36,13 @@ prefix_shorter (x ∷ xs) (y ∷ ys) (z ∷ zs) p q le =
 -- two prefixes of one list that are as long are the same
 pub prefix_same : {A : Type 0} (xs ys zs : List A) → IsPrefix xs zs → IsPrefix ys zs → length xs ≡ length ys → xs ≡ ys
 prefix_same xs ys zs p q e = prefix_whole xs ys (prefix_shorter xs ys zs p q (omega arith)) (omega arith)
+
+-- what has a prefix and one item more is that prefix and its last item
+pub prefix_last : {A : Type 0} (xs ys : List A) (y : A) → IsPrefix xs ys → IsSuffix (y ∷ []) ys → length ys ≡ length xs + 1 → ys ≡ xs ++ y ∷ []
+prefix_last xs ys y p s more =
+    let same : xs ≡ s.0 = prefix_same xs s.0 ys p (y ∷ [], s.1) (omega (arith, ap length s.1, length-append s.0 (y ∷ []))) in
+    sym s.1 ∙ ap (λ zs. zs ++ y ∷ []) (sym same)
+
+pub prefix_rest : {A : Type 0} (xs ys : List A) → IsPrefix xs ys → xs ++ drop (length xs) ys ≡ ys
+prefix_rest xs ys p =
+    ap (λ zs. xs ++ drop (length xs) zs) (sym p.1) ∙ ap (λ zs. xs ++ zs) (drop_at xs p.0 (length xs) refl) ∙ p.1

@@ -10,7 +10,7 @@ use Rattle.gossip_delta.specs.declared.delta.DeltaFault.TheVariants.{NoEntry, No
 use Rattle.shared_node.specs.declared.change_log.entry.Entry.{Entry}
 use Rattle.shared_node.specs.Lists.{changes_in, under}
 use Rattle.shared_node.specs.Passes.{PassValue, Reads}
-use Rattle.shared_node.proofs.ChainLemmas.{changes_in-append}
+use Rattle.shared_node.proofs.ListLemmas.{changes_in-append}
 
 -- a pass has seen these changes, from the start on
 abbrev pub HasSeen : PassValue → ℕ → List Change → Type 0

@@ -1,110 +1,69 @@
--- A state that took one change more is the state of the longer list.
-use Rattle.std.proofs.Common.{◌≡◌, ◌≢◌, ℕ, ◌+◌, Bool, true, false, cond, Option, Some, None, List, [], ◌∷◌, ◌++◌, refl, sym, ◌∙◌, ap, arith}
-use Rattle.std.proofs.lemmas.Bool.{false≢true}
-use Rattle.std.proofs.lemmas.Bool.Decides.{nat_tests}
-use Rattle.std.specs.Prelude.{◌↔◌, IsTrue, nat_lt}
-use Rattle.std.specs.FinMap as finite
-use Rattle.std.specs.Option.{option_map}
-use Rattle.chat_change.specs.Extent.{Extent, OfAccount, OfBuffer}
+-- The states of a list and of those that go on from it.
+use Rattle.std.proofs.Common.{◌≡◌, ℕ, ◌+◌, ◌≤◌, Bool, true, false, cond, List, [], ◌∷◌, ◌++◌, length, map, refl, sym, ◌∙◌, ap, arith, append_assoc, length-append}
+use Rattle.std.proofs.lemmas.List.{append-nil}
+use Rattle.std.specs.Prelude.{not}
+use Rattle.std.specs.FinMap.{from_entries, keys}
+use mathlib.Core.List.{IsPrefix}
 use Rattle.chat_change.specs.declared.change.Change.{Change}
-use Rattle.chat_change.specs.declared.change.Change.TheVariants.{Post, Redact, Mark, Floor, AccountFloor}
-use Rattle.chat_change.specs.Key.{FloorOf, key_of, key_extent, floor_change, same_key}
-use Rattle.chat_change.proofs.CallerLemmas.{key_total, key_exact, same_key_itself, same_key_is}
-use Rattle.chat_history.specs.Choice.{keep}
-use Rattle.chat_history.specs.Form.{IsNoFloor, next_piece}
-use Rattle.chat_history.specs.History.{History, floor_at, norm, changes_of, IsKeyed}
-use Rattle.chat_history.specs.Retention.{outlasts, remainder}
-use Rattle.chat_history.specs.Numbering.{numbers_after}
+use Rattle.chat_history.specs.History.{norm}
+use Rattle.chat_history.specs.Numbering.{changes_that_count, counts_after, front, up_to_last}
 use Rattle.chat_history.specs.Same.{same_history}
-use Rattle.chat_history.specs.StateValue.{StateValue, state_after, history_with, AreNumbersWith}
-use Rattle.chat_history.proofs.CallerLemmas.{norm_keyed, norm-changes_of, get_after, get_floor, low_floor, held_counted, held_same}
-use Rattle.chat_history.proofs.CallerLemmas.{same_history_decides}
-use Rattle.shared_node.specs.Versions.{counted, with_change}
+use Rattle.chat_history.specs.StateValue.{StateValue, state_after, HasTaken}
+use Rattle.chat_history.proofs.CallerLemmas.{front_grows, same_history_decides}
+use Rattle.shared_node.specs.declared.change_log.entry.Entry.{Entry}
+use Rattle.shared_node.specs.Lists.{changes_in, state_of}
+use Rattle.shared_node.proofs.ListLemmas.{changes_in-append}
 
--- ---- a change that leaves its key without a piece changes nothing
+-- ---- where the front stays, nothing changes
 
-module _ (h : History) (keyed : IsKeyed h) (normal : norm (changes_of h) ≡ h) where
-  abbrev with : Change → History
-  with c = norm (changes_of h ++ c ∷ [])
+counted_more : (before xs ys : List Change) → changes_that_count before (xs ++ ys) ≡ changes_that_count before xs ++ changes_that_count (before ++ xs) ys
+counted_more before [] ys = ap (λ b. changes_that_count b ys) (sym (append-nil before))
+counted_more before (x ∷ xs) ys =
+    let rest = counted_more (before ++ x ∷ []) xs ys ∙ ap (λ b. changes_that_count (before ++ x ∷ []) xs ++ changes_that_count b ys) (append_assoc before (x ∷ []) xs) in
+    elim (counts_after before x) as (λ b. cond b (x ∷ changes_that_count (before ++ x ∷ []) (xs ++ ys)) (changes_that_count (before ++ x ∷ []) (xs ++ ys)) ≡ cond b (x ∷ changes_that_count (before ++ x ∷ []) xs) (changes_that_count (before ++ x ∷ []) xs) ++ changes_that_count (before ++ x ∷ xs) ys) [
+      | true ↦ ap (λ l. x ∷ l) rest
+      | false ↦ rest
+    ]
 
-  next_none : (f : ℕ) (o : Option Change) (c : Change) → next_piece f o c ≡ None → o ≡ None
-  next_none f None c e = refl
-  next_none f (Some old) c e = cc
+none_counts : (before more : List Change) → changes_that_count before more ≡ [] → norm (before ++ more) ≡ norm before
+none_counts before [] none = ap norm (append-nil before)
+none_counts before (c ∷ cs) none =
+    elim (same_history (norm (before ++ c ∷ [])) (norm before)) as (λ b. same_history (norm (before ++ c ∷ [])) (norm before) ≡ b → cond (not b) (c ∷ changes_that_count (before ++ c ∷ []) cs) (changes_that_count (before ++ c ∷ []) cs) ≡ [] → norm (before ++ c ∷ cs) ≡ norm before) [
+      | true ↦ λ same rest. ap norm (sym (append_assoc before (c ∷ []) cs)) ∙ none_counts (before ++ c ∷ []) cs rest ∙ (same_history_decides (norm (before ++ c ∷ [])) (norm before)).0 same
+      | false ↦ λ _ some. cc
+    ] refl none
 
-  plain_none : (c : Change) → IsNoFloor c → finite.get (with c) (key_of c) ≡ None → with c ≡ h
-  plain_none c p none =
-      let f = floor_at (changes_of h) (key_extent (key_of c)) in
-      let next : next_piece f (finite.get h (key_of c)) c ≡ None =
-      ap (λ b. cond b (next_piece f (finite.get h (key_of c)) c) (finite.get h (key_of c))) (sym (same_key_itself (key_of c)))
-      ∙ sym (get_after h keyed normal c p (key_of c)) ∙ none in
-      let had = next_none f (finite.get h (key_of c)) c next in
-      finite.same_map key_total key_exact (with c) h (λ k.
-      get_after h keyed normal c p k
-      ∙ elim (same_key k (key_of c)) as (λ b. same_key k (key_of c) ≡ b → cond b (next_piece f (finite.get h (key_of c)) c) (finite.get h k) ≡ finite.get h k) [
-        | true ↦ λ e. next ∙ sym had ∙ ap (finite.get h) (sym (same_key_is k (key_of c) e))
-        | false ↦ λ e. refl
-      ] refl)
+no_length : (xs : List Change) → length xs ≤ 0 → xs ≡ []
+no_length [] le = refl
+no_length (x ∷ xs) le = absurd (omega arith)
 
-  floor_none : (x : Extent) (t : ℕ) (higher : Bool) → nat_lt (floor_at (changes_of h) x) t ≡ higher → finite.get (with (floor_change x t)) (FloorOf x) ≡ None → with (floor_change x t) ≡ h
-  floor_none x t true e none =
-      let some : Some (floor_change x t) ≡ None =
-      ap (λ a. cond a (Some (floor_change x t)) (option_map (remainder x t) (keep (outlasts x t) (finite.get h (FloorOf x))))) (sym (same_key_itself (FloorOf x)))
-      ∙ sym (get_floor h keyed normal x t (grind (arith, nat_tests)) (FloorOf x)) ∙ none in
-      cc
-  floor_none x t false e none = low_floor h keyed normal x t (grind (arith, nat_tests))
+same_front : (start : ℕ) (changes more : List Change) → front start (changes ++ more) ≤ front start changes → state_after start (changes ++ more) ≡ state_after start changes
+same_front start changes more le =
+    let split = counted_more [] changes more in
+    let none = no_length (changes_that_count changes more) (omega (arith, ap length split, length-append (changes_that_count [] changes) (changes_that_count changes more))) in
+    let same = none_counts changes more none in
+    let steps : changes_that_count [] (changes ++ more) ≡ changes_that_count [] changes =
+    split ∙ ap (λ l. changes_that_count [] changes ++ l) none ∙ append-nil (changes_that_count [] changes) in
+    λ i. record {
+      history = same i;
+      numbers = from_entries (map (λ k. (k, start + up_to_last k (steps i))) (keys (same i)));
+      front = start + length (steps i);
+    }
 
-  none_same : (c : Change) → finite.get (with c) (key_of c) ≡ None → with c ≡ h
-  none_same (Post r) none = plain_none (Post r) tt none
-  none_same (Redact b m t) none = plain_none (Redact b m t) tt none
-  none_same (Mark b t) none = plain_none (Mark b t) tt none
-  none_same (Floor b t) none = floor_none (OfBuffer b) t (nat_lt (floor_at (changes_of h) (OfBuffer b)) t) refl none
-  none_same (AccountFloor a t) none = floor_none (OfAccount a) t (nat_lt (floor_at (changes_of h) (OfAccount a)) t) refl none
+-- ---- published lists
 
--- ---- lists
+-- a list that lies between two whose states have one front has their state
+pub state_between : (list after other : List Entry) → IsPrefix list after → IsPrefix after other → (state_of list).front ≡ (state_of other).front → state_of after ≡ state_of list
+state_between list after other p q fronts =
+    let near : changes_in list ++ changes_in p.0 ≡ changes_in after = sym (changes_in-append list p.0) ∙ ap changes_in p.1 in
+    let far : changes_in after ++ changes_in q.0 ≡ changes_in other = sym (changes_in-append after q.0) ∙ ap changes_in q.1 in
+    let grows = front_grows 0 (changes_in after) (changes_in q.0) in
+    ap (state_after 0) (sym near) ∙ same_front 0 (changes_in list) (changes_in p.0) (omega (arith, ap (front 0) near, ap (front 0) far, grows, fronts))
 
-module _ (start : ℕ) (changes : List Change) (c : Change) where
-  abbrev before : StateValue
-  before = state_after start changes
-
-  abbrev history : History
-  history = history_with before (c ∷ [])
-
-  new_one : history ≢ before.history → (o : Option Change) → finite.get history (key_of c) ≡ o → counted before c ≡ state_after start (changes ++ c ∷ [])
-  new_one differs None e = absurd (differs (none_same before.history (norm_keyed changes) (norm-changes_of changes) c e))
-  new_one differs (Some w) e = held_counted start changes c before (counted before c) w (norm_keyed changes) refl refl differs refl refl e
-
-  one_more_in : (b : Bool) → same_history history before.history ≡ b → cond b before (counted before c) ≡ state_after start (changes ++ c ∷ [])
-  one_more_in true e = held_same start changes c before refl (sym ((same_history_decides history before.history).0 e))
-  one_more_in false e = new_one (λ same. false≢true (sym e ∙ (same_history_decides history before.history).1 same)) (finite.get history (key_of c)) refl
-
-  pub one_change_more : with_change before c ≡ state_after start (changes ++ c ∷ [])
-  one_change_more = one_more_in (same_history history before.history) refl
-
--- ---- what taking a change ensures
-
-module _ (old new : StateValue) (c : Change) (changed : Bool)
-    (ok : new.history ≡ history_with old (c ∷ []))
-    (if_changed : IsTrue changed ↔ (new.history ≢ old.history))
-    (front : new.front ≡ cond changed (old.front + 1) old.front)
-    (numbers : AreNumbersWith changed old c new) where
-  taken_in : (b : Bool) → same_history (history_with old (c ∷ [])) old.history ≡ b → new ≡ cond b old (counted old c)
-  taken_in true e =
-      let same : new.history ≡ old.history = ok ∙ (same_history_decides (history_with old (c ∷ [])) old.history).0 e in
-      elim changed as (λ b. changed ≡ b → new ≡ old) [
-        | true ↦ λ is. absurd (if_changed.0 is same)
-        | false ↦ λ is. λ i. record {
-          history = same i;
-          numbers = (numbers ∙ ap (λ b. cond b (numbers_after old.numbers new.history (key_of c) (old.front + 1)) old.numbers) is) i;
-          front = (front ∙ ap (λ b. cond b (old.front + 1) old.front) is) i;
-        }
-      ] refl
-  taken_in false e =
-      let is : changed ≡ true = if_changed.1 (λ same. false≢true (sym e ∙ (same_history_decides (history_with old (c ∷ [])) old.history).1 (sym ok ∙ same))) in
-      λ i. record {
-        history = ok i;
-        numbers = (numbers ∙ (λ j. cond (is j) (numbers_after old.numbers (ok j) (key_of c) (old.front + 1)) old.numbers)) i;
-        front = (front ∙ ap (λ b. cond b (old.front + 1) old.front) is) i;
-      }
-
-  pub taken_is : new ≡ with_change old c
-  taken_is = taken_in (same_history (history_with old (c ∷ [])) old.history) refl
+-- the state of a list takes one entry more
+pub state_taken : (list after : List Entry) (e : Entry) (old new : StateValue) (c : Change) → after ≡ list ++ e ∷ [] → old ≡ state_of list → c ≡ e.change → HasTaken old (c ∷ []) new → new ≡ state_of after
+state_taken list after e old new c longer made same held =
+    held 0 (changes_in list) made
+    ∙ ap (λ d. state_after 0 (changes_in list ++ d ∷ [])) same
+    ∙ ap (state_after 0) (sym (changes_in-append list (e ∷ [])))
+    ∙ ap state_of (sym longer)

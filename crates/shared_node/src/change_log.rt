@@ -13,6 +13,6 @@ mod version;
 pub use entry::Entry;
 pub(crate) use history::History;
 pub use history::Naming;
-pub(crate) use prefix::{AnyPrefix, Prefix};
+pub(crate) use prefix::Prefix;
 pub use unnamed::Unnamed;
-pub(crate) use version::{Operation, Published, Version};
+pub(crate) use version::{Operation, Version};

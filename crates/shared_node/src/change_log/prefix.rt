@@ -55,23 +55,6 @@ impl<J: Naming> Prefix<J> {
         }
     }
 
-    /// The prefix of this node that it is.
-    pub(crate) fn of(any: &AnyPrefix) -> Prefix<J>
-        requires { any.now.seen.book ≡ J.book }
-        ensures { result ≡ any.now.seen.log }
-    {
-        Prefix {
-            any: any.again(),
-            of: PhantomData,
-        }
-    }
-
-    pub(crate) fn any(&self) -> AnyPrefix
-        ensures { (result.seen.log ≡ self.now) × (result.seen.book ≡ J.book) }
-    {
-        self.any.again()
-    }
-
     /// How many entries it has.
     pub(crate) fn len(&self) -> u64
         ensures { result ≡ length self.now }

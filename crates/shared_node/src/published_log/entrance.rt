@@ -2,14 +2,14 @@
 ghost use Rattle.std.specs.Prelude.{◌≡◌, true, IfSome, IfNone};
 ghost use mathlib.Core.List.{IsPrefix};
 ghost use Rattle.shared_node.specs.Lists.{state_of};
-ghost use Rattle.shared_node.specs.Versions.{IsMade};
 
-use crate::change_log::{Naming, Prefix, Published, Version};
+use crate::change_log::{Naming, Prefix, Version};
 use chat_state::State;
+use crossbeam_utils::rule::Unruled;
 use left_right::reader::{Reader, Reading};
 use std::marker::Model;
 
-pub(super) type VersionReader<J> = Reader<Version, (), Published<J>>;
+pub(super) type VersionReader<J> = Reader<Version<J>, (), Unruled>;
 
 /// A reader of a log. A visit has what it reads with while it lives. Contracts see whether it is back.
 #[derive(Drop)]
@@ -28,18 +28,19 @@ impl<J: Naming> Model for Entrance<J> {
 /// The version that is published, as long as this lives. It may not be let go: it ends by [`Entrance::leave`]. Contracts see it
 /// as its state.
 pub(crate) struct Visit<J: Naming> {
-    reading: Reading<Version, (), Published<J>>,
+    reading: Reading<Version<J>, (), Unruled>,
 }
 
 impl<J: Naming> Model for Visit<J> {
     ghost use Rattle.chat_history.specs.StateValue.{StateValue};
     ghost use Rattle.chat_history.specs.Codes.{coded_state};
+    ghost use Rattle.shared_node.specs.Lists.{state_of};
 
     ghost Value = { StateValue };
 
     ghost coded = { coded_state };
 
-    ghost view = { λ v. v.reading.part.value.state };
+    ghost view = { λ v. state_of v.reading.part.value };
 }
 
 impl<J: Naming> Entrance<J> {
@@ -60,7 +61,7 @@ impl<J: Naming> Entrance<J> {
         ensures stands { IfNone result (self.new ≡ true) }
     {
         let reading = self.read()?;
-        let list = Prefix::of(&reading.get().list);
+        let list = reading.get().list().again();
         if !list.follows(seen) || !list.follows(told) {
             self.home = Some(reading.leave());
             return None;
@@ -70,13 +71,12 @@ impl<J: Naming> Entrance<J> {
     }
 
     // The version that is published, unless there is none any more.
-    fn read(&mut self) -> Option<Reading<Version, (), Published<J>>>
+    fn read(&mut self) -> Option<Reading<Version<J>, (), Unruled>>
         requires { self.old ≡ true }
-        ensures made { IfSome result (λ r. IsMade J.book r.part.value) }
-        ensures stands { IfNone result (self.new ≡ true) }
+        ensures { IfNone result (self.new ≡ true) }
     {
         let reader = self.home.take()?;
-        match reader.enter_as::<Published<J>>() {
+        match reader.enter_as::<Unruled>() {
             Ok(reading) => Some(reading),
             Err(reader) => {
                 self.home = Some(reader);
@@ -99,6 +99,6 @@ impl<J: Naming> Visit<J> {
     pub(crate) fn state(&self) -> &State
         ensures { result.now ≡ self.now }
     {
-        &self.reading.get().state
+        self.reading.get().state()
     }
 }

@@ -1,51 +1,57 @@
 //! The writing end of a log.
-ghost use Rattle.std.specs.Prelude.{◌≡◌, ◌+◌, ◌<◌, ◌≤◌, ◌^◌, ◌++◌, ◌∷◌, [], length, take, drop, fold, true, MatchResult, MatchBool, IfOk, IfSome, None};
-ghost use Rattle.shared_node.specs.Lists.{entry, under, state_of};
-ghost use Rattle.shared_node.specs.Versions.{held, stepped, IsMade};
+ghost use Rattle.std.specs.Prelude.{◌≡◌, ◌+◌, ◌<◌, ◌≤◌, ◌^◌, ◌++◌, ◌∷◌, [], length, take, drop, true, MatchResult, MatchBool, IfOk, IfSome, None};
+ghost use Rattle.shared_node.specs.Lists.{entry, under};
+ghost use Rattle.shared_node.specs.Versions.{held, latest};
 ghost use Rattle.shared_node.specs.Log.{all_put, log_value, total};
 
 use super::entrance::Entrance;
-use crate::change_log::{AnyPrefix, Entry, History, Naming, Operation, Prefix, Published, Version};
+use crate::change_log::{Entry, History, Naming, Operation, Prefix, Version};
 use chat_change::Change;
-use chat_state::State;
 use core::mem::replace_with;
+use crossbeam_utils::rule::Unruled;
+use left_right::Absorb;
 use left_right::writer::Writer;
 use std::alloc::{AllocError, Global};
 use std::marker::Model;
 use std::sync::Wait;
 
-type VersionWriter<J> = Writer<Version, Operation, (), Published<J>>;
+type VersionWriter<J> = Writer<Version<J>, Operation<J>, (), Unruled>;
 
 /// The writing end of a log. Contracts see it as the published list, and the list of what waits behind it. It may not be let
 /// go: it ends by [`LogWriter::end`].
-pub(crate) struct LogWriter<J: Naming> {
+pub(crate) struct LogWriter<J: Naming>
+where
+    Version<J>: Absorb<Operation<J>, State = Prefix<J>>,
+{
     writer: VersionWriter<J>,
     /// In the history, and not yet in the writer's log.
-    stuck: Option<Operation>,
+    stuck: Option<Operation<J>>,
     history: History<J>,
     /// All that was put.
     list: Prefix<J>,
 }
 
-impl<J: Naming> Model for LogWriter<J> {
-    ghost use Rattle.std.specs.Prelude.{◌≡◌, ◌++◌, drop};
+impl<J: Naming> Model for LogWriter<J>
+where
+    Version<J>: Absorb<Operation<J>, State = Prefix<J>>,
+{
+    ghost use Rattle.std.specs.Prelude.{◌≡◌, ◌++◌, length, drop};
+    ghost use mathlib.Core.List.{IsPrefix};
     ghost use Rattle.shared_node.specs.Log.{LogValue, log_value};
-    ghost use Rattle.shared_node.specs.Versions.{entries_of, held, IsMade, Chained};
+    ghost use Rattle.shared_node.specs.Versions.{held, latest};
 
     ghost Value = { LogValue };
 
-    ghost view = { λ h. log_value h.writer.desk.shown.value.list.seen.log
-        (entries_of (drop h.writer.behind h.writer.log.items ++ held h.stuck)) };
+    ghost view = { λ h. log_value h.writer.desk.shown.value
+        (drop (length h.writer.desk.shown.value) h.list) };
 
-    ghost invariant = { λ h. IsMade J.book h.writer.desk.shown.value
-        × Chained J.book h.writer.desk.shown.value.list.seen.log
-        (drop h.writer.behind h.writer.log.items ++ held h.stuck)
-        × (h.list ≡ h.writer.desk.shown.value.list.seen.log
-        ++ entries_of (drop h.writer.behind h.writer.log.items ++ held h.stuck)) };
+    ghost invariant = { λ h. IsPrefix h.writer.desk.shown.value h.list
+        × (h.list ≡ latest h.writer.desk.shown.value
+        (drop h.writer.behind h.writer.log.items ++ held h.stuck)) };
 }
 
 // Moves what is stuck to the writer's log, and says whether nothing is stuck.
-fn unstick<J: Naming>(writer: &mut VersionWriter<J>, stuck: &mut Option<Operation>) -> bool
+fn unstick<J: Naming>(writer: &mut VersionWriter<J>, stuck: &mut Option<Operation<J>>) -> bool
     ensures published { writer.new.desk ≡ writer.old.desk }
     ensures waiting { drop writer.new.behind writer.new.log.items ++ held stuck.new
         ≡ drop writer.old.behind writer.old.log.items ++ held stuck.old }
@@ -64,7 +70,11 @@ fn unstick<J: Naming>(writer: &mut VersionWriter<J>, stuck: &mut Option<Operatio
 }
 
 // Puts an operation behind the writer's log, or makes it stuck.
-fn queue<J: Naming>(writer: &mut VersionWriter<J>, stuck: &mut Option<Operation>, op: Operation)
+fn queue<J: Naming>(
+    writer: &mut VersionWriter<J>,
+    stuck: &mut Option<Operation<J>>,
+    op: Operation<J>,
+)
     requires { stuck.old ≡ None }
     ensures published { writer.new.desk ≡ writer.old.desk }
     ensures waiting { drop writer.new.behind writer.new.log.items ++ held stuck.new
@@ -80,27 +90,14 @@ fn publish<J: Naming, R: Wait>(
     writer: VersionWriter<J>,
     rt: &R,
 ) -> (VersionWriter<J>, Result<(), AllocError>)
-    requires { IsMade J.book
-        (fold stepped writer.desk.shown.value (drop writer.behind writer.log.items)) }
     ensures { MatchResult result.1
         (λ _. (result.0.desk.shown.value
-        ≡ fold stepped writer.desk.shown.value (drop writer.behind writer.log.items))
+        ≡ latest writer.desk.shown.value (drop writer.behind writer.log.items))
         × (drop result.0.behind result.0.log.items ≡ []))
         (λ _. (result.0.desk.shown.value ≡ writer.desk.shown.value)
         × (drop result.0.behind result.0.log.items ≡ drop writer.behind writer.log.items)) }
 {
-    writer.publish_as::<Published<J>, R>(rt)
-}
-
-fn empty_version(alloc: Global, list: AnyPrefix) -> Version
-    requires { list.seen.log ≡ [] }
-    ensures list { result.list ≡ list }
-    ensures state { result.state ≡ state_of [] }
-{
-    Version {
-        state: State::new(alloc),
-        list,
-    }
+    writer.publish_as::<Unruled, R>(rt)
 }
 
 impl<J: Naming> LogWriter<J> {
@@ -115,17 +112,15 @@ impl<J: Naming> LogWriter<J> {
         requires entrances { (0 < entrances) × (entrances < 2 ^ 32) }
         ensures { IfOk result (λ log. log ≡ log_value [] []) }
     {
-        let nothing = list.any();
-        let first = empty_version(alloc, nothing.again());
-        let second = empty_version(alloc, nothing);
+        let first = Version::empty(alloc, list.again());
+        let second = Version::empty(alloc, list.again());
         let writer = VersionWriter::<J>::new(alloc, first, second, entrances)?;
         Ok(LogWriter::over(writer, history, list))
     }
 
     // The writing end over a writer that has published the empty list.
     fn over(writer: VersionWriter<J>, history: History<J>, list: Prefix<J>) -> LogWriter<J>
-        requires writer { IsMade J.book writer.desk.shown.value
-            × (writer.desk.shown.value.list.seen.log ≡ [])
+        requires writer { (writer.desk.shown.value ≡ [])
             × (drop writer.behind writer.log.items ≡ []) }
         requires list { list ≡ [] }
         ensures { result ≡ log_value [] [] }
@@ -171,10 +166,7 @@ impl<J: Naming> LogWriter<J> {
         if !self.list.add(&self.history, &entry) {
             return Err(AllocError);
         }
-        let op = Operation {
-            entry,
-            after: self.list.any(),
-        };
+        let op = Operation::new(entry, self.list.again());
         queue(&mut self.writer, &mut self.stuck, op);
         Ok(())
     }
@@ -210,11 +202,9 @@ impl<J: Naming> LogWriter<J> {
             &mut self.writer,
             rt,
             |writer: VersionWriter<J>, rt: &R| -> (VersionWriter<J>, Result<(), AllocError>)
-                requires { IsMade J.book
-                    (fold stepped writer.desk.shown.value (drop writer.behind writer.log.items)) }
                 ensures { MatchResult result.1
                     (λ _. (result.0.desk.shown.value
-                    ≡ fold stepped writer.desk.shown.value (drop writer.behind writer.log.items))
+                    ≡ latest writer.desk.shown.value (drop writer.behind writer.log.items))
                     × (drop result.0.behind result.0.log.items ≡ []))
                     (λ _. (result.0.desk.shown.value ≡ writer.desk.shown.value)
                     × (drop result.0.behind result.0.log.items

@@ -4,7 +4,7 @@ use Rattle.std.proofs.Math.ListN.{get_or-append}
 use Rattle.chat_history.specs.History.{mark, IsAtMost}
 use Rattle.shared_node.specs.declared.change_log.entry.Entry.{Entry}
 use Rattle.shared_node.specs.Lists.{changes_in}
-use Rattle.shared_node.proofs.ChainLemmas.{changes_in-append}
+use Rattle.shared_node.proofs.ListLemmas.{changes_in-append}
 use Rattle.shared_node.proofs.laws.later_lists_keep_what_was_put.Goals as goal
 
 pub returns-clause-entries : goal.returns-clause-entries
