@@ -2,4 +2,5 @@ mod PrefixLemmas
 mod AddLemmas
 mod ListLemmas
 mod StateLemmas
+mod VersionLemmas
 mod ReadLemmas

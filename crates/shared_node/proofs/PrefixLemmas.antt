@@ -1,6 +1,6 @@
 -- Prefixes of one list.
 use Rattle.std.proofs.Common.{◌≡◌, ◌≤◌, ◌+◌, List, [], ◌∷◌, ◌++◌, length, drop, refl, ap, sym, ◌∙◌, arith, append_assoc, length-append}
-use Rattle.std.proofs.lemmas.List.{append-nil, drop_at}
+use Rattle.std.proofs.lemmas.List.{append-nil, drop_at, drop-append-le}
 use mathlib.Core.List.{IsPrefix, IsSuffix}
 
 pub prefix_self : {A : Type 0} (xs : List A) → IsPrefix xs xs
@@ -46,3 +46,9 @@ prefix_last xs ys y p s more =
 pub prefix_rest : {A : Type 0} (xs ys : List A) → IsPrefix xs ys → xs ++ drop (length xs) ys ≡ ys
 prefix_rest xs ys p =
     ap (λ zs. xs ++ drop (length xs) zs) (sym p.1) ∙ ap (λ zs. xs ++ zs) (drop_at xs p.0 (length xs) refl) ∙ p.1
+
+pub prefix_rest-more : {A : Type 0} (xs ys zs : List A) → IsPrefix xs ys → drop (length xs) (ys ++ zs) ≡ drop (length xs) ys ++ zs
+prefix_rest-more xs ys zs p = drop-append-le (length xs) ys zs (omega (arith, ap length p.1, length-append xs p.0))
+
+pub rest_none : {A : Type 0} (xs : List A) → drop (length xs) xs ≡ []
+rest_none xs = ap (drop (length xs)) (sym (append-nil xs)) ∙ drop_at xs [] (length xs) refl

@@ -4,7 +4,7 @@ ghost use Rattle.shared_node.specs.Rules.{head_of};
 ghost use Rattle.shared_node.specs.Names.{IsNamed};
 
 use super::entry::Entry;
-use super::prefix::{AnyPrefix, Prefix};
+use super::prefix::Prefix;
 use super::unnamed::Unnamed;
 use logbook::{Gain, Plain, Play, Rule, Word};
 use std::marker::{Brand, PhantomData};
@@ -95,11 +95,6 @@ impl Unnamed {
             head,
             of: PhantomData,
         };
-        (
-            history,
-            Prefix::empty(AnyPrefix { count: 0, seen }),
-            tally,
-            all,
-        )
+        (history, Prefix::empty(seen), tally, all)
     }
 }

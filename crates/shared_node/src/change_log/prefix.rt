@@ -7,50 +7,33 @@ use super::history::{Add, History, Law, Naming, Nothing};
 use logbook::{Offer, Seen};
 use std::marker::{Model, PhantomData};
 
-/// A prefix of the history of some node, with its length.
-#[derive(Drop)]
-pub(crate) struct AnyPrefix {
-    pub count: u64,
-    pub seen: Seen<Entry, u64, Law>,
-    pub ghost counted: { count ≡ length seen.log },
-}
-
-impl AnyPrefix {
-    pub(crate) fn again(&self) -> AnyPrefix
-        ensures { result ≡ self.now }
-    {
-        AnyPrefix {
-            count: self.count,
-            seen: self.seen.again(),
-        }
-    }
-}
-
-/// A prefix of the history of the node `J`. Contracts see it as its entries.
+/// A prefix of the history of the node `J`, with its length. Contracts see it as its entries.
 #[derive(Drop)]
 pub(crate) struct Prefix<J: Naming> {
-    any: AnyPrefix,
+    count: u64,
+    seen: Seen<Entry, u64, Law>,
     of: PhantomData<J>,
 }
 
 impl<J: Naming> Model for Prefix<J> {
-    ghost use Rattle.std.specs.Prelude.{◌≡◌, List};
+    ghost use Rattle.std.specs.Prelude.{◌≡◌, List, length};
     ghost use Rattle.shared_node.specs.declared.change_log.entry.Entry.{Entry};
 
     ghost Value = { List Entry };
 
-    ghost view = { λ p. p.any.seen.log };
+    ghost view = { λ p. p.seen.log };
 
-    ghost invariant = { λ p. p.any.seen.book ≡ J.book };
+    ghost invariant = { λ p. (p.count ≡ length p.seen.log) × (p.seen.book ≡ J.book) };
 }
 
 impl<J: Naming> Prefix<J> {
-    pub(crate) fn empty(any: AnyPrefix) -> Prefix<J>
-        requires { any.seen.book ≡ J.book }
-        ensures { result ≡ any.seen.log }
+    pub(super) fn empty(seen: Seen<Entry, u64, Law>) -> Prefix<J>
+        requires { (seen.log ≡ []) × (seen.book ≡ J.book) }
+        ensures { result ≡ [] }
     {
         Prefix {
-            any,
+            count: 0,
+            seen,
             of: PhantomData,
         }
     }
@@ -59,14 +42,15 @@ impl<J: Naming> Prefix<J> {
     pub(crate) fn len(&self) -> u64
         ensures { result ≡ length self.now }
     {
-        self.any.count
+        self.count
     }
 
     pub(crate) fn again(&self) -> Prefix<J>
         ensures { result ≡ self.now }
     {
         Prefix {
-            any: self.any.again(),
+            count: self.count,
+            seen: self.seen.again(),
             of: PhantomData,
         }
     }
@@ -76,9 +60,9 @@ impl<J: Naming> Prefix<J> {
         ensures { MatchBool result (IsPrefix other.now self.now)
             (IsPrefix self.now other.now × (length self.now < length other.now)) }
     {
-        let mut both = self.any.seen.again();
-        both.learn(&other.any.seen);
-        if other.any.count > self.any.count {
+        let mut both = self.seen.again();
+        both.learn(&other.seen);
+        if other.count > self.count {
             return false;
         }
         true
@@ -102,20 +86,18 @@ impl<J: Naming> Prefix<J> {
         requires { length self.old + 1 < 2 ^ 64 }
         ensures { MatchBool result (self.new ≡ self.old ++ entry.now ∷ []) (self.new ≡ self.old) }
     {
-        let mut seen = self.any.seen.again();
+        let mut seen = self.seen.again();
         let mut offer: Offer<Entry, u64, Law, Nothing> = seen.plain::<Nothing, Entry, Add>(entry);
         let mut pen = seen.no_pen();
-        let count = self.any.count;
+        let count = self.count;
         let found = history
             .head
             .compare_exchange::<Add, Nothing>(count, count + 1, &mut seen, &mut offer, &mut pen);
         if found != count {
             return false;
         }
-        self.any = AnyPrefix {
-            count: count + 1,
-            seen,
-        };
+        self.count = count + 1;
+        self.seen = seen;
         true
     }
 }

@@ -21,6 +21,7 @@ type VersionWriter<J> = Writer<Version<J>, Operation<J>, (), Unruled>;
 /// go: it ends by [`LogWriter::end`].
 pub(crate) struct LogWriter<J: Naming>
 where
+    // without it the type of `writer` isn't stated, since the impl is generic
     Version<J>: Absorb<Operation<J>, State = Prefix<J>>,
 {
     writer: VersionWriter<J>,

@@ -9,8 +9,8 @@ compare_exchange-found-requires g c =
     let pen = c.no_pen-pen.ensures in
     let same = c.again-seen.ensures in (
       ap (λ w. w.tracked) h,
-      ap (λ s. s.book) same ∙ c.self.invariant ∙ sym (ap (λ w. w.book) h),
-      pen.0 ∙ (ap (λ s. s.book) same ∙ c.self.invariant ∙ sym (ap (λ w. w.book) h)),
+      ap (λ s. s.book) same ∙ c.self.invariant.1 ∙ sym (ap (λ w. w.book) h),
+      pen.0 ∙ (ap (λ s. s.book) same ∙ c.self.invariant.1 ∙ sym (ap (λ w. w.book) h)),
       offer.0,
-      rw (ap (λ w. w.key) h, pen.1, offer.1, offer.3, same) (adds_moves c.self.inside.any.seen.log c.args.entry.now c.self.inside.any.count (sym c.self.inside.any.counted)),
+      rw (ap (λ w. w.key) h, pen.1, offer.1, offer.3, same) (adds_moves c.self.inside.seen.log c.args.entry.now c.self.inside.count (sym c.self.invariant.0)),
     )

@@ -7,13 +7,13 @@ use Rattle.shared_node.proofs.change_log.prefix.Prefix.follows.Goals as goal
 pub returns-then-other-self : goal.returns-then-other-self
 returns-then-other-self g c =
     let both = c.learn.new.self.log in
-    let this : IsPrefix c.self.inside.any.seen.log both = subst (λ (l : List Entry). IsPrefix l both) (ap (λ s. s.log) c.again-both.ensures) c.learn.ensures.2 in
-    let less : length c.self.inside.any.seen.log < length c.other.inside.any.seen.log = omega (arith, c.self.inside.any.counted, c.other.inside.any.counted, c.if-other-self.true) in
-    rw (← c.self.view_is, ← c.other.view_is) (prefix_shorter c.self.inside.any.seen.log c.other.inside.any.seen.log both this c.learn.ensures.3 (omega (arith, less)), less)
+    let this : IsPrefix c.self.inside.seen.log both = subst (λ (l : List Entry). IsPrefix l both) (ap (λ s. s.log) c.again-both.ensures) c.learn.ensures.2 in
+    let less : length c.self.inside.seen.log < length c.other.inside.seen.log = omega (arith, c.self.invariant.0, c.other.invariant.0, c.if-other-self.true) in
+    rw (← c.self.view_is, ← c.other.view_is) (prefix_shorter c.self.inside.seen.log c.other.inside.seen.log both this c.learn.ensures.3 (omega (arith, less)), less)
 
 pub returns : goal.returns
 returns g c =
     let both = c.learn.new.self.log in
-    let this : IsPrefix c.self.inside.any.seen.log both = subst (λ (l : List Entry). IsPrefix l both) (ap (λ s. s.log) c.again-both.ensures) c.learn.ensures.2 in
-    let less : length c.other.inside.any.seen.log ≤ length c.self.inside.any.seen.log = omega (arith, c.self.inside.any.counted, c.other.inside.any.counted, c.if-other-self.false) in
-    rw (← c.self.view_is, ← c.other.view_is) (prefix_shorter c.other.inside.any.seen.log c.self.inside.any.seen.log both c.learn.ensures.3 this less)
+    let this : IsPrefix c.self.inside.seen.log both = subst (λ (l : List Entry). IsPrefix l both) (ap (λ s. s.log) c.again-both.ensures) c.learn.ensures.2 in
+    let less : length c.other.inside.seen.log ≤ length c.self.inside.seen.log = omega (arith, c.self.invariant.0, c.other.invariant.0, c.if-other-self.false) in
+    rw (← c.self.view_is, ← c.other.view_is) (prefix_shorter c.other.inside.seen.log c.self.inside.seen.log both c.learn.ensures.3 this less)
