@@ -260,6 +260,7 @@ def targets():
     yield session.case("no buffers")
     yield more_buffers_than_a_list_has()
     yield from buffers_in_each_order()
+    yield from buffers_among_those_of_others()
     yield targets_of_each_length()
 
 
@@ -305,6 +306,25 @@ def buffers_in_each_order():
             for limit in [1, 2, 5, 6, 7, 11, 12, 13]:
                 session.ask_targets(a, b, limit)
         yield session.case(f"buffers whose moments {name} their targets, cut at either end")
+
+
+def buffers_among_those_of_others():
+    """Buffers of other accounts and networks on both sides of those that are asked for, with early and late messages: a list has
+    those of its own account and network alone, however many others it goes past."""
+    for count in [1, 15, 16, 17, 33]:
+        history = History()
+        for account, network in [("a", "net"), ("demo", "a"), ("demo", "z"), ("z", "net")]:
+            for number in range(40):
+                target, ms = f"#c{number:02}", 1000 + number % 3 * 4000
+                history.lines.append(f"C POST {account} {network} {target} o{number} {ms} P {target} eve!e@h :another's")
+        for number in range(count):
+            history.post(f"#c{number:02}", f"m{number}", 1000 if number % 8 else 5000, "x")
+        session = Session(history)
+        for a, b in [(0, 9999), (999, 1001), (1000, 9999), (4999, 5001), (5000, 9999), (9000, 9999)]:
+            for limit in [1, 3, 100]:
+                session.ask_targets(a, b, limit)
+                session.ask_targets(b, a, limit)
+        yield session.case(f"{count} buffers among those of other accounts and networks")
 
 
 # What may be wrong with each parameter of a query, in the order in which it is told.
