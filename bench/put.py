@@ -1,6 +1,6 @@
 #!/usr/bin/env python3
 """Counts the instructions by which a message is put into a shared node, and those by which one state takes it; and what a
-relayed line takes, part by part.
+relayed line takes, part by part, where each comes alone and where many come at once.
 
     bench/put.py PROGRAM
 
@@ -18,6 +18,8 @@ from beside_znc import Clients, begin, flood, message
 from machine import name_of_run, table
 
 LINES = 5000
+# How many lines come at once, as a line of the table says it.
+AT_ONCE = ((1, "one at a time"), (200, "200 at once"))
 # (what `absorb` does may stand within its caller, but for what it calls)
 PUT, ABSORB = r"\bshared_node::\S*::put(_now)?\b", r"\bchat_state::\S*::absorb(_copy)?\b"
 # What a line that is relayed to one client comes to, each part with all that it calls.
@@ -45,14 +47,14 @@ def callgrind(log):
     return ["valgrind", "--quiet", "--tool=callgrind", f"--callgrind-out-file={log}"]
 
 
-def serve(program, log, count):
-    """The server says so many messages, one after another."""
+def serve(program, log, count, at_once):
+    """The server says so many messages, so many of them at once."""
     bouncer, server = begin("bnc", program, before=callgrind(log))
     try:
         clients = Clients(bouncer, 1)
         clients.settle(2)
         clients.reset()
-        flood(server, clients, count, 1)
+        flood(server, clients, count, at_once)
         bouncer.process.terminate()
         bouncer.process.wait()
     finally:
@@ -60,7 +62,7 @@ def serve(program, log, count):
         server.close()
 
 
-def replay(program, log, count):
+def replay(program, log, count, _at_once):
     """A state takes so many posts."""
     first, serial = 1_763_912_345_678, 1_000_000_000_000
     posts = []
@@ -70,13 +72,19 @@ def replay(program, log, count):
     subprocess.run([*callgrind(log), program, "replay", "demo", "net", "al"], input="".join(posts).encode(), check=True)
 
 
-def each(run, program, folder, *names):
+def each(run, program, folder, at_once, *names):
     """The instructions of each of these functions for a message behind as many others."""
-    logs = [(f"{folder}/{run.__name__}-{count}", count) for count in (LINES, 2 * LINES)]
+    logs = [(f"{folder}/{run.__name__}-{at_once}-{count}", count) for count in (LINES, 2 * LINES)]
     for log, count in logs:
-        run(program, log, count)
+        run(program, log, count, at_once)
     few, all_of_them = ([instructions(name, log) for name in names] for log, _ in logs)
     return [(more - less) / LINES for less, more in zip(few, all_of_them)]
+
+
+def parts_of(program, folder, at_once):
+    """The instructions of a relayed line, by its parts and as a whole."""
+    whole, *parts = each(serve, program, folder, at_once, ALL, *(name for _, name in PARTS))
+    return [*parts, whole - sum(parts), whole]
 
 
 def main():
@@ -84,16 +92,20 @@ def main():
     with tempfile.TemporaryDirectory() as folder:
         # (the bouncer isn't run by root)
         os.chmod(folder, 0o777)
-        whole, *parts = each(serve, program, folder, ALL, *(name for _, name in PARTS))
-        [taken] = each(replay, program, folder, ABSORB)
-    put = parts[[name for _, name in PARTS].index(PUT)]
+        lines = [parts_of(program, folder, at_once) for at_once, _ in AT_ONCE]
+        [taken] = each(replay, program, folder, 1, ABSORB)
+    put = lines[0][[name for _, name in PARTS].index(PUT)]
     print(f"{name_of_run(program)} Over {LINES:,} messages after as many others.\n")
     print(table(["put into a shared node", "taken by one state", "ratio", "goal"], [
         [f"{put:,.0f} instructions a message", f"{taken:,.0f}", f"{put / taken:.2f}", 1.6],
     ]) + "\n")
-    rows = [*((what, part) for (what, _), part in zip(PARTS, parts)), ("the rest", whole - sum(parts)), ("all", whole)]
-    print(table(["a line that is relayed to one client", "instructions", "of all"], [
-        [what, f"{part:,.0f}", f"{100 * part / whole:.0f} %"] for what, part in rows
+    heads = ["a line that is relayed to one client"]
+    for _, how in AT_ONCE:
+        heads += [f"instructions, {how}", "of all"]
+    whats = [*(what for what, _ in PARTS), "the rest", "all"]
+    print(table(heads, [
+        [what, *(cell for parts in lines for cell in (f"{parts[at]:,.0f}", f"{100 * parts[at] / parts[-1]:.0f} %"))]
+        for at, what in enumerate(whats)
     ]))
 
 
