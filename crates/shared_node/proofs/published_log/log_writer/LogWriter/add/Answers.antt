@@ -8,10 +8,9 @@ use Rattle.shared_node.proofs.published_log.log_writer.LogWriter.add.Goals as go
 pub invariant_of-self-2 : goal.invariant_of-self-2
 invariant_of-self-2 g c =
     let shown : List Entry = c.self.inside.writer.desk.shown.value in
-    let entry : Entry = record { by = c.args.by; change = c.in_ok-change.change } in
     let pending : List (List Entry) = drop c.unstick.new.writer.behind c.unstick.new.writer.log.items in
     let last = ap (latest shown) c.queue.ensures.waiting ∙ latest-one shown pending c.new-op.result ∙ c.new-op.ensures ∙ c.again.ensures in
-    rw (c.queue.ensures.published, c.unstick.ensures.published) (rw c.if-not-add.ensures (prefix_append shown c.self.inside.list (entry ∷ []) c.self.invariant.0), sym last)
+    rw (c.queue.ensures.published, c.unstick.ensures.published) (rw c.if-not-add.ensures (prefix_append shown c.self.inside.list _ c.self.invariant.0), sym last)
 
 pub returns-clause-waiting : goal.returns-clause-waiting
 returns-clause-waiting g c =
