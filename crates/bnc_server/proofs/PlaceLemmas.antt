@@ -4,7 +4,7 @@ use Rattle.std.specs.Prelude.{◌≢◌, OnOk, IfOk, option_map}
 use Rattle.std.proofs.lemmas.List.{get_or-map, get_or_default, map-set, length-map, set-get_or}
 use Rattle.std.proofs.lemmas.List.Edits.{map_over_more}
 use Rattle.std.proofs.Math.ListN.{length-set}
-use Rattle.chat_batch.specs.declared.facts.Facts.{Facts}
+use Rattle.chat_query.specs.declared.facts.Facts.{Facts}
 use Rattle.client_session.specs.declared.stage.Stage.TheVariants.{Registered}
 use Rattle.peer_lines.specs.Life.{Life, Ack}
 use Rattle.peer_lines.specs.declared.fault.LinkFault.{LinkFault}

@@ -14,8 +14,9 @@ use Rattle.irc_reply.specs.Reply.{ending}
 use Rattle.irc_reply.specs.Standing.{IsCluster}
 use Rattle.chat_change.specs.Faults.{buffer_fault}
 use Rattle.chat_batch.specs.Answers.{answer_of}
-use Rattle.chat_batch.proofs.CallerLemmas.{target_word, answer_lines}
-use Rattle.gossip_delta.specs.declared.fault.ChangeLineFault.TheVariants.{BadForm, BadField, NoMemory}
+use Rattle.chat_query.proofs.CallerLemmas.{target_word}
+use Rattle.chat_batch.proofs.CallerLemmas.{answer_lines}
+use Rattle.change_lines.specs.declared.fault.ChangeLineFault.TheVariants.{BadForm, BadField, NoMemory}
 use Rattle.peer_lines.specs.Life.{Life, Packet, Ack}
 use Rattle.peer_lines.specs.declared.fault.LinkFault.{LinkFault}
 use Rattle.peer_lines.specs.declared.fault.LinkFault.TheVariants.{WrongLife, AckTooHigh, NoEntry, NotTaken, NoMemory as NoRoom, BadForm as NoPeerLine}

@@ -4,9 +4,9 @@ use Rattle.std.specs.Prelude.{◌≢◌, IfErr}
 use Rattle.std.proofs.lemmas.Bool.{cond-true, cond-false}
 use Rattle.chat_change.specs.Words.{begins_with}
 use Rattle.chat_change.specs.declared.change.Change.{Change}
-use Rattle.gossip_delta.specs.ChangeLine.{read_change, fault_or_no_memory}
-use Rattle.gossip_delta.specs.declared.fault.ChangeLineFault.{ChangeLineFault}
-use Rattle.gossip_delta.specs.declared.fault.ChangeLineFault.TheVariants.{BadForm, BadField, NoMemory}
+use Rattle.change_lines.specs.ChangeLine.{read_change, fault_or_no_memory}
+use Rattle.change_lines.specs.declared.fault.ChangeLineFault.{ChangeLineFault}
+use Rattle.change_lines.specs.declared.fault.ChangeLineFault.TheVariants.{BadForm, BadField, NoMemory}
 use Rattle.bnc_server.specs.Request.{request_in, is_change_line, of_change, of_command, of_client}
 use Rattle.bnc_server.specs.Command.{command_of}
 use Rattle.bnc_server.specs.HeldNode.{IsFaultOf}

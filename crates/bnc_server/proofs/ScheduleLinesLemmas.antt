@@ -8,8 +8,8 @@ use Rattle.irc_line.specs.declared.line.LineFault.{LineFault}
 use Rattle.irc_line.specs.declared.line.TagLimit.TheVariants.{Client}
 use Rattle.chat_change.specs.Words.{begins_with}
 use Rattle.chat_change.specs.declared.change.Change.{Change}
-use Rattle.chat_batch.specs.declared.facts.Facts.{Facts}
-use Rattle.gossip_delta.specs.ChangeLine.{read_change}
+use Rattle.chat_query.specs.declared.facts.Facts.{Facts}
+use Rattle.change_lines.specs.ChangeLine.{read_change}
 use Rattle.client_session.specs.Session.{facts_in, too_long as too_long_step}
 use Rattle.client_session.specs.Step.{Step}
 use Rattle.client_session.specs.declared.effect.Effect.{Effect}

@@ -13,18 +13,18 @@ use Rattle.irc_line.specs.Read.{read}
 use Rattle.irc_line.specs.CanStand.{HasNoBadByte}
 use Rattle.irc_line.proofs.CallerLemmas.{read_ok, read_parameters_whole}
 use Rattle.irc_reply.specs.Standing.{IsWordTo, target_limit}
-use Rattle.chat_batch.specs.Reference.{greatest_reference, after_reference, after_answer}
-use Rattle.chat_batch.specs.declared.facts.Answered.{Answered}
-use Rattle.chat_batch.specs.declared.facts.Answered.TheVariants.{Batch, Plain, NotAQuery}
+use Rattle.chat_query.specs.Reference.{greatest_reference, after_reference, after_answer}
+use Rattle.chat_query.specs.declared.facts.Answered.{Answered}
+use Rattle.chat_query.specs.declared.facts.Answered.TheVariants.{Batch, Plain, NotAQuery}
 use Rattle.chat_change.specs.Words.{is_name, is_target, begins_with}
 use Rattle.chat_change.specs.Faults.{unless_lawful, buffer_fault}
 use Rattle.chat_change.specs.Lawful.{IsLawfulChange}
 use Rattle.chat_change.specs.declared.change.Change.{Change}
 use Rattle.chat_change.specs.declared.change.Change.TheVariants.{Post, Redact, Mark, Floor, AccountFloor}
 use Rattle.chat_change.specs.declared.faults.ChangeFault.{ChangeFault}
-use Rattle.gossip_delta.specs.ChangeLine.{read_change}
-use Rattle.gossip_delta.specs.declared.fault.ChangeLineFault.{ChangeLineFault}
-use Rattle.gossip_delta.proofs.CallerLemmas.{one_spelling}
+use Rattle.change_lines.specs.ChangeLine.{read_change}
+use Rattle.change_lines.specs.declared.fault.ChangeLineFault.{ChangeLineFault}
+use Rattle.change_lines.proofs.CallerLemmas.{one_spelling}
 use Rattle.chat_history.specs.Numbering.{Delta, delta}
 use Rattle.peer_lines.specs.Life.{Life, Packet, Ack}
 use Rattle.peer_lines.specs.Version.{is_lower}

@@ -5,11 +5,11 @@ use Rattle.chat_change.specs.declared.change.Change.{Change}
 use Rattle.chat_history.specs.StateValue.{StateValue, state_after}
 use Rattle.chat_state.specs.declared.faults.StateFault.{StateFault}
 use Rattle.chat_state.specs.declared.faults.StateFault.TheVariants as state_fault
-use Rattle.gossip_delta.specs.declared.fault.ChangeLineFault.{ChangeLineFault}
-use Rattle.gossip_delta.specs.declared.fault.ChangeLineFault.TheVariants as line_fault
+use Rattle.change_lines.specs.declared.fault.ChangeLineFault.{ChangeLineFault}
+use Rattle.change_lines.specs.declared.fault.ChangeLineFault.TheVariants as line_fault
 use Rattle.client_directory.specs.Directory.{Directory}
 use Rattle.client_session.specs.declared.stage.Stage.{Stage}
-use Rattle.chat_batch.specs.declared.facts.Facts.{Facts}
+use Rattle.chat_query.specs.declared.facts.Facts.{Facts}
 use Rattle.peer_lines.specs.Life.{Life, Ack}
 use Rattle.gossip_link.specs.Link.{Link}
 use Rattle.bnc_server.specs.Node.{Node}

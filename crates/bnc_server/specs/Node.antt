@@ -10,8 +10,8 @@ use Rattle.chat_change.specs.Record.{Record}
 use Rattle.chat_change.specs.declared.change.Change.{Change}
 use Rattle.chat_history.specs.Visible.{visible}
 use Rattle.chat_batch.specs.Answers.{Answer, answer_of}
-use Rattle.chat_batch.specs.declared.facts.Facts.{Facts}
-use Rattle.chat_batch.specs.declared.facts.Answered.{Answered}
+use Rattle.chat_query.specs.declared.facts.Facts.{Facts}
+use Rattle.chat_query.specs.declared.facts.Answered.{Answered}
 use Rattle.client_directory.specs.Directory.{Directory}
 use Rattle.client_session.specs.Lookup.{MessageName, name_sought}
 use Rattle.client_session.specs.Session.{step, too_long, facts_in, session_after}

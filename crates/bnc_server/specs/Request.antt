@@ -3,9 +3,9 @@ use Rattle.std.specs.Prelude.{ℕ, Bool, List, codes, take, drop, Result, if◌t
 use Rattle.irc_line.specs.Stream.{Item, line, too_long}
 use Rattle.chat_change.specs.Words.{begins_with}
 use Rattle.chat_change.specs.declared.change.Change.{Change}
-use Rattle.gossip_delta.specs.Words.{is_text}
-use Rattle.gossip_delta.specs.ChangeLine.{read_change}
-use Rattle.gossip_delta.specs.declared.fault.ChangeLineFault.{ChangeLineFault}
+use Rattle.change_lines.specs.Words.{is_text}
+use Rattle.change_lines.specs.ChangeLine.{read_change}
+use Rattle.change_lines.specs.declared.fault.ChangeLineFault.{ChangeLineFault}
 use Rattle.bnc_server.specs.Command.{Command, command_of}
 
 pub data Request : Type 0 where

@@ -3,9 +3,9 @@ use Rattle.std.specs.Prelude.{ℕ, ◌+◌, false, List, [], ◌∷◌, ◌++◌
 use Rattle.irc_line.specs.Stream.{Item, items}
 use Rattle.irc_caps.specs.CapSet.{all_capabilities}
 use Rattle.irc_reply.specs.Reply.{ending}
-use Rattle.chat_batch.specs.declared.facts.Facts.{Facts}
-use Rattle.gossip_delta.specs.declared.fault.ChangeLineFault.{ChangeLineFault}
-use Rattle.gossip_delta.specs.declared.fault.ChangeLineFault.TheVariants.{BadForm}
+use Rattle.chat_query.specs.declared.facts.Facts.{Facts}
+use Rattle.change_lines.specs.declared.fault.ChangeLineFault.{ChangeLineFault}
+use Rattle.change_lines.specs.declared.fault.ChangeLineFault.TheVariants.{BadForm}
 use Rattle.client_directory.specs.Directory.{Directory}
 use Rattle.client_session.specs.declared.stage.Stage.{Stage}
 use Rattle.client_session.specs.declared.stage.Stage.TheVariants.{Registered}

@@ -1,7 +1,7 @@
 -- The nodes of a script together, and what each command does to them.
 use Rattle.std.specs.Prelude.{ℕ, ◌+◌, Option, None, Some, List, [], ◌++◌, codes, map, Result, Ok, Err, slice_index_or, slice_set}
 use Rattle.irc_reply.specs.Reply.{ending}
-use Rattle.chat_batch.specs.declared.facts.Facts.{Facts}
+use Rattle.chat_query.specs.declared.facts.Facts.{Facts}
 use Rattle.client_directory.specs.Directory.{Directory}
 use Rattle.client_session.specs.declared.stage.Stage.TheVariants.{Registered, Closed}
 use Rattle.peer_lines.specs.Life.{Life, Packet, Ack}

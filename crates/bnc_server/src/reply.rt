@@ -1,7 +1,7 @@
 //! Texts for whoever wrote the script, with the writer's fault as one of the script.
 ghost use Rattle.std.specs.Prelude.{◌≡◌, IfErr};
 ghost use Rattle.byte_text.specs.Writes.{Writes};
-ghost use Rattle.gossip_delta.specs.declared.fault.ChangeLineFault.TheVariants as line;
+ghost use Rattle.change_lines.specs.declared.fault.ChangeLineFault.TheVariants as line;
 ghost use Rattle.bnc_server.specs.Script as spec;
 ghost use Rattle.bnc_server.specs.World.{refusal_of};
 

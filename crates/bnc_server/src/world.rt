@@ -3,7 +3,7 @@ ghost use Rattle.std.specs.Prelude.{◌≡◌, ◌≢◌, ◌<◌, [], ◌∷◌
 ghost use Rattle.std.specs.Prelude.{false};
 ghost use Rattle.byte_text.specs.Writes.{Writes};
 ghost use Rattle.chat_change.specs.Words.{begins_with};
-ghost use Rattle.gossip_delta.specs.ChangeLine.{read_change};
+ghost use Rattle.change_lines.specs.ChangeLine.{read_change};
 ghost use Rattle.client_session.specs.declared.stage.Stage.TheVariants.{Registered};
 ghost use Rattle.bnc_server.specs.Command as commands;
 ghost use Rattle.bnc_server.specs.Request.{of_change, of_command, of_client, over_long};

@@ -10,16 +10,17 @@ use Rattle.chat_change.specs.Buffer.{Buffer, buffer_of}
 use Rattle.chat_change.specs.declared.change.Change.{Change}
 use Rattle.chat_history.specs.History.{norm, changes_of, mark}
 use Rattle.chat_history.proofs.CallerLemmas.{mark-norm}
-use Rattle.chat_page.specs.Parameters.{read_query}
+use Rattle.chat_query.specs.Parameters.{read_query}
 use Rattle.chat_page.specs.Page.{page_in}
-use Rattle.chat_page.specs.declared.query.Query.{Query}
-use Rattle.chat_page.specs.declared.parameters.QueryFault.{QueryFault}
-use Rattle.chat_page.specs.declared.parameters.QueryFault.TheVariants.{InvalidTarget}
-use Rattle.chat_batch.specs.Answers.{Answer, plain, fail, unknown, has_buffers, has_buffer, scope_of, subcommand_of, code_of, reason_of, refusal_about, query_refusal, unknown_message, page_or_unknown, query_or_refusal, history_answer, marker_refusal, asks_or_sets, marker_or_refusal, answer_of}
-use Rattle.chat_batch.specs.declared.facts.Facts.{Facts}
+use Rattle.chat_query.specs.declared.query.Query.{Query}
+use Rattle.chat_query.specs.declared.parameters.QueryFault.{QueryFault}
+use Rattle.chat_query.specs.declared.parameters.QueryFault.TheVariants.{InvalidTarget}
+use Rattle.chat_batch.specs.Answers.{Answer, plain, fail, unknown, subcommand_of, code_of, reason_of, refusal_about, query_refusal, unknown_message, page_or_unknown, query_or_refusal, history_answer, marker_refusal, asks_or_sets, marker_or_refusal, answer_of}
+use Rattle.chat_query.specs.Buffers.{has_buffers, has_buffer, scope_of}
+use Rattle.chat_query.specs.declared.facts.Facts.{Facts}
 use Rattle.chat_batch.specs.WritesAnswer.{WritesAnswer, IsUnwritten}
-use Rattle.chat_batch.specs.declared.facts.Answered.{Answered}
-use Rattle.chat_batch.specs.declared.facts.Answered.TheVariants.{NotAQuery}
+use Rattle.chat_query.specs.declared.facts.Answered.{Answered}
+use Rattle.chat_query.specs.declared.facts.Answered.TheVariants.{NotAQuery}
 use Rattle.chat_batch.specs.declared.answers.AnswerFault.{AnswerFault}
 use Rattle.chat_batch.specs.declared.answers.AnswerFault.TheVariants.{NoMemory, Write}
 

@@ -1,10 +1,10 @@
 -- Each answer is lines that read back.
 use Rattle.std.proofs.Common.{◌≡◌, ℕ, ◌+◌, ◌≤◌, ◌<◌, Bool, true, false, cond, List, [], ◌∷◌, length, map, min, codes, Option, None, Some, Result, Ok, Err, refl, ◌∙◌, subst, arith, length-append, lit<, lit≤}
-use Rattle.std.specs.Prelude.{◌==◌, ◌&&◌, ◌||◌, not, nat_le, Contains, IfSome, IfOk}
+use Rattle.std.specs.Prelude.{◌==◌, ◌&&◌, ◌||◌, Contains, IfSome, IfOk}
 use Rattle.std.specs.Char.{to_ascii_uppercase}
 use Rattle.std.specs.Str.{str_eq_ignore_ascii_case}
 use Rattle.std.specs.List.{AllByRecursion, list_any}
-use Rattle.std.proofs.lemmas.Bool.{and_parts, leb-true, not-true}
+use Rattle.std.proofs.lemmas.Bool.{and_parts}
 use Rattle.std.proofs.lemmas.Bool.Decides.{nat_tests}
 use Rattle.std.proofs.lemmas.List.{length-map}
 use Rattle.std.proofs.lemmas.List.Elements.{All-contains, All-contains_itself, All-weaker, All-from_recursion, recursion_from_All}
@@ -15,8 +15,8 @@ use Rattle.irc_line.specs.Line.{Reading, Reads, colon, space, begins_with, is_ba
 use Rattle.irc_line.specs.Text.{middles_text}
 use Rattle.irc_line.specs.CanStand.{HasNoBadByte}
 use Rattle.irc_line.specs.Lines.{AreLines}
-use Rattle.irc_line.proofs.CallerLemmas.{no_lines, middle_from, no_space_from, read_parameters_whole}
-use Rattle.irc_reply.specs.Echo.{can_be_echoed, echoed}
+use Rattle.irc_line.proofs.CallerLemmas.{no_lines, middle_from, read_parameters_whole}
+use Rattle.irc_reply.specs.Echo.{echoed}
 use Rattle.irc_reply.specs.Standing.{CanBeRefusal, IsWordTo, word_limit}
 use Rattle.irc_reply.proofs.CallerLemmas.{unknown_line, fail_line, mark_line}
 use Rattle.chat_change.specs.Words.{is_target}
@@ -28,20 +28,23 @@ use Rattle.chat_change.specs.declared.change.Change.TheVariants.{Post, Mark}
 use Rattle.chat_history.specs.History.{norm, mark}
 use Rattle.chat_history.proofs.CallerLemmas.{mark_greatest}
 use Rattle.chat_page.specs.Page.{Page, of_records, of_buffers, targets_cut, buffers_in, page_in, page}
-use Rattle.chat_page.specs.Scope.{Scope}
+use Rattle.chat_query.specs.Scope.{Scope}
 use Rattle.chat_page.specs.Posted.{IsListed, IsOfTarget}
-use Rattle.chat_page.specs.Parameters.{read_query}
-use Rattle.chat_page.specs.declared.query.Query.{Query}
-use Rattle.chat_page.specs.declared.query.Query.TheVariants.{Latest, Before, After, Around, Between, Targets}
-use Rattle.chat_page.specs.declared.parameters.QueryFault.{QueryFault}
-use Rattle.chat_page.specs.declared.parameters.QueryFault.TheVariants.{NeedMoreParams, UnknownCommand, InvalidTarget, InvalidMsgRef, InvalidParams}
-use Rattle.chat_page.proofs.CallerLemmas.{page_posted, HasGiven, second_of, query_given}
-use Rattle.chat_batch.specs.declared.facts.Facts.{Facts}
-use Rattle.chat_batch.specs.Answers.{Answer, has_buffers, has_buffer, scope_of, subcommand_of, context_of, first_of, word_of, given_of, code_of, reason_of, query_refusal, page_answer, page_or_unknown, query_or_refusal, history_answer, marker_refusal, asks_or_sets, marker_answer, marker_or_refusal, markread_answer, answer_of}
-use Rattle.chat_batch.specs.Reference.{reference_text}
-use Rattle.chat_batch.specs.Standing.{CanBeListed, IsSoundSession}
-use Rattle.chat_batch.proofs.WordLemmas.{target_word}
-use Rattle.chat_batch.proofs.LinesLemmas.{reference_stands, history_lines, targets_lines}
+use Rattle.chat_query.specs.Parameters.{read_query}
+use Rattle.chat_query.specs.declared.query.Query.{Query}
+use Rattle.chat_query.specs.declared.query.Query.TheVariants.{Latest, Before, After, Around, Between, Targets}
+use Rattle.chat_query.specs.declared.parameters.QueryFault.{QueryFault}
+use Rattle.chat_query.specs.declared.parameters.QueryFault.TheVariants.{NeedMoreParams, UnknownCommand, InvalidTarget, InvalidMsgRef, InvalidParams}
+use Rattle.chat_page.proofs.CallerLemmas.{page_posted}
+use Rattle.chat_query.proofs.CallerLemmas.{HasGiven, second_of, query_given, target_word, echoed_word, reference_stands}
+use Rattle.chat_query.specs.declared.facts.Facts.{Facts}
+use Rattle.chat_batch.specs.Answers.{Answer, subcommand_of, context_of, word_of, given_of, code_of, reason_of, query_refusal, page_answer, page_or_unknown, query_or_refusal, history_answer, marker_refusal, asks_or_sets, marker_answer, marker_or_refusal, markread_answer, answer_of}
+use Rattle.chat_query.specs.Buffers.{has_buffers, has_buffer, scope_of}
+use Rattle.chat_query.specs.Parameters.{first_of}
+use Rattle.chat_query.specs.Reference.{reference_text}
+use Rattle.chat_batch.specs.Standing.{CanBeListed}
+use Rattle.chat_query.specs.Standing.{IsSoundSession}
+use Rattle.chat_batch.proofs.LinesLemmas.{history_lines, targets_lines}
 
 -- ---- what is taken from lawful changes
 
@@ -90,21 +93,6 @@ upper_word most text is =
     let some = is.0.0 in
     let long = is.1 in
     ((omega arith, upper_begins text ∙ is.0.1, upper_space text is.0.2, upper_bad text ∙ is.0.3), omega arith)
-
-some_bytes : (text : List ℕ) → not (length text == 0) ≡ true → 0 < length text
-some_bytes text e = grind arith
-
-pub echoed_word : (word : List ℕ) → HasNoBadByte word → IsWordTo word_limit (echoed word)
-echoed_word word good = go (can_be_echoed word) refl where
-  go : (t : Bool) → can_be_echoed word ≡ t → IsWordTo word_limit (cond t word (codes "*"))
-  go true e =
-      let a = and_parts (not (length word == 0) && nat_le (length word) 64 && not (begins_with colon word)) (not (list_any (λ b. b == space) word)) e in
-      let b = and_parts (not (length word == 0) && nat_le (length word) 64) (not (begins_with colon word)) a.0 in
-      let c = and_parts (not (length word == 0)) (nat_le (length word) 64) b.0 in (
-        (some_bytes word c.0, not-true (begins_with colon word) b.1, no_space_from word (not-true (list_any (λ b. b == space) word) a.1), good),
-        leb-true (length word) 64 c.1,
-      )
-  go false e = (middle_from (codes "*") refl, lit≤ tt)
 
 subcommand_word : (word : List ℕ) → HasNoBadByte word → IsWordTo word_limit (subcommand_of word)
 subcommand_word word good = upper_word word_limit (echoed word) (echoed_word word good)

@@ -2,7 +2,6 @@ mod AnswerLemmas
 mod OwnPastLemmas
 mod TagLemmas
 mod MessageLemmas
-mod WordLemmas
 mod LinesLemmas
 mod ToldLemmas
 mod AnswerLinesLemmas

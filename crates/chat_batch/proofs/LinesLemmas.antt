@@ -1,15 +1,13 @@
 -- What is written is lines that read back.
-use Rattle.std.proofs.Common.{◌≡◌, ℕ, ◌+◌, ◌%◌, ◌^◌, ◌≤◌, ◌<◌, Bool, true, false, ◌||◌, ◌==◌, codes, List, [], ◌∷◌, ◌++◌, length, None, Some, Option, refl, sym, ap, ◌∙◌, subst, arith, append_assoc, length-append, lit<, lit≤}
+use Rattle.std.proofs.Common.{◌≡◌, ℕ, ◌+◌, ◌≤◌, ◌<◌, Bool, true, false, ◌||◌, ◌==◌, codes, List, [], ◌∷◌, ◌++◌, length, None, Some, Option, refl, sym, ap, ◌∙◌, subst, arith, append_assoc, length-append, lit≤}
 use Rattle.std.specs.Prelude.{IfSome}
 use Rattle.std.specs.List.{AllByRecursion, list_any}
-use Rattle.std.specs.Fmt.{decimal}
 use Rattle.std.proofs.lemmas.Bool.{or_parts}
-use Rattle.std.proofs.lemmas.Fmt.{decimal_by_steps, length-decimal-le}
 use Rattle.std.proofs.lemmas.List.Elements.{All-from_recursion, recursion_from_All}
 use Rattle.irc_caps.specs.declared.CapSet.{CapSet}
-use Rattle.irc_tags.specs.Value.{value_text}
-use Rattle.irc_tags.specs.Standing.{is_nul, ends_tag_data}
-use Rattle.irc_tags.proofs.CallerLemmas.{value_in_line, length-value_text}
+use Rattle.tag_data.specs.Value.{value_text}
+use Rattle.tag_data.specs.Standing.{is_nul, ends_tag_data}
+use Rattle.tag_data.proofs.CallerLemmas.{value_in_line, length-value_text}
 use Rattle.irc_time.specs.Text.{time_text}
 use Rattle.irc_time.proofs.CallerLemmas.{time_shape}
 use Rattle.irc_line.specs.declared.line.TagLimit.{TagLimit}
@@ -29,8 +27,9 @@ use Rattle.chat_change.specs.Lawful.{IsLawfulRecord}
 use Rattle.chat_batch.specs.Tags.{more_tags, tag_part, only_if, has_own_tags, own_tags, batch_tags, message_tags}
 use Rattle.chat_batch.specs.Message.{record_text, live_text}
 use Rattle.chat_batch.specs.Batch.{opening, closing, batch_text, records_text, history_text, buffer_text, buffers_text, targets_text}
-use Rattle.chat_batch.specs.Standing.{IsReference, CanBeListed}
-use Rattle.chat_batch.proofs.WordLemmas.{target_word, id_bytes, own_bytes, body_stands, kind_is_command}
+use Rattle.chat_query.specs.Standing.{IsReference}
+use Rattle.chat_batch.specs.Standing.{CanBeListed}
+use Rattle.chat_query.proofs.CallerLemmas.{target_word, id_bytes, own_bytes, body_stands, kind_is_command}
 
 -- ---- tags
 
@@ -245,25 +244,6 @@ module _ (caps : CapSet) (r : Record) (is : IsLawfulRecord r) where
 
   pub live_lines : AreLines Server (live_text caps r)
   live_lines = tagged_line Server (message_tags caps r) parts_of message_stand live_size (line_stands Server)
-
--- ---- references
-
-numeral_bytes : (n : ℕ) → n < 2 ^ 64 → AllByRecursion (λ b. 33 ≤ b) (decimal n)
-numeral_bytes n h = decimal_by_steps (λ _ ds. AllByRecursion (λ b. 33 ≤ b) ds) (λ k small. (omega arith, tt)) (λ k ds big above. push ds (48 + k % 10) above (omega arith)) n h where
-  push : (ds : List ℕ) (d : ℕ) → AllByRecursion (λ b. 33 ≤ b) ds → 33 ≤ d → AllByRecursion (λ b. 33 ≤ b) (ds ++ d ∷ [])
-  push [] d all low = (low, tt)
-  push (b ∷ ds) d all low = (all.0, push ds d all.1 low)
-
--- `r` and a number of 32 bits
-pub reference_stands : (n : ℕ) → n ≤ 4294967295 → IsReference (codes "r" ++ decimal n)
-reference_stands n h =
-    let small : n < 2 ^ 64 = omega arith in
-    let above = numeral_bytes n small in
-    let short = length-decimal-le 10 n (lit< tt) (omega arith) small in (
-      no_space_append (codes "r") (decimal n) (no_space_from (codes "r") refl) (no_space_above (decimal n) above),
-      good_append (codes "r") (decimal n) refl (no_bad_above (decimal n) above),
-      omega (arith, length-append (codes "r") (decimal n)),
-    )
 
 -- ---- batches
 

@@ -7,16 +7,17 @@ use Rattle.irc_reply.specs.Reply.{mark_text}
 use Rattle.chat_change.specs.Words.{lower_case_of}
 use Rattle.chat_change.specs.declared.change.Change.{Change}
 use Rattle.chat_history.specs.History.{norm}
-use Rattle.chat_page.specs.Parameters.{read_query}
+use Rattle.chat_query.specs.Parameters.{read_query}
 use Rattle.chat_page.specs.Page.{page}
 use Rattle.chat_page.specs.OwnPast.{own_past, SameOwnPast}
-use Rattle.chat_page.specs.declared.query.Query.{Query}
-use Rattle.chat_page.specs.declared.parameters.QueryFault.{QueryFault}
-use Rattle.chat_page.specs.declared.parameters.QueryFault.TheVariants.{InvalidTarget}
+use Rattle.chat_query.specs.declared.query.Query.{Query}
+use Rattle.chat_query.specs.declared.parameters.QueryFault.{QueryFault}
+use Rattle.chat_query.specs.declared.parameters.QueryFault.TheVariants.{InvalidTarget}
 use Rattle.chat_page.proofs.CallerLemmas.{own_page, own_mark, same_own}
-use Rattle.chat_batch.specs.Answers.{plain, unknown, has_buffers, has_buffer, scope_of, query_refusal, page_or_unknown, query_or_refusal, history_answer, marker_of, marker_refusal, asks_or_sets, marker_or_refusal, answer_of}
-use Rattle.chat_batch.specs.declared.facts.Facts.{Facts}
-use Rattle.chat_batch.specs.declared.facts.Answered.TheVariants.{NotAQuery}
+use Rattle.chat_batch.specs.Answers.{plain, unknown, query_refusal, page_or_unknown, query_or_refusal, history_answer, marker_of, marker_refusal, asks_or_sets, marker_or_refusal, answer_of}
+use Rattle.chat_query.specs.Buffers.{has_buffers, has_buffer, scope_of}
+use Rattle.chat_query.specs.declared.facts.Facts.{Facts}
+use Rattle.chat_query.specs.declared.facts.Answered.TheVariants.{NotAQuery}
 use Rattle.chat_batch.proofs.AnswerLemmas.{same_answer}
 
 -- ---- sets with equal pages and equal markers

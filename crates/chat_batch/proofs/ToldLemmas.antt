@@ -11,11 +11,11 @@ use Rattle.irc_line.specs.declared.line.TagLimit.TheVariants.{Server}
 use Rattle.irc_line.specs.Line.{tag_limit}
 use Rattle.irc_line.specs.Text.{tags_text as before_line}
 use Rattle.irc_line.specs.CanStand.{CanBeTags}
-use Rattle.irc_tags.specs.Value.{byte_spelling, value_text}
-use Rattle.irc_tags.specs.TagList.{Tag, same_bytes}
-use Rattle.irc_tags.specs.Text.{value_part, tag_text, tags_text}
-use Rattle.irc_tags.specs.Standing.{ends_key, IsKey, CanStand, is_client_only}
-use Rattle.irc_tags.proofs.CallerLemmas.{tag_list-tags_text}
+use Rattle.tag_data.specs.Value.{byte_spelling, value_text}
+use Rattle.tag_data.specs.TagList.{Tag, same_bytes}
+use Rattle.tag_data.specs.Text.{value_part, tag_text, tags_text}
+use Rattle.tag_data.specs.Standing.{ends_key, IsKey, CanStand, is_client_only}
+use Rattle.tag_data.proofs.CallerLemmas.{tag_list-tags_text}
 use Rattle.irc_time.specs.Time.{digit, text}
 use Rattle.irc_time.specs.Text.{time_text}
 use Rattle.irc_time.proofs.CallerLemmas.{moment_text, time_shape}
@@ -23,10 +23,10 @@ use Rattle.chat_change.specs.Record.{Record}
 use Rattle.chat_change.specs.Lawful.{IsLawfulRecord}
 use Rattle.chat_batch.specs.Tags.{tag_part, only_if, own_tags, batch_tags, message_tags}
 use Rattle.chat_batch.specs.Message.{message_line, record_text, live_text}
-use Rattle.chat_batch.specs.Reference.{reference_text, greatest_reference}
+use Rattle.chat_query.specs.Reference.{reference_text, greatest_reference}
 use Rattle.chat_batch.specs.Told.{HasOwn, tag_if, told_of, told_in_batch, TellsTags}
-use Rattle.chat_batch.proofs.WordLemmas.{id_bytes}
-use Rattle.chat_batch.proofs.LinesLemmas.{IsTag, behind, data_of, total, part_is, data_stands, message_stand, live_size, record_stand, record_size, reference_stands}
+use Rattle.chat_query.proofs.CallerLemmas.{id_bytes, reference_stands}
+use Rattle.chat_batch.proofs.LinesLemmas.{IsTag, behind, data_of, total, part_is, data_stands, message_stand, live_size, record_stand, record_size}
 
 -- ---- values without escapes
 

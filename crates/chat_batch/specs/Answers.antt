@@ -9,18 +9,17 @@ use Rattle.irc_reply.specs.Reply.{fail_text, mark_text, unknown_text}
 use Rattle.chat_change.specs.Buffer.{buffer_of}
 use Rattle.chat_change.specs.declared.change.Change.{Change}
 use Rattle.chat_history.specs.History.{mark}
-use Rattle.chat_page.specs.Scope as scope
-use Rattle.chat_change.specs.Buffers as buffers
-use Rattle.chat_page.specs.Parameters.{read_query, moment_of}
+use Rattle.chat_query.specs.Parameters.{first_of, read_query, moment_of}
+use Rattle.chat_query.specs.Buffers.{has_buffers, has_buffer, scope_of}
 use Rattle.chat_page.specs.Page.{Page, page}
-use Rattle.chat_page.specs.declared.query.Query.{Query}
-use Rattle.chat_page.specs.declared.parameters.QueryFault.{QueryFault}
-use Rattle.chat_page.specs.declared.parameters.QueryFault.TheVariants.{NeedMoreParams, UnknownCommand, InvalidTarget, InvalidMsgRef, InvalidParams}
+use Rattle.chat_query.specs.declared.query.Query.{Query}
+use Rattle.chat_query.specs.declared.parameters.QueryFault.{QueryFault}
+use Rattle.chat_query.specs.declared.parameters.QueryFault.TheVariants.{NeedMoreParams, UnknownCommand, InvalidTarget, InvalidMsgRef, InvalidParams}
 use Rattle.chat_batch.specs.Batch.{page_text}
-use Rattle.chat_batch.specs.Reference.{reference_text}
-use Rattle.chat_batch.specs.declared.facts.Facts.{Facts}
-use Rattle.chat_batch.specs.declared.facts.Answered.{Answered}
-use Rattle.chat_batch.specs.declared.facts.Answered.TheVariants.{Batch, Plain, NotAQuery}
+use Rattle.chat_query.specs.Reference.{reference_text}
+use Rattle.chat_query.specs.declared.facts.Facts.{Facts}
+use Rattle.chat_query.specs.declared.facts.Answered.{Answered}
+use Rattle.chat_query.specs.declared.facts.Answered.TheVariants.{Batch, Plain, NotAQuery}
 
 -- the bytes of an answer, and what it was
 pub record Answer : Type 0 where
@@ -38,23 +37,6 @@ unknown facts command = plain (unknown_text facts.cluster facts.nick command)
 abbrev pub fail : Facts → List ℕ → List ℕ → List (List ℕ) → List ℕ → Answer
 fail facts command code context reason = plain (fail_text facts.cluster command code context reason)
 
--- ---- buffers of a session
-
--- a session whose account or network is no name has no buffers
-abbrev pub has_buffers : Facts → Bool
-has_buffers facts = buffers.has_buffers facts.account facts.network
-
--- a target has a buffer of the session
-abbrev pub has_buffer : Facts → List ℕ → Bool
-has_buffer facts target = buffers.has_buffer facts.account facts.network target
-
-abbrev pub scope_of : Facts → scope.Scope
-scope_of facts = record {
-  account = facts.account;
-  network = facts.network;
-  maximum = facts.maximum;
-}
-
 -- ---- refusals of CHATHISTORY
 
 -- the subcommand as it is told again: in upper case, and `*` for a word that can't be told
@@ -65,10 +47,6 @@ subcommand_of word = map to_ascii_uppercase (echoed word)
 abbrev pub context_of : Option (List ℕ) → List (List ℕ)
 context_of None = []
 context_of (Some word) = subcommand_of word ∷ []
-
-abbrev pub first_of : List (List ℕ) → Option (List ℕ)
-first_of [] = None
-first_of (word ∷ more) = Some word
 
 -- the subcommand and the target as they were given
 abbrev pub word_of : List (List ℕ) → List ℕ

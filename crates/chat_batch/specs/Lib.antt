@@ -4,7 +4,6 @@ pub mod Tags
 pub mod Message
 pub mod Batch
 pub mod Told
-pub mod Reference
 pub mod Answers
 pub mod Standing
 -- what only the proofs use of the code: what a call that writes an answer leaves

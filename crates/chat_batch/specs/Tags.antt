@@ -1,7 +1,7 @@
 -- The tags of the lines that are written (IRCv3 message-tags, "Format").
 use Rattle.std.specs.Prelude.{ℕ, Bool, not, ◌&&◌, ◌||◌, ◌==◌, List, [], ◌∷◌, ◌++◌, length, codes, if◌then◌else◌}
 use Rattle.irc_caps.specs.declared.CapSet.{CapSet}
-use Rattle.irc_tags.specs.Value.{semicolon, space, backslash, carriage_return, line_feed, value_text}
+use Rattle.tag_data.specs.Value.{semicolon, space, backslash, carriage_return, line_feed, value_text}
 use Rattle.irc_time.specs.Text.{time_text}
 use Rattle.chat_change.specs.Record.{Record}
 use Rattle.chat_batch.specs.declared.tags.Tag.{Tag}

@@ -6,9 +6,9 @@ ghost use Rattle.chat_history.specs.History.{norm};
 ghost use Rattle.chat_batch.specs.Answers as spec;
 ghost use Rattle.chat_batch.specs.WritesAnswer.{WritesAnswer, IsUnwritten};
 
-use crate::facts::{Answered, Facts};
 use crate::history::answer_history;
 use crate::marker::answer_marker;
+use chat_query::{Answered, Facts};
 use chat_state::State;
 use irc_line::Line;
 use irc_reply::write_unknown;

@@ -8,10 +8,9 @@ ghost use Rattle.chat_batch.specs.WritesAnswer.{WritesAnswer, WritesAnswerFrom, 
 
 use crate::answers::{AnswerFault, write_incapable};
 use crate::batch::{write_page, write_targets};
-use crate::facts::{Answered, Facts};
-use crate::reference::reference_text;
 use crate::refusal::{refuse_query, refuse_selector};
 use chat_page::{Page, PageFault, Query, QueryFault, Scope, page, read_query};
+use chat_query::{Answered, Facts, reference_text};
 use chat_state::State;
 use irc_caps::CapSet;
 use irc_line::Line;
@@ -177,7 +176,7 @@ fn answer_line<W: Write>(
     }
 }
 
-ghost use Rattle.chat_page.specs.Parameters.{read_query};
+ghost use Rattle.chat_query.specs.Parameters.{read_query};
 
 /// Answers a CHATHISTORY line.
 pub(crate) fn answer_history<W: Write>(

@@ -6,7 +6,7 @@ ghost use Rattle.irc_line.specs.declared.line.TagLimit.TheVariants.{Server};
 ghost use Rattle.irc_line.specs.Line.{Reading, Reads};
 ghost use Rattle.irc_line.specs.Lines.{AreLines};
 ghost use Rattle.irc_caps.specs.declared.CapSet.{CapSet};
-ghost use Rattle.irc_tags.specs.TagList.{Tag};
+ghost use Rattle.tag_data.specs.TagList.{Tag};
 ghost use Rattle.irc_reply.specs.Standing.{IsCluster};
 ghost use Rattle.chat_change.specs.Words.{is_target};
 ghost use Rattle.chat_change.specs.Record.{Record};
@@ -14,13 +14,15 @@ ghost use Rattle.chat_change.specs.Lawful.{IsLawfulRecord, IsLawfulChange};
 ghost use Rattle.chat_change.specs.declared.change.Change.{Change};
 ghost use Rattle.chat_history.specs.History.{norm, changes_of};
 ghost use Rattle.chat_page.specs.OwnPast.{own_past, SameOwnPast};
-ghost use Rattle.chat_batch.specs.declared.facts.Facts.{Facts};
+ghost use Rattle.chat_query.specs.declared.facts.Facts.{Facts};
 ghost use Rattle.chat_batch.specs.Message.{message_line, record_text, live_text};
 ghost use Rattle.chat_batch.specs.Batch.{history_text, targets_text};
-ghost use Rattle.chat_batch.specs.Reference.{reference_text, greatest_reference};
+ghost use Rattle.chat_query.specs.Reference.{reference_text, greatest_reference};
 ghost use Rattle.chat_batch.specs.Told.{HasOwn, told_of, told_in_batch, TellsTags};
-ghost use Rattle.chat_batch.specs.Answers.{answer_of, scope_of};
-ghost use Rattle.chat_batch.specs.Standing.{IsReference, CanBeListed, IsSoundSession};
+ghost use Rattle.chat_batch.specs.Answers.{answer_of};
+ghost use Rattle.chat_query.specs.Buffers.{scope_of};
+ghost use Rattle.chat_query.specs.Standing.{IsReference, IsSoundSession};
+ghost use Rattle.chat_batch.specs.Standing.{CanBeListed};
 
 /// An answer depends on the normal form of the set of changes alone, for every line: also for a selector that names a
 /// message that was redacted, or that lies below the retention floor.

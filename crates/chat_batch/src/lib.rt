@@ -8,19 +8,18 @@
 
 mod answers;
 mod batch;
-mod facts;
 mod history;
 pub mod laws;
 mod marker;
 mod message;
-mod reference;
+mod past;
 mod refusal;
 mod tags;
 
 pub use answers::{AnswerFault, answer};
 pub use batch::{write_page, write_targets};
 pub use chat_page::ListedBuffer;
-pub use facts::{Answered, Facts};
+pub use chat_query::{Answered, Facts, next_reference};
 pub use irc_reply::{Context, write_fail, write_mark, write_too_long, write_unknown};
 pub use message::write_live;
-pub use reference::next_reference;
+pub use past::{AskFault, Past};

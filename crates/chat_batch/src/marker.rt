@@ -1,14 +1,15 @@
 //! Answers to MARKREAD (IRCv3 draft/read-marker).
 ghost use Rattle.std.specs.Prelude.{◌≡◌, codes, map, IfOk};
+ghost use Rattle.chat_query.specs.Buffers.{has_buffer};
 ghost use Rattle.chat_batch.specs.Answers as spec;
 ghost use Rattle.chat_batch.specs.WritesAnswer.{WritesAnswer, WritesAnswerFrom, IsUnwritten};
 
 use crate::answers::{AnswerFault, write_incapable};
-use crate::facts::{Answered, Facts};
 use crate::refusal::refuse;
 use byte_text::NoMemory;
 use chat_change::Moment;
 use chat_page::read_moment;
+use chat_query::{Answered, Facts};
 use chat_state::State;
 use irc_reply::{Context, write_mark};
 use std::alloc::Global;
@@ -45,7 +46,7 @@ fn marker_of(
     facts: &Facts,
     given: &[u8],
 ) -> Result<Option<Moment>, NoMemory>
-    requires { spec.has_buffer facts.now given.now ≡ true }
+    requires { has_buffer facts.now given.now ≡ true }
     ensures { (changes : List Change) → state.now.history ≡ norm changes
         → IfOk result (λ marker. marker ≡ spec.marker_of changes facts.now given.now) }
 {
@@ -65,7 +66,7 @@ fn write_marker<W: Write>(
     given: &[u8],
     writer: &mut W,
 ) -> Result<Answered, AnswerFault>
-    requires { spec.has_buffer facts.now given.now ≡ true }
+    requires { has_buffer facts.now given.now ≡ true }
     ensures text { WritesAnswerFrom W.contents writer.old writer.new result state.now.history
         (λ changes. spec.marker_answer changes facts.now given.now) }
     ensures memory { IsUnwritten result writer.old writer.new }

@@ -2,13 +2,14 @@
 ghost use Rattle.std.specs.Prelude.{◌≡◌, Some, None, IfOk, map};
 ghost use Rattle.std.specs.Option.{option_copied};
 ghost use Rattle.irc_reply.specs.Reply.{value_of};
+ghost use Rattle.chat_query.specs.Parameters as query;
 ghost use Rattle.chat_batch.specs.Answers as spec;
 ghost use Rattle.chat_batch.specs.WritesAnswer.{WritesAnswer, IsUnwritten};
 
 use crate::answers::AnswerFault;
-use crate::facts::{Answered, Facts};
 use byte_text::Text;
 use chat_page::QueryFault;
+use chat_query::{Answered, Facts};
 use irc_reply::{Context, echoed, write_fail};
 use std::alloc::{AllocError, Global};
 use std::io::Write;
@@ -97,7 +98,7 @@ fn refuse_subcommand<W: Write>(
 }
 
 fn first_of<'a>(parameters: &[&'a [u8]]) -> Option<&'a [u8]>
-    ensures { option_copied result ≡ spec.first_of (map (λ p. p.now) parameters.now) }
+    ensures { option_copied result ≡ query.first_of (map (λ p. p.now) parameters.now) }
 {
     match parameters {
         [word, ..] => Some(word),

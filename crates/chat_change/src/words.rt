@@ -3,8 +3,8 @@ ghost use Rattle.std.specs.Prelude.{◌≡◌};
 ghost use Rattle.std.specs.List.{list_any, list_all};
 ghost use Rattle.chat_change.specs.Words as spec;
 
-use irc_tags::is_client_only_text;
 use memchr::memchr3;
+use tag_data::is_client_only_text;
 
 /// The most bytes that the name of an account or of a network has.
 pub const NAME_LIMIT: usize = 32;

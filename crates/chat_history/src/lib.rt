@@ -3,11 +3,14 @@
 //! Nearly all of this crate is definitions, in `specs/`: the floor, the marker, the kept record and the place of a message
 //! in a set of changes (`History`), the visible records of a buffer (`Visible`), the numbers of pieces and the deltas
 //! between them (`Numbering`). [`laws`] says what holds of them: the order and the repeats of the changes don't matter, and
-//! normal forms join. In code it has [`Spot`], where a record stands, and [`Cut`], a place between records. It stands on
-//! `chat_change`; every crate that keeps or reads a history stands on it. Read [`laws`] first.
+//! normal forms join. In code it has [`Spot`], where a record stands, [`Cut`], a place between records, and [`Peek`], what
+//! sessions ask of a history. It stands on `chat_change`; every crate that keeps or reads a history stands on it. Read
+//! [`laws`] first.
 #![tactic(auto)]
 
 mod cut;
 pub mod laws;
+mod peek;
 
 pub use cut::{Cut, Spot, is_after};
+pub use peek::{NoEntry, Peek};

@@ -1,4 +1,3 @@
 -- What the crates above may name of these proofs.
 pub use Rattle.chat_page.proofs.PostedLemmas.{page_posted}
-pub use Rattle.chat_page.proofs.GivenLemmas.{HasGiven, second_of, query_given}
 pub use Rattle.chat_page.proofs.OwnPastLemmas.{own_page, own_mark, same_own}

@@ -6,10 +6,10 @@ use Rattle.chat_change.specs.Buffer.{Buffer}
 use Rattle.chat_change.specs.declared.change.Change.{Change}
 use Rattle.chat_history.specs.History.{norm, position_of}
 use Rattle.chat_history.proofs.CallerLemmas.{position_in-norm}
-use Rattle.chat_page.specs.Scope.{Scope}
-use Rattle.chat_page.specs.declared.query.Selector.{Selector}
-use Rattle.chat_page.specs.declared.query.Selector.TheVariants.{Message}
-use Rattle.chat_page.specs.declared.query.Query.TheVariants as queries
+use Rattle.chat_query.specs.Scope.{Scope}
+use Rattle.chat_query.specs.declared.query.Selector.{Selector}
+use Rattle.chat_query.specs.declared.query.Selector.TheVariants.{Message}
+use Rattle.chat_query.specs.declared.query.Query.TheVariants as queries
 use Rattle.chat_page.specs.Page.{spot, page, page_in, buffer_of, point_of}
 
 some_mapped : {A B : Type 0} (f : A → B) (o : Option A) → is_some (option_map f o) ≡ is_some o

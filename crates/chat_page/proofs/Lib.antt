@@ -3,9 +3,7 @@ mod LastLemmas
 mod ListingLemmas
 mod PostedLemmas
 mod OwnPastLemmas
-mod GivenLemmas
 mod WalkLemmas
-mod ParameterLemmas
 mod CutLemmas
 mod PlaceLemmas
 mod AnswerLemmas

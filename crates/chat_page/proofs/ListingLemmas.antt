@@ -20,10 +20,10 @@ use Rattle.chat_history.specs.Latest.{latest_moment, with_moment, network_buffer
 use Rattle.chat_history.proofs.CallerLemmas.{among, contained, among-filter, among_passing, mapped, image, sorted_alike, norm_keyed}
 use Rattle.chat_history.proofs.CallerLemmas.{spot_total, record_of}
 use Rattle.chat_state.proofs.CallerLemmas.{latest_among, among_latest, listed_record, record_listed}
-use Rattle.chat_page.specs.Scope.{Scope}
+use Rattle.chat_query.specs.Scope.{Scope}
 use Rattle.chat_page.specs.Page.{buffer_of, listed, buffers_in, lies_between, last, of_buffers, page_in, page}
 use Rattle.chat_page.specs.Listing.{IsLatestOf, IsLatestBetween, IsListing}
-use Rattle.chat_page.specs.declared.query.Query.TheVariants.{Targets}
+use Rattle.chat_query.specs.declared.query.Query.TheVariants.{Targets}
 use Rattle.chat_page.proofs.BufferLemmas.{keys_among, keys_rise}
 use Rattle.chat_page.proofs.WalkLemmas.{drop_none}
 

@@ -18,12 +18,12 @@ use Rattle.chat_history.specs.Choice.{first_by, greatest}
 use Rattle.chat_history.specs.History.{History, norm, mark, piece, floor_moment, marker_moment, posted_record, message_moment, is_redaction, IsKeyed}
 use Rattle.chat_history.specs.Visible.{records_in}
 use Rattle.chat_history.proofs.CallerLemmas.{among, contained, among-filter, among_passing, sorted_alike, norm_keyed, get-norm, norm_of_set, spot_total, rising_total, record_of, of_record, records_sorted}
-use Rattle.chat_page.specs.Scope.{Scope}
+use Rattle.chat_query.specs.Scope.{Scope}
 use Rattle.chat_page.specs.Page.{Point, spot, point_of, is_before, is_after, last, around_cut, between_cut, buffer_of, buffers_in, targets_cut, of_records, of_buffers, page_in, page}
-use Rattle.chat_page.specs.declared.query.Selector.{Selector}
-use Rattle.chat_page.specs.declared.query.Selector.TheVariants.{Timestamp, Message}
-use Rattle.chat_page.specs.declared.query.Query.{Query}
-use Rattle.chat_page.specs.declared.query.Query.TheVariants.{Latest, Before, After, Around, Between, Targets}
+use Rattle.chat_query.specs.declared.query.Selector.{Selector}
+use Rattle.chat_query.specs.declared.query.Selector.TheVariants.{Timestamp, Message}
+use Rattle.chat_query.specs.declared.query.Query.{Query}
+use Rattle.chat_query.specs.declared.query.Query.TheVariants.{Latest, Before, After, Around, Between, Targets}
 use Rattle.chat_page.specs.Listing.{IsLatestOf}
 use Rattle.chat_page.specs.OwnPast.{is_own_extent, is_own, own_past, SameOwnPast}
 use Rattle.chat_page.proofs.ListingLemmas.{own_network, listing_is, listing_rises}

@@ -13,8 +13,8 @@ use Rattle.chat_history.specs.Cut.{cut_cmp, of_record}
 use Rattle.chat_history.specs.declared.cut.Spot.{Spot}
 use Rattle.chat_history.proofs.CallerLemmas.{spot_total, position_in-norm}
 use Rattle.chat_page.specs.Page.{Point, spot, point_of, is_before}
-use Rattle.chat_page.specs.declared.query.Selector.{Selector}
-use Rattle.chat_page.specs.declared.query.Selector.TheVariants.{Message}
+use Rattle.chat_query.specs.declared.query.Selector.{Selector}
+use Rattle.chat_query.specs.declared.query.Selector.TheVariants.{Message}
 
 turned : (o : Ordering) → not (is_le o) ≡ is_lt (ordering_reverse o)
 turned Less = refl

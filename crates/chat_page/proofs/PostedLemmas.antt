@@ -10,9 +10,9 @@ use Rattle.chat_change.specs.declared.change.Change.{Change}
 use Rattle.chat_history.specs.History.{norm}
 use Rattle.chat_history.specs.Visible.{visible}
 use Rattle.chat_history.proofs.CallerLemmas.{among, norm_keyed, visible_posted}
-use Rattle.chat_page.specs.Scope.{Scope}
-use Rattle.chat_page.specs.declared.query.Query.{Query}
-use Rattle.chat_page.specs.declared.query.Query.TheVariants.{Latest, Before, After, Around, Between, Targets}
+use Rattle.chat_query.specs.Scope.{Scope}
+use Rattle.chat_query.specs.declared.query.Query.{Query}
+use Rattle.chat_query.specs.declared.query.Query.TheVariants.{Latest, Before, After, Around, Between, Targets}
 use Rattle.chat_page.specs.Page.{Point, point_of, is_before, is_after, last, around_cut, between_cut, buffer_of, buffers_in, lies_between, targets_cut, Page, of_records, page_in, page}
 use Rattle.chat_page.specs.Posted.{IsPostedIn, IsListed, IsOfTarget, IsOfPosts}
 use Rattle.chat_page.proofs.ListingLemmas.{listing_is}

@@ -16,9 +16,9 @@ use Rattle.chat_history.specs.Lookups.{position_in}
 use Rattle.chat_history.specs.Choice.{Among}
 use Rattle.chat_history.proofs.CallerLemmas.{norm_keyed}
 use Rattle.chat_history.proofs.CallerLemmas.{spot_total, record_of, records_sorted}
-use Rattle.chat_page.specs.Scope.{Scope}
-use Rattle.chat_page.specs.declared.query.Selector.TheVariants.{Message}
-use Rattle.chat_page.specs.declared.query.Query.TheVariants.{Latest, Before, After}
+use Rattle.chat_query.specs.Scope.{Scope}
+use Rattle.chat_query.specs.declared.query.Selector.TheVariants.{Message}
+use Rattle.chat_query.specs.declared.query.Query.TheVariants.{Latest, Before, After}
 use Rattle.chat_page.specs.Page.{Page, of_records, page, page_in, buffer_of, last, is_after, is_before, Point, spot}
 use Rattle.chat_page.specs.Walk.{FollowPages, PrecedePages, LatestPages}
 use Rattle.chat_page.proofs.ItemLemmas.{after_it, before_it}

@@ -7,7 +7,7 @@ use Rattle.chat_page.specs.Page as spec
 use Rattle.chat_change.specs.Buffer.{Buffer}
 use Rattle.chat_history.specs.History.{History}
 use Rattle.chat_history.specs.Visible.{records_in}
-use Rattle.chat_page.specs.declared.query.Selector.{Selector}
+use Rattle.chat_query.specs.declared.query.Selector.{Selector}
 use Rattle.chat_page.specs.declared.answer.Side.{Side}
 use Rattle.chat_page.specs.declared.answer.Side.TheVariants.{LatestAfter, Before, After, Around}
 use Rattle.chat_page.specs.declared.pages.Page.{Page}

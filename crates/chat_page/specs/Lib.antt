@@ -1,7 +1,4 @@
 -- what a reader must believe: what a client asks for, the page that answers it, and what it may have
-pub mod Scope
-pub mod Limit
-pub mod Parameters
 pub mod ListedBuffer
 pub mod Page
 pub mod Listing

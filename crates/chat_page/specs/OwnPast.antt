@@ -5,7 +5,7 @@ use Rattle.chat_change.specs.Extent.{Extent, OfAccount, OfBuffer}
 use Rattle.chat_change.specs.Key.{key_extent, key_of}
 use Rattle.chat_history.specs.Buffers.{is_of_network}
 use Rattle.chat_history.specs.Retention.{same_account}
-use Rattle.chat_page.specs.Scope.{Scope}
+use Rattle.chat_query.specs.Scope.{Scope}
 
 -- the extent is the scope's account, or one of its buffers on the network
 abbrev pub is_own_extent : Scope → Extent → Bool

@@ -11,11 +11,11 @@ use Rattle.chat_history.specs.History.{History, norm}
 use Rattle.chat_history.specs.Latest.{latest_in}
 use Rattle.chat_history.specs.Lookups.{position_in}
 use Rattle.chat_history.specs.Visible.{records_in, spot_cmp}
-use Rattle.chat_page.specs.Scope.{Scope}
-use Rattle.chat_page.specs.declared.query.Selector.{Selector}
-use Rattle.chat_page.specs.declared.query.Selector.TheVariants.{Timestamp, Message}
-use Rattle.chat_page.specs.declared.query.Query.{Query}
-use Rattle.chat_page.specs.declared.query.Query.TheVariants.{Latest, Before, After, Around, Between, Targets}
+use Rattle.chat_query.specs.Scope.{Scope}
+use Rattle.chat_query.specs.declared.query.Selector.{Selector}
+use Rattle.chat_query.specs.declared.query.Selector.TheVariants.{Timestamp, Message}
+use Rattle.chat_query.specs.declared.query.Query.{Query}
+use Rattle.chat_query.specs.declared.query.Query.TheVariants.{Latest, Before, After, Around, Between, Targets}
 
 -- ---- before and after
 

@@ -4,9 +4,9 @@ use Rattle.chat_change.specs.Buffer.{Buffer}
 use Rattle.chat_change.specs.Record.{Record}
 use Rattle.chat_change.specs.declared.change.Change.{Change}
 use Rattle.chat_change.specs.declared.change.Change.TheVariants.{Post}
-use Rattle.chat_page.specs.Scope.{Scope}
-use Rattle.chat_page.specs.declared.query.Query.{Query}
-use Rattle.chat_page.specs.declared.query.Query.TheVariants.{Latest, Before, After, Around, Between, Targets}
+use Rattle.chat_query.specs.Scope.{Scope}
+use Rattle.chat_query.specs.declared.query.Query.{Query}
+use Rattle.chat_query.specs.declared.query.Query.TheVariants.{Latest, Before, After, Around, Between, Targets}
 use Rattle.chat_page.specs.Page.{Page, of_records, of_buffers, buffer_of}
 
 -- the record was posted in the buffer

@@ -11,10 +11,9 @@ use crate::known::has_page;
 use crate::listed_buffer::listed_between;
 use crate::pages::{Page, PageFault};
 use crate::place::{SelectorPlace, over, place_of, under};
-use crate::query::{Query, Selector, Target};
-use crate::scope::Scope;
 use crate::walk::{first_between, last_between};
 use chat_change::{Buffer, ChangeFault, Moment, Record};
+use chat_query::{Query, Scope, Selector, Target};
 use chat_state::{Cut, Spot, State};
 use std::alloc::{AllocError, Global};
 

@@ -4,8 +4,7 @@ ghost use Rattle.chat_change.specs.declared.change.Change.{Change};
 ghost use Rattle.chat_history.specs.History.{norm};
 ghost use Rattle.chat_page.specs.Page.{buffer_of, page, point_of};
 
-use crate::query::{Query, Selector, Target};
-use crate::scope::Scope;
+use chat_query::{Query, Scope, Selector, Target};
 use chat_state::State;
 
 /// Whether a selector has a place in the buffer of a target.

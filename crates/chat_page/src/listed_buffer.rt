@@ -10,8 +10,8 @@ ghost use Rattle.chat_history.specs.Visible.{spot_cmp};
 ghost use Rattle.chat_page.specs.ListedBuffer.{listed_total};
 ghost use Rattle.chat_page.specs.Page.{buffers_in, last, lies_between, targets_cut};
 
-use crate::scope::Scope;
 use chat_change::Moment;
+use chat_query::Scope;
 use chat_state::{Latest, State};
 use std::alloc::{AllocError, Global};
 use std::cmp::Ordering;

@@ -7,8 +7,8 @@ ghost use Rattle.chat_history.specs.Cut.{is_after as is_after_cut};
 ghost use Rattle.chat_page.specs.Page.{Point, point_of, is_before, is_after};
 
 use crate::pages::PageFault;
-use crate::query::Selector;
 use chat_change::{Buffer, Moment, MsgId};
+use chat_query::Selector;
 use chat_state::{Cut, Spot, State};
 use std::alloc::Global;
 

@@ -2,11 +2,6 @@
 
 use thiserror::Error;
 
-/// A published state could not be entered.
-#[derive(Clone, Copy, Debug, PartialEq, Eq, Error)]
-#[error("no entry")]
-pub struct NoEntry;
-
 /// Why a change was not taken. Of both causes the first is answered.
 #[derive(Clone, Copy, Debug, PartialEq, Eq, Error)]
 pub enum StateFault {

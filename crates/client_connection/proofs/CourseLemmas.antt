@@ -11,8 +11,8 @@ use Rattle.irc_line.specs.Stream.{too_long as cut_line}
 use Rattle.irc_reply.specs.ToClient.{no_nick, marker_question}
 use Rattle.chat_change.specs.Record.{Record}
 use Rattle.chat_change.specs.declared.change.Change.{Change}
-use Rattle.chat_batch.specs.declared.facts.Answered.{Answered}
-use Rattle.chat_batch.specs.declared.facts.Facts.{Facts}
+use Rattle.chat_query.specs.declared.facts.Answered.{Answered}
+use Rattle.chat_query.specs.declared.facts.Facts.{Facts}
 use Rattle.chat_batch.specs.Message.{live_text}
 use Rattle.irc_caps.specs.declared.recipients.Recipients.{Recipients}
 use Rattle.client_directory.specs.Directory.{Directory}

@@ -10,12 +10,13 @@ use Rattle.chat_change.specs.Extent.{Extent, OfAccount, OfBuffer}
 use Rattle.chat_change.specs.Key.{key_extent, key_of}
 use Rattle.chat_change.specs.declared.change.Change.{Change}
 use Rattle.chat_page.specs.OwnPast.{is_own, is_own_extent, own_past}
-use Rattle.chat_page.specs.Scope.{Scope}
+use Rattle.chat_query.specs.Scope.{Scope}
 use Rattle.chat_history.specs.Buffers.{is_of_network}
 use Rattle.chat_history.specs.Retention.{same_account}
-use Rattle.chat_batch.specs.Answers.{Answer, answer_of, scope_of}
-use Rattle.chat_batch.specs.declared.facts.Answered.{Answered}
-use Rattle.chat_batch.specs.declared.facts.Facts.{Facts}
+use Rattle.chat_batch.specs.Answers.{Answer, answer_of}
+use Rattle.chat_query.specs.Buffers.{scope_of}
+use Rattle.chat_query.specs.declared.facts.Answered.{Answered}
+use Rattle.chat_query.specs.declared.facts.Facts.{Facts}
 use Rattle.client_session.specs.declared.effect.Effect.{Effect}
 use Rattle.client_session.specs.declared.stage.Stage.{Stage}
 use Rattle.client_session.specs.declared.stage.Stage.TheVariants.{Waiting, Registered, Closed}

@@ -1,8 +1,8 @@
 -- What a session says as one thing more comes, and what a client hears before its registration.
 use Rattle.std.proofs.Common.{◌≡◌, ℕ, List, [], ◌∷◌, ◌++◌, Some, refl, sym, ◌∙◌, ap, subst, append-nil, append_assoc}
 use Rattle.std.proofs.lemmas.Option.{none-some}
-use Rattle.chat_batch.specs.declared.facts.Facts.{Facts}
-use Rattle.chat_batch.specs.declared.facts.Answered.{Answered}
+use Rattle.chat_query.specs.declared.facts.Facts.{Facts}
+use Rattle.chat_query.specs.declared.facts.Answered.{Answered}
 use Rattle.irc_line.specs.Stream.{Item}
 use Rattle.irc_line.specs.Stream.{line as whole_line}
 use Rattle.irc_line.specs.Stream.{too_long as cut_line}

@@ -1,10 +1,10 @@
 -- What a client is told of its own account and network.
 use Rattle.std.specs.Prelude.{ℕ, ◌≡◌, Bool, true, List, Some}
-use Rattle.chat_batch.specs.declared.facts.Facts.{Facts}
+use Rattle.chat_query.specs.declared.facts.Facts.{Facts}
 use Rattle.chat_change.specs.Record.{Record}
 use Rattle.chat_change.specs.declared.change.Change.{Change}
 use Rattle.chat_page.specs.OwnPast.{own_past}
-use Rattle.chat_page.specs.Scope.{Scope}
+use Rattle.chat_query.specs.Scope.{Scope}
 use Rattle.client_session.specs.declared.effect.Effect.{Effect}
 use Rattle.client_session.specs.declared.stage.Stage.{Stage}
 use Rattle.client_session.specs.Session.{facts_in}

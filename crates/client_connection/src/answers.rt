@@ -8,11 +8,10 @@ use crate::effects::effect_at;
 use crate::kind::ToClient;
 use attach::Attachment;
 use bnc_ports::{Carries, Connection, Reason};
-use chat_batch::Answered;
+use chat_batch::{Answered, AskFault, Past};
 use client_session::{Effect, Session};
 use irc_line::{TagLimit, read_line};
 use irc_reply::to_client::marker_question;
-use shared_node::{AskFault, Naming, Pass};
 use std::alloc::Global;
 use worker_io::Context;
 
@@ -25,10 +24,10 @@ fn reason_of(fault: AskFault) -> Reason {
 
 // Writes the answer to a line into the room, by the facts of the session. None before the registration, and where it is no
 // line.
-fn write_answer<J: Naming>(
+fn write_answer<A: Past>(
     session: &Session,
     alloc: Global,
-    pass: &mut Pass<J>,
+    past: &mut A,
     question: &[u8],
     room: &mut Vec<u8>,
 ) -> Result<Option<Answered>, Reason>
@@ -43,7 +42,7 @@ fn write_answer<J: Naming>(
     let Ok(question) = read_line(question, TagLimit::Client) else {
         return Ok(None);
     };
-    match pass.ask(alloc, facts, &question, room) {
+    match past.ask(alloc, facts, &question, room) {
         Ok(answered) => Ok(Some(answered)),
         Err(fault) => Err(reason_of(fault)),
     }
@@ -51,17 +50,17 @@ fn write_answer<J: Naming>(
 
 impl<X: Attachment, C: Connection> Client<X, C> {
     /// The answer to the client's question waits for it, where a question is next. The caller asked the gate.
-    pub fn answer<J: Naming>(
+    pub fn answer<A: Past>(
         &mut self,
         alloc: Global,
-        pass: &mut Pass<J>,
+        past: &mut A,
         room: &mut Vec<u8>,
     ) -> Result<(), Reason> {
         let Some(Effect::Ask(question)) = effect_at(self.effects.as_slice(), self.done) else {
             return Ok(());
         };
         let question = question.as_bytes();
-        let Some(answered) = write_answer(&self.session, alloc, pass, question, room)? else {
+        let Some(answered) = write_answer(&self.session, alloc, past, question, room)? else {
             self.done += 1;
             return Ok(());
         };
@@ -75,10 +74,10 @@ impl<X: Attachment, C: Connection> Client<X, C> {
 
     /// The client is told the read marker of a target (IRCv3 draft/read-marker): what it would be answered if it asked. For want
     /// of memory for the question it isn't told. The caller asked the gate.
-    pub fn tell_marker<J: Naming, P: Carries<ToClient, Connection = C>>(
+    pub fn tell_marker<A: Past, P: Carries<ToClient, Connection = C>>(
         &mut self,
         context: &mut Context<P>,
-        pass: &mut Pass<J>,
+        past: &mut A,
         target: &[u8],
         room: &mut Vec<u8>,
     ) -> Delivery {
@@ -86,7 +85,7 @@ impl<X: Attachment, C: Connection> Client<X, C> {
             return Delivery::Skipped;
         };
         let question = question.as_bytes();
-        match write_answer(&self.session, context.view.alloc, pass, question, room) {
+        match write_answer(&self.session, context.view.alloc, past, question, room) {
             Ok(Some(answered)) => {
                 if !self
                     .connection

@@ -5,7 +5,7 @@ ghost use Rattle.client_connection.specs.Served.{IsServed};
 use attach::Attachment;
 use bnc_ports::Connection;
 use byte_text::Text;
-use chat_batch::Facts;
+use chat_query::Facts;
 use client_session::{Effect, Session};
 use work_lines::{AttachedConnection, Input};
 use worker_io::NodeView;

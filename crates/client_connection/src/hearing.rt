@@ -3,7 +3,7 @@ use crate::client::Client;
 use crate::kind::ToClient;
 use attach::Attachment;
 use bnc_ports::{Carries, Connection, Reason};
-use chat_state::Peek;
+use chat_history::Peek;
 use client_session::StepFault;
 use irc_line::Next;
 use work_lines::Filled;

@@ -1,8 +1,8 @@
 //! What holds of every course of a client. Their contracts are the laws, and their bodies do nothing.
 ghost use Rattle.std.specs.Prelude.{◌≡◌, Bool, List, ℕ, Some};
 ghost use Rattle.irc_line.specs.Stream.{Item};
-ghost use Rattle.chat_batch.specs.Answers.{scope_of};
-ghost use Rattle.chat_batch.specs.declared.facts.Facts.{Facts};
+ghost use Rattle.chat_query.specs.Buffers.{scope_of};
+ghost use Rattle.chat_query.specs.declared.facts.Facts.{Facts};
 ghost use Rattle.client_session.specs.declared.effect.Effect.{Effect};
 ghost use Rattle.client_session.specs.declared.stage.Stage.{Stage};
 ghost use Rattle.client_session.specs.Session.{facts_in};

@@ -9,7 +9,7 @@ use crate::kind::ToClient;
 use crate::live_text::LiveText;
 use attach::Attachment;
 use bnc_ports::{Carries, Connection, Reason};
-use chat_batch::Facts;
+use chat_query::Facts;
 use client_session::{Session, hears_line, hears_message};
 use irc_caps::Recipients;
 use passed_lines::laws::what_is_put_is_of_its_network;

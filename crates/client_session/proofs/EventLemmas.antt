@@ -8,13 +8,13 @@ use Rattle.irc_line.specs.declared.line.TagLimit.TheVariants.{Client}
 use Rattle.irc_line.specs.Line.{Reading}
 use Rattle.irc_line.specs.Read.{read}
 use Rattle.chat_change.specs.Words.{is_id}
-use Rattle.chat_batch.specs.declared.facts.Facts.{Facts}
+use Rattle.chat_query.specs.declared.facts.Facts.{Facts}
 use Rattle.client_directory.specs.Directory.{Directory, account_in, entry_in}
 use Rattle.client_session.specs.Command.{command_of}
 use Rattle.client_session.specs.declared.command.ClientCommand.{ClientCommand}
 use Rattle.client_session.specs.declared.command.ClientCommand.TheVariants.{Cap, Pass, Nick, User, Ping, Pong, Quit, Chathistory, Markread, Redact, Message, Other}
 use Rattle.client_session.specs.Step.{Step}
-use Rattle.chat_batch.specs.Answers.{has_buffer}
+use Rattle.chat_query.specs.Buffers.{has_buffer}
 use Rattle.client_session.specs.Session.{step, reading_step}
 use Rattle.client_session.specs.Lookup.{MessageName, name_by_command, name_in, name_sought}
 use Rattle.client_session.specs.Events.{ClientEvent, Claim, after, effects_of, run, claim_by_event, claim_after, HasSecret, IsUserOf, IsLetIn, IsRegistered, IsAnswer, IsGreeting, IsOwnEffect, IsOfSame, HasClose, EndsAtClose, IsClosed}

@@ -5,9 +5,10 @@ use Rattle.irc_line.specs.declared.line.LineFault.{LineFault}
 use Rattle.irc_line.specs.declared.line.LineFault.TheVariants.{Empty, TagsTooLong, TooLong, BadByte, NoCommand}
 use Rattle.irc_line.specs.Line.{Reading}
 use Rattle.chat_change.specs.Words.{is_id}
-use Rattle.chat_page.specs.Parameters.{moment_of}
-use Rattle.chat_batch.specs.Answers.{has_buffer, first_of}
-use Rattle.chat_batch.specs.declared.facts.Facts.{Facts}
+use Rattle.chat_query.specs.Parameters.{moment_of}
+use Rattle.chat_query.specs.Buffers.{has_buffer}
+use Rattle.chat_query.specs.Parameters.{first_of}
+use Rattle.chat_query.specs.declared.facts.Facts.{Facts}
 use Rattle.client_directory.specs.Entry.{Entry}
 use Rattle.client_directory.specs.Directory.{Directory, entry_in}
 use Rattle.client_session.specs.Command.{command_of}

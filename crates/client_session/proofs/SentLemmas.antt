@@ -23,10 +23,10 @@ use Rattle.irc_reply.specs.Standing.{IsWordTo, target_limit}
 use Rattle.irc_reply.specs.ToClient.{no_nick, welcome, support, no_motd, tokens, not_registered, join_line, marker_question}
 use Rattle.irc_reply.proofs.CallerLemmas.{reply_line}
 use Rattle.chat_change.specs.Words.{is_name, is_target}
-use Rattle.chat_batch.specs.declared.facts.Answered.{Answered}
-use Rattle.chat_batch.specs.declared.facts.Answered.TheVariants.{Batch, Plain, NotAQuery}
-use Rattle.chat_batch.specs.Reference.{greatest_reference, after_reference, after_answer}
-use Rattle.chat_batch.proofs.CallerLemmas.{target_word, reference_stands}
+use Rattle.chat_query.specs.declared.facts.Answered.{Answered}
+use Rattle.chat_query.specs.declared.facts.Answered.TheVariants.{Batch, Plain, NotAQuery}
+use Rattle.chat_query.specs.Reference.{greatest_reference, after_reference, after_answer}
+use Rattle.chat_query.proofs.CallerLemmas.{target_word, reference_stands}
 use Rattle.client_directory.specs.Entry.{Entry}
 use Rattle.client_directory.specs.Directory.{Network, Account, Directory, network_in, account_in, entry_if, entry_of, entry_of_account, entry_in, entry_if_secret, entry_by_secret}
 use Rattle.client_session.specs.Command.{command_of}

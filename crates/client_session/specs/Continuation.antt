@@ -1,6 +1,6 @@
 -- How a registered session goes on after a line.
 use Rattle.std.specs.Prelude.{ℕ, List, Option, None, Some}
-use Rattle.chat_batch.specs.declared.facts.Facts.{Facts}
+use Rattle.chat_query.specs.declared.facts.Facts.{Facts}
 use Rattle.client_session.specs.declared.stage.Stage.{Stage}
 use Rattle.client_session.specs.declared.stage.Stage.TheVariants as stage
 use Rattle.client_session.specs.declared.stage.Continuation.{Continuation}

@@ -8,8 +8,8 @@ use Rattle.irc_caps.specs.Negotiation.{is_same_word}
 use Rattle.chat_change.specs.Words.{is_target}
 use Rattle.chat_change.specs.declared.change.Change.{Change}
 use Rattle.chat_change.specs.declared.change.Change.TheVariants.{Mark}
-use Rattle.chat_batch.specs.declared.facts.Facts.{Facts}
-use Rattle.chat_batch.specs.declared.facts.Answered.{Answered}
+use Rattle.chat_query.specs.declared.facts.Facts.{Facts}
+use Rattle.chat_query.specs.declared.facts.Answered.{Answered}
 use Rattle.client_directory.specs.Directory.{Directory, Account, account_in, entry_in}
 use Rattle.client_session.specs.Command.{command_of}
 use Rattle.client_session.specs.declared.command.ClientCommand as commands

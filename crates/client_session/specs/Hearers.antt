@@ -3,7 +3,7 @@ use Rattle.std.specs.Prelude.{ℕ, Bool, true, not, ◌&&◌, ◌||◌, List}
 use Rattle.std.specs.Str.{bytes_eq}
 use Rattle.irc_caps.specs.CapSet.{holds}
 use Rattle.chat_change.specs.Record.{Record}
-use Rattle.chat_batch.specs.declared.facts.Facts.{Facts}
+use Rattle.chat_query.specs.declared.facts.Facts.{Facts}
 use Rattle.irc_caps.specs.declared.recipients.Recipients.{Recipients}
 use Rattle.irc_caps.specs.declared.recipients.Recipients.TheVariants.{All, Holding}
 

@@ -6,8 +6,8 @@ use Rattle.irc_line.specs.Line.{Reading}
 use Rattle.irc_line.specs.Read.{read}
 use Rattle.chat_change.specs.Buffer.{Buffer, buffer_of}
 use Rattle.chat_change.specs.Words.{is_id}
-use Rattle.chat_batch.specs.Answers.{has_buffer}
-use Rattle.chat_batch.specs.declared.facts.Facts.{Facts}
+use Rattle.chat_query.specs.Buffers.{has_buffer}
+use Rattle.chat_query.specs.declared.facts.Facts.{Facts}
 use Rattle.client_session.specs.Command.{command_of}
 use Rattle.client_session.specs.declared.command.ClientCommand.{ClientCommand}
 use Rattle.client_session.specs.declared.command.ClientCommand.TheVariants.{Redact}

@@ -7,9 +7,10 @@ use Rattle.irc_reply.specs.Reply.{need_more_params}
 use Rattle.chat_change.specs.Words.{is_id}
 use Rattle.chat_change.specs.Buffer.{buffer_of}
 use Rattle.chat_change.specs.declared.change.Change.TheVariants.{Mark}
-use Rattle.chat_page.specs.Parameters.{moment_of}
-use Rattle.chat_batch.specs.Answers.{has_buffer, first_of}
-use Rattle.chat_batch.specs.declared.facts.Facts.{Facts}
+use Rattle.chat_query.specs.Parameters.{moment_of}
+use Rattle.chat_query.specs.Buffers.{has_buffer}
+use Rattle.chat_query.specs.Parameters.{first_of}
+use Rattle.chat_query.specs.declared.facts.Facts.{Facts}
 use Rattle.client_directory.specs.Entry.{Entry}
 use Rattle.irc_reply.specs.ToClient.{may_not_reregister, not_connected, redact_needs_more, redact_bad_target, redact_unknown_id, redact_forbidden}
 use Rattle.irc_reply.specs.Reply.{plain_line}

@@ -6,9 +6,9 @@ use Rattle.irc_line.specs.declared.line.TagLimit.TheVariants.{Client}
 use Rattle.irc_line.specs.Line.{Reading}
 use Rattle.irc_line.specs.Read.{read}
 use Rattle.irc_caps.specs.Negotiation as negotiation
-use Rattle.chat_batch.specs.declared.facts.Facts.{Facts}
-use Rattle.chat_batch.specs.declared.facts.Answered.{Answered}
-use Rattle.chat_batch.specs.Reference.{after_answer}
+use Rattle.chat_query.specs.declared.facts.Facts.{Facts}
+use Rattle.chat_query.specs.declared.facts.Answered.{Answered}
+use Rattle.chat_query.specs.Reference.{after_answer}
 use Rattle.client_directory.specs.Directory.{Directory, entry_in}
 use Rattle.irc_reply.specs.ToClient.{no_nick}
 use Rattle.client_session.specs.Command.{command_of}

@@ -2,8 +2,8 @@
 ghost use Rattle.std.specs.Prelude.{◌≡◌};
 ghost use Rattle.client_session.specs.Hearers as spec;
 
-use chat_batch::Facts;
 use chat_change::Record;
+use chat_query::Facts;
 use irc_caps::Recipients;
 
 fn is_of(account: &[u8], network: &[u8], facts: &Facts) -> bool

@@ -9,7 +9,7 @@ ghost use Rattle.client_session.specs.Session.{new};
 ghost use Rattle.client_session.specs.Standing.{CanNameCluster, greatest_maximum, EventStands, SendsLines};
 ghost use Rattle.client_session.specs.Lookup.{MessageName, name_sought};
 ghost use Rattle.client_session.specs.Events.{ClientEvent, run, after, effects_of, WasLetIn, IsRegistered, IsAnswer, IsGreeting, IsOwnEffect, IsOfSame, HasClose, EndsAtClose, IsClosed};
-ghost use Rattle.chat_batch.specs.declared.facts.Facts.{Facts};
+ghost use Rattle.chat_query.specs.declared.facts.Facts.{Facts};
 ghost use Rattle.client_session.specs.declared.stage.Stage.{Stage};
 ghost use Rattle.client_session.specs.declared.stage.Stage.TheVariants.{Registered, Closed};
 

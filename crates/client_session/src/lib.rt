@@ -22,7 +22,7 @@ mod shared;
 mod stage;
 
 pub use byte_text::{NoMemory, Text};
-pub use chat_batch::{Answered, Facts};
+pub use chat_query::{Answered, Facts};
 pub use client_directory::{Account, Directory, Entry, Network};
 pub use effect::Effect;
 pub use hearers::{hears_line, hears_message};

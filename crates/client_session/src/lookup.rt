@@ -4,7 +4,7 @@ ghost use Rattle.irc_line.specs.Read.{read};
 ghost use Rattle.irc_line.specs.declared.line.TagLimit.TheVariants.{Client};
 ghost use Rattle.chat_change.specs.Buffer.{buffer_of};
 ghost use Rattle.chat_change.specs.Words as words;
-ghost use Rattle.chat_batch.specs.Answers.{has_buffer};
+ghost use Rattle.chat_query.specs.Buffers.{has_buffer};
 ghost use Rattle.client_session.specs.Lookup as spec;
 ghost use Rattle.client_session.specs.declared.command.ClientCommand.TheVariants as commands;
 ghost use Rattle.client_session.specs.declared.session.StepFault.TheVariants as fault;
@@ -12,9 +12,9 @@ ghost use Rattle.client_session.specs.declared.session.StepFault.TheVariants as 
 use crate::command::{ClientCommand, command_of};
 use crate::session::StepFault;
 use byte_text::NoMemory;
-use chat_batch::Facts;
 use chat_change::{is_id, lawful_id};
-use chat_state::Peek;
+use chat_history::Peek;
+use chat_query::Facts;
 use irc_line::{TagLimit, read_line};
 use std::alloc::Global;
 

@@ -2,7 +2,7 @@
 ghost use Rattle.std.specs.Prelude.{◌≡◌, ◌∷◌, [], ◌++◌, map, IfOk, Some, true};
 ghost use Rattle.chat_change.specs.Buffer.{buffer_of};
 ghost use Rattle.chat_change.specs.declared.change.Change.TheVariants as changes;
-ghost use Rattle.chat_batch.specs.Answers.{has_buffer};
+ghost use Rattle.chat_query.specs.Buffers.{has_buffer};
 ghost use Rattle.client_session.specs.Registered as spec;
 ghost use Rattle.client_session.specs.declared.effect.Effect.TheVariants as effects;
 
@@ -10,9 +10,8 @@ use crate::effect::Effect;
 use crate::registered::unknown_command;
 use crate::shared::{one, push};
 use byte_text::{NoMemory, Text};
-use chat_batch::Facts;
 use chat_change::{Change, Moment};
-use chat_page::read_moment;
+use chat_query::{Facts, read_moment};
 use std::alloc::Global;
 
 fn mark(alloc: Global, facts: &Facts, target: &[u8], at: Moment) -> Result<Vec<Effect>, NoMemory>

@@ -1,15 +1,15 @@
 //! REDACT of a registered session (IRCv3 draft/message-redaction).
 ghost use Rattle.std.specs.Prelude.{◌≡◌, ◌∷◌, [], map, IfOk};
 ghost use Rattle.std.specs.Option.{option_copied};
-ghost use Rattle.chat_batch.specs.Answers.{first_of};
+ghost use Rattle.chat_query.specs.Parameters.{first_of};
 ghost use Rattle.client_session.specs.Registered as spec;
 
 use crate::effect::Effect;
 use crate::registered::{takes_redact, unknown_command};
 use crate::shared::{answer, one};
 use byte_text::NoMemory;
-use chat_batch::Facts;
 use chat_change::is_id;
+use chat_query::Facts;
 use client_directory::Entry;
 use irc_reply::to_client::{
     redact_bad_target, redact_forbidden, redact_needs_more, redact_unknown_id,

@@ -18,7 +18,7 @@ use crate::scratch::Scratch;
 use crate::shared::{answer, closing, nick_refusal, one, ping, refusal};
 use crate::stage::Continuation;
 use byte_text::{NoMemory, Text};
-use chat_batch::Facts;
+use chat_query::Facts;
 use client_directory::Entry;
 use irc_caps::Negotiation;
 use irc_line::{Line, LineFault};

@@ -2,7 +2,7 @@
 ghost use Rattle.std.specs.Prelude.{◌≡◌, IfOk};
 
 use byte_text::{NoMemory, Text};
-use chat_batch::Facts;
+use chat_query::Facts;
 use irc_caps::Negotiation;
 use std::alloc::Global;
 

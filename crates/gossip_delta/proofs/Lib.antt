@@ -1,10 +1,4 @@
 mod EntryLemmas
 mod DeltaLemmas
 mod SinceLemmas
-mod TestLemmas
-mod WordsLemmas
-mod NumberLemmas
-mod PostLineLemmas
-mod ReadBackLemmas
-mod SpellingLemmas
 pub mod CallerLemmas

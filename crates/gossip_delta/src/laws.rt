@@ -1,11 +1,8 @@
 //! Laws of the definitions. Their contracts are the laws, and their bodies are empty.
-ghost use Rattle.std.specs.Prelude.{◌≡◌, ◌≤◌, ◌++◌, ℕ, List, Ok};
+ghost use Rattle.std.specs.Prelude.{◌≤◌, ◌++◌, ℕ, List};
 ghost use Rattle.chat_change.specs.declared.change.Change.{Change};
 ghost use Rattle.chat_history.specs.Numbering.{front, delta};
 ghost use Rattle.gossip_delta.specs.UpTo.{IncludesUpTo};
-ghost use Rattle.gossip_delta.specs.ChangeLine.{read_change};
-ghost use Rattle.chat_change.specs.Lawful.{IsLawfulChange};
-ghost use Rattle.gossip_delta.specs.ChangeText.{line_of};
 
 /// Whoever includes the pieces that a node held with numbers up to `from`, and takes the delta since `from` of what
 /// the node holds now, includes the pieces that it holds now with numbers up to the delta's `to`.
@@ -20,15 +17,4 @@ pub fn delta_carries()
         IncludesUpTo (taken ++ more) start (earlier ++ later) upto }
     ensures reached { (start from : ℕ) (changes : List Change) →
         from ≤ front start changes → (delta start changes from).to ≤ front start changes }
-{}
-
-/// What is written is read back: the line of each change with lawful parts spells that change.
-pub fn changes_read_back()
-    ensures { (c : Change) → IsLawfulChange c → read_change (line_of c) ≡ Ok c }
-{}
-
-/// A change has one spelling: each line that spells it is the one that is written, and its parts are lawful.
-pub fn changes_have_one_spelling()
-    ensures spelling { (line : List ℕ) (c : Change) → read_change line ≡ Ok c → line ≡ line_of c }
-    ensures lawful { (line : List ℕ) (c : Change) → read_change line ≡ Ok c → IsLawfulChange c }
 {}

@@ -5,5 +5,4 @@ mod SoundLemmas
 mod EventLemmas
 mod NoLossLemmas
 mod StepLemmas
-mod HandshakeLemmas
 pub mod CallerLemmas

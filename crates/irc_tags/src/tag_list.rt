@@ -1,16 +1,15 @@
 //! The list of tags, and reading it.
 ghost use Rattle.std.specs.Prelude.{◌≡◌, ◌<◌, ◌↔◌, length, filter, slice_get, Some, IfOk, OnOk, IsErrOf, IsTrue};
-ghost use Rattle.std.specs.List.{before_first, after_first};
 ghost use Rattle.std.specs.Option.{option_copied};
-ghost use Rattle.irc_tags.specs.TagList.{Tag, max_tag_data, is_equals, tag_list, value_at};
+ghost use Rattle.tag_data.specs.TagList.{Tag, max_tag_data, tag_list, value_at};
 ghost use Rattle.irc_tags.specs.Entries.{value_of, PutsTag};
-ghost use Rattle.irc_tags.specs.Standing.{CanStand, is_client_only};
+ghost use Rattle.tag_data.specs.Standing.{CanStand, is_client_only};
 
-use crate::value::read_value;
 use byte_text::find_byte;
 use indexmap::IndexMap;
 use std::alloc::{AllocError, Global};
 use std::marker::Model;
+use tag_data::{cut_tag, is_client_only, read_value};
 use thiserror::Error;
 
 /// The greatest length of tag data in bytes, without `@` and the space behind it (IRCv3 message-tags, "Size limit").
@@ -37,8 +36,8 @@ pub struct Tags {
 impl Model for Tags {
     ghost use Rattle.std.specs.Prelude.{List};
     ghost use Rattle.irc_tags.specs.Entries.{value_of};
-    ghost use Rattle.irc_tags.specs.Standing.{CanStand};
-    ghost use Rattle.irc_tags.specs.TagList.{Tag};
+    ghost use Rattle.tag_data.specs.Standing.{CanStand};
+    ghost use Rattle.tag_data.specs.TagList.{Tag};
 
     ghost Value = { List Tag };
 
@@ -91,27 +90,6 @@ impl Tags {
                 ensures { (result ≡ is_client_only key.now.items) × (value.new ≡ value.old) }
             { is_client_only(key.as_slice()) },
         );
-    }
-}
-
-/// Whether a key begins with `+`.
-pub(crate) fn is_client_only(key: &[u8]) -> bool
-    ensures { result ≡ is_client_only key.now }
-{
-    match key {
-        [first, ..] => *first == b'+',
-        [] => false,
-    }
-}
-
-/// What stands before the first `=`, and what stands behind it.
-pub(crate) fn cut_tag(tag: &[u8]) -> (&[u8], &[u8])
-    ensures key { result.0.now ≡ before_first is_equals tag.now }
-    ensures value { result.1.now ≡ after_first is_equals tag.now }
-{
-    match find_byte(tag, b'=') {
-        Some(at) => (&tag[..at], &tag[at + 1..]),
-        None => (tag, &tag[tag.len()..]),
     }
 }
 

@@ -4,8 +4,8 @@ use Rattle.std.specs.List.{filter_map}
 use Rattle.std.specs.Option.{option_map}
 use Rattle.chat_change.specs.declared.change.Change.{Change}
 use Rattle.chat_change.specs.declared.change.Change.TheVariants.{AccountFloor}
-use Rattle.gossip_link.specs.Handshake.{Terms}
-use Rattle.gossip_link.specs.declared.terms.PeerTerms.{PeerTerms}
+use Rattle.peer_handshake.specs.Handshake.{Terms}
+use Rattle.peer_handshake.specs.declared.terms.PeerTerms.{PeerTerms}
 use Rattle.node_config.specs.declared.config.Config.{Config}
 use Rattle.node_config.specs.declared.entries.Account.{Account}
 use Rattle.node_config.specs.declared.entries.Network.{Network}

@@ -1,6 +1,6 @@
 -- Lines that clients say to the servers of their networks.
 use Rattle.std.specs.Prelude.{ℕ, ◌≡◌, List, ◌∷◌, ◌++◌, Some}
-use Rattle.chat_batch.specs.declared.facts.Facts.{Facts}
+use Rattle.chat_query.specs.declared.facts.Facts.{Facts}
 use Rattle.client_session.specs.declared.effect.Effect.{Effect}
 use Rattle.client_session.specs.declared.effect.Effect.TheVariants.{Upstream}
 use Rattle.client_session.specs.Events.{ClientEvent, run, effects_of}

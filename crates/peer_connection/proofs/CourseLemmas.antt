@@ -7,9 +7,9 @@ use Rattle.peer_lines.specs.Spelling.{written}
 use Rattle.peer_lines.specs.declared.gather.Arrived.{Arrived}
 use Rattle.peer_lines.specs.declared.peer_line.PeerLine.{PeerLine}
 use Rattle.peer_lines.specs.declared.peer_line.PeerLine.TheVariants as line
-use Rattle.gossip_link.specs.Handshake.{Terms}
+use Rattle.peer_handshake.specs.Handshake.{Terms}
 use Rattle.gossip_link.specs.Link.{Link}
-use Rattle.gossip_link.specs.declared.handshake.Side.{Side}
+use Rattle.peer_handshake.specs.declared.handshake.Side.{Side}
 use Rattle.peer_session.specs.Arrival.{IsOutcome, pace_after, reply}
 use Rattle.peer_session.specs.Packets.{text_of, to_of}
 use Rattle.peer_session.specs.Pace as pace

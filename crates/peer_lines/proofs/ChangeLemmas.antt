@@ -2,10 +2,10 @@
 use Rattle.std.proofs.Common.{◌≡◌, ℕ, Bool, true, false, cond, Option, Some, None, List, codes, refl, sym, ap, ◌∙◌}
 use Rattle.std.specs.Prelude.{IsTrue, is_some, Result, Ok, Err}
 use Rattle.chat_change.specs.declared.change.Change.{Change}
-use Rattle.gossip_delta.specs.ChangeLine.{read_change, or_bad_field, kind_change, change_kind, account_floor_change, words_change, fault_or_no_memory}
-use Rattle.gossip_delta.specs.Words.{is_text, word, behind}
-use Rattle.gossip_delta.specs.declared.fault.ChangeLineFault.{ChangeLineFault}
-use Rattle.gossip_delta.specs.declared.fault.ChangeLineFault.TheVariants.{BadForm, NoMemory}
+use Rattle.change_lines.specs.ChangeLine.{read_change, or_bad_field, kind_change, change_kind, account_floor_change, words_change, fault_or_no_memory}
+use Rattle.change_lines.specs.Words.{is_text, word, behind}
+use Rattle.change_lines.specs.declared.fault.ChangeLineFault.{ChangeLineFault}
+use Rattle.change_lines.specs.declared.fault.ChangeLineFault.TheVariants.{BadForm, NoMemory}
 use Rattle.peer_lines.specs.LineReading.{change_at, change_or_none}
 
 values_differ : (o : Option Change) → or_bad_field o ≡ Err NoMemory → ⊥

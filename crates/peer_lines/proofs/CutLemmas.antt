@@ -24,9 +24,9 @@ use Rattle.chat_change.specs.declared.message.Kind.{Kind}
 use Rattle.chat_change.specs.declared.message.Kind.TheVariants.{Privmsg, Notice}
 use Rattle.chat_change.specs.declared.change.Change as change
 use Rattle.chat_change.specs.declared.change.Change.TheVariants.{Post, Redact, Mark, Floor, AccountFloor}
-use Rattle.gossip_delta.specs.Words.{is_filled, words_text}
-use Rattle.gossip_delta.specs.ChangeText.{line_of as change_text, buffer_words, account_words, moment_text, line_end}
-use Rattle.gossip_delta.specs.PostLine.{post_word, tags_words, back_words}
+use Rattle.change_lines.specs.Words.{is_filled, words_text}
+use Rattle.change_lines.specs.ChangeText.{line_of as change_text, buffer_words, account_words, moment_text, line_end}
+use Rattle.change_lines.specs.PostLine.{post_word, tags_words, back_words}
 use Rattle.peer_lines.specs.Names.{is_node_byte, is_node_name, is_shared_word}
 use Rattle.peer_lines.specs.Version.{number}
 use Rattle.peer_lines.specs.Life.{Life, Packet}

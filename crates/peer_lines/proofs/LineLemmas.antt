@@ -7,12 +7,12 @@ use Rattle.std.specs.Option.{option_map}
 use Rattle.std.proofs.lemmas.Bool.{lt-ltb, le-leb, ltb-true, leb-true}
 use Rattle.chat_change.specs.declared.change.Change as change
 use Rattle.chat_change.specs.declared.change.Change.TheVariants as change_kind
-use Rattle.gossip_delta.specs.ChangeLine.{read_change}
-use Rattle.gossip_delta.specs.ChangeText.{line_of as change_text, moment_text}
-use Rattle.gossip_delta.specs.PostLine.{post_word, post_words}
-use Rattle.gossip_delta.specs.Words.{is_space, word, behind, words_text}
-use Rattle.gossip_delta.specs.declared.fault.ChangeLineFault.{ChangeLineFault}
-use Rattle.gossip_delta.proofs.CallerLemmas.{read_back, one_spelling}
+use Rattle.change_lines.specs.ChangeLine.{read_change}
+use Rattle.change_lines.specs.ChangeText.{line_of as change_text, moment_text}
+use Rattle.change_lines.specs.PostLine.{post_word, post_words}
+use Rattle.change_lines.specs.Words.{is_space, word, behind, words_text}
+use Rattle.change_lines.specs.declared.fault.ChangeLineFault.{ChangeLineFault}
+use Rattle.change_lines.proofs.CallerLemmas.{read_back, one_spelling}
 use Rattle.peer_lines.specs.Names.{is_node_name, is_shared_word, same_name}
 use Rattle.peer_lines.specs.Life as parts
 use Rattle.peer_lines.specs.Life.{Life}

@@ -10,8 +10,8 @@ use Rattle.std.proofs.lemmas.Str.Parse.{numerals_by_value, tells_all_ascii_digit
 use Rattle.std.proofs.lemmas.Bool.{false≢true, lt-ltb, ltb-true}
 use Rattle.std.proofs.lemmas.Bool.Decides.{nat_tests}
 use Rattle.chat_change.specs.Words.{ends_word}
-use Rattle.gossip_delta.specs.Words.{is_space, word, behind}
-use Rattle.gossip_delta.proofs.CallerLemmas.{word_of, behind_of, rejoined}
+use Rattle.change_lines.specs.Words.{is_space, word, behind}
+use Rattle.change_lines.proofs.CallerLemmas.{word_of, behind_of, rejoined}
 use Rattle.peer_lines.specs.Names.{is_node_byte, is_node_name, is_shared_word}
 
 -- ---- a word ends at the first space, and what stands behind it was behind one space

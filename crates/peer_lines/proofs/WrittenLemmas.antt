@@ -2,7 +2,7 @@
 use Rattle.std.proofs.Common.{◌≡◌, ℕ, List, ◌++◌, codes, append_assoc, ◌∙◌, ap, length, map}
 use Rattle.std.specs.List.{flat_map}
 use Rattle.chat_change.specs.declared.change.Change.{Change as Piece}
-use Rattle.gossip_delta.specs.ChangeText.{line_end}
+use Rattle.change_lines.specs.ChangeText.{line_end}
 use Rattle.peer_lines.specs.Version.{number}
 use Rattle.peer_lines.specs.Life as parts
 use Rattle.peer_lines.specs.Life.{Life, Packet, head_of}

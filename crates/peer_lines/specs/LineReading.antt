@@ -2,9 +2,9 @@
 use Rattle.std.specs.Prelude.{ℕ, ◌≡◌, IsTrue, is_some, List, codes, Option, None, Some, Result, Ok, Err, if◌then◌else◌}
 use Rattle.std.specs.Option.{option_map}
 use Rattle.chat_change.specs.declared.change.Change as change
-use Rattle.gossip_delta.specs.Words.{word, behind}
-use Rattle.gossip_delta.specs.ChangeLine.{read_change}
-use Rattle.gossip_delta.specs.declared.fault.ChangeLineFault.{ChangeLineFault}
+use Rattle.change_lines.specs.Words.{word, behind}
+use Rattle.change_lines.specs.ChangeLine.{read_change}
+use Rattle.change_lines.specs.declared.fault.ChangeLineFault.{ChangeLineFault}
 use Rattle.peer_lines.specs.Life as parts
 use Rattle.peer_lines.specs.Names.{same_name}
 use Rattle.peer_lines.specs.Reading.{word_at, hello_at, head_at, ack_at}

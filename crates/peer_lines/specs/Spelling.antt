@@ -8,7 +8,7 @@
 use Rattle.std.specs.Prelude.{ℕ, ◌≡◌, ◌<◌, ◌≤◌, ◌^◌, true, List, [], ◌∷◌, ◌++◌, codes, map}
 use Rattle.std.specs.Fmt.{decimal}
 use Rattle.std.specs.List.{All, flat_map, join_with_byte}
-use Rattle.gossip_delta.specs.ChangeText.{line_of as change_text, line_end}
+use Rattle.change_lines.specs.ChangeText.{line_of as change_text, line_end}
 use Rattle.chat_change.specs.Lawful.{IsLawfulChange}
 use Rattle.peer_lines.specs.Names.{is_node_name, is_shared_word}
 use Rattle.peer_lines.specs.Version.{number}

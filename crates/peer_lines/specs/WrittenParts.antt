@@ -2,7 +2,7 @@
 use Rattle.std.specs.Prelude.{ℕ, List, ◌++◌, codes}
 use Rattle.std.specs.Fmt.{decimal}
 use Rattle.peer_lines.specs.Life.{Life}
-use Rattle.gossip_delta.specs.ChangeText.{line_end}
+use Rattle.change_lines.specs.ChangeText.{line_end}
 
 abbrev pub number_text : ℕ → List ℕ
 number_text n = codes " " ++ decimal n

@@ -14,8 +14,8 @@ use crate::packet::{Ack, Head};
 use crate::shared_word::{SharedWord, is_shared_word};
 use crate::version::Version;
 use byte_text::NoMemory;
+use change_lines::{ChangeLineFault, is_text, read_change_in, split_word};
 use chat_change::{Buffer, Change};
-use gossip_delta::{ChangeLineFault, is_text, read_change_in, split_word};
 use std::alloc::Global;
 
 /// A line of a peer.

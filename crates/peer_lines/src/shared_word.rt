@@ -6,7 +6,7 @@ ghost use Rattle.peer_lines.specs.Names as spec;
 
 use crate::fault::LinkFault;
 use byte_text::{NoMemory, Text};
-use gossip_delta::is_text;
+use change_lines::is_text;
 use std::alloc::Global;
 use std::marker::Model;
 

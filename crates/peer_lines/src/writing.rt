@@ -12,8 +12,8 @@ use crate::packet::{Ack, Packet};
 use crate::peer_line::PeerLine;
 use crate::version::Version;
 use byte_text::put;
+use change_lines::write_change;
 use chat_change::Change;
-use gossip_delta::write_change;
 use std::io;
 use std::io::Write;
 

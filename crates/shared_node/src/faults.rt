@@ -28,17 +28,3 @@ pub enum PutFault {
     #[error("no number is left")]
     Exhausted,
 }
-
-/// Why a line wasn't answered to its end.
-#[derive(Clone, Copy, Debug, PartialEq, Eq, Error)]
-pub enum AskFault {
-    /// The pass wasn't let in. Nothing was written.
-    #[error("no entry")]
-    NoEntry,
-    /// There was no memory. Nothing was written.
-    #[error("no memory")]
-    NoMemory,
-    /// The writer failed. A prefix of the answer was written.
-    #[error("writing failed")]
-    Write,
-}

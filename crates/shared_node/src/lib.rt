@@ -23,7 +23,8 @@ mod reads;
 mod seats;
 
 pub use change_log::{Entry, Naming, Unnamed};
-pub use faults::{AskFault, NodeFault, PutFault};
+pub use chat_batch::AskFault;
+pub use faults::{NodeFault, PutFault};
 pub use node::{MOST_PASSES, SharedNode};
 pub use node_taker::NodeTaker;
 pub use pass::{Pass, Receipt};

@@ -10,9 +10,8 @@ ghost use Rattle.shared_node.specs.Lists.{changes_in};
 ghost use Rattle.shared_node.specs.Passes.{Reads};
 
 use crate::change_log::Naming;
-use crate::faults::AskFault;
 use crate::pass::Pass;
-use chat_batch::{AnswerFault, Answered, Facts, answer};
+use chat_batch::{AnswerFault, Answered, AskFault, Facts, Past, answer};
 use chat_change::{Buffer, Change, Moment, MsgId};
 use chat_state::{NoEntry, Peek};
 use gossip_delta::{Delta, DeltaFault, Source, delta_since};
@@ -138,6 +137,20 @@ impl<J: Naming> Source for Pass<J> {
 
     fn delta(&mut self, alloc: Global, from: u64) -> Result<Delta, DeltaFault> {
         Pass::delta(self, alloc, from)
+    }
+}
+
+impl<J: Naming> Past for Pass<J> {
+    ghost changes = { λ p. changes_in p.list };
+
+    fn ask<W: Write>(
+        &mut self,
+        alloc: Global,
+        facts: &Facts,
+        line: &Line<'_>,
+        writer: &mut W,
+    ) -> Result<Answered, AskFault> {
+        Pass::ask(self, alloc, facts, line, writer)
     }
 }
 

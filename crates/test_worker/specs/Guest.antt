@@ -1,6 +1,6 @@
 -- Sessions of clients, which came to what they are by lines of those clients.
 use Rattle.std.specs.Prelude.{ℕ, ◌≡◌, List, Some}
-use Rattle.chat_batch.specs.declared.facts.Facts.{Facts}
+use Rattle.chat_query.specs.declared.facts.Facts.{Facts}
 use Rattle.client_session.specs.declared.stage.Stage.{Stage}
 use Rattle.client_session.specs.Events.{ClientEvent, run}
 use Rattle.client_session.specs.Session.{new, facts_in}

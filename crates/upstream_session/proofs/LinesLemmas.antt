@@ -15,9 +15,9 @@ use Rattle.irc_line.specs.Read.{read, text_in, after_spaces, after_word, after_t
 use Rattle.irc_line.specs.Text.{source_text, middles_text, trailing_text, line_ending}
 use Rattle.irc_line.specs.CanStand.{HasNoBadByte}
 use Rattle.irc_line.proofs.CallerLemmas.{read_ok, read_parameters_whole, good_append}
-use Rattle.irc_tags.specs.Standing.{ends_tag_data, HasNoEnd}
-use Rattle.irc_tags.specs.ClientOnly.{client_only_text}
-use Rattle.irc_tags.proofs.CallerLemmas.{client_only_text-in_line}
+use Rattle.tag_data.specs.Standing.{ends_tag_data, HasNoEnd}
+use Rattle.tag_data.specs.ClientOnly.{client_only_text}
+use Rattle.tag_data.proofs.CallerLemmas.{client_only_text-in_line}
 use Rattle.irc_reply.specs.Reply.{plain_line}
 use Rattle.irc_reply.specs.Tagged.{tag_part, client_tags}
 use Rattle.irc_reply.specs.ToServer.{cap_end, with_underscores, passed_line}

@@ -3,9 +3,9 @@ use crate::admitted::note;
 use crate::clients::Clients;
 use attach::Attachment;
 use bnc_ports::{Carries, Connection, Port, Reason};
+use chat_batch::Past;
 use client_connection::{ClientEffect, ToClient};
 use passed_lines::Said;
-use shared_node::{Naming, Pass};
 use std::alloc::Global;
 use worker_io::Context;
 
@@ -36,10 +36,10 @@ impl<X: Attachment, C: Connection> Clients<X, C> {
     }
 
     /// Answers the client's question that is next of what its line comes to. The caller asked the gate.
-    pub fn answer<J: Naming, P: Port>(
+    pub fn answer<A: Past, P: Port>(
         &mut self,
         context: &Context<P>,
-        pass: &mut Pass<J>,
+        past: &mut A,
         number: usize,
     ) -> Result<(), Reason> {
         let Clients {
@@ -48,16 +48,16 @@ impl<X: Attachment, C: Connection> Clients<X, C> {
             ..
         } = self;
         match connections.get_mut(number) {
-            Some(admitted) => admitted.client.answer(context.view.alloc, pass, room),
+            Some(admitted) => admitted.client.answer(context.view.alloc, past, room),
             None => Ok(()),
         }
     }
 
     /// Tells a client the read marker of a target (IRCv3 draft/read-marker). The caller asked the gate.
-    pub fn tell_marker<J: Naming, P: Carries<ToClient, Connection = C>>(
+    pub fn tell_marker<A: Past, P: Carries<ToClient, Connection = C>>(
         &mut self,
         context: &mut Context<P>,
-        pass: &mut Pass<J>,
+        past: &mut A,
         number: usize,
         target: &[u8],
     ) {
@@ -69,7 +69,7 @@ impl<X: Attachment, C: Connection> Clients<X, C> {
         } = self;
         if let Some(mut found) = connections.find(number) {
             let client = &mut found.served().client;
-            let delivery = client.tell_marker(context, pass, target, room);
+            let delivery = client.tell_marker(context, past, target, room);
             note(&mut found, delivery);
         }
     }

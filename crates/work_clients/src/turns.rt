@@ -3,7 +3,7 @@ use crate::admitted::Admitted;
 use crate::clients::Clients;
 use attach::Attachment;
 use bnc_ports::{Carries, Connection, Reason};
-use chat_state::Peek;
+use chat_history::Peek;
 use client_connection::{ClientStep, ToClient};
 use work_lines::Pumped;
 use worker_io::{Closing, Context};

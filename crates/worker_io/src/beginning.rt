@@ -5,7 +5,7 @@ use attach::Attachment;
 use bnc_ports::Lobby;
 use byte_text::NoMemory;
 use chat_change::Moment;
-use gossip_link::NodeName;
+use peer_lines::NodeName;
 use std::alloc::Global;
 use std::sync::Arc;
 

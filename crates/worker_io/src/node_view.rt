@@ -6,7 +6,7 @@ use bnc_ports::Clocks;
 use byte_text::{NoMemory, Text};
 use chat_change::Moment;
 use client_directory::{Directory, Entry};
-use gossip_link::Terms;
+use peer_handshake::Terms;
 use std::alloc::Global;
 use std::sync::Arc;
 use upstream_session::{Channels, Config};

@@ -3,7 +3,8 @@ use attach::Boxed;
 use bnc_ports::Lobby;
 use byte_text::Text;
 use client_directory::Directory;
-use gossip_link::{NodeName, Terms};
+use peer_handshake::Terms;
+use peer_lines::NodeName;
 use upstream_session::Config;
 
 /// How the work of one worker ended.

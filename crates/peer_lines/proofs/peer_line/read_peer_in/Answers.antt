@@ -1,5 +1,5 @@
 use Rattle.std.proofs.Common.{subst}
-use Rattle.gossip_delta.specs.Words.{behind}
+use Rattle.change_lines.specs.Words.{behind}
 use Rattle.peer_lines.specs.LineReading.{IsAnswer, line_of_kind}
 use Rattle.peer_lines.proofs.LineLemmas.{reading_is}
 use Rattle.peer_lines.proofs.peer_line.read_peer_in.Goals as goal

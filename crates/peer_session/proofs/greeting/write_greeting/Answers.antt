@@ -4,7 +4,7 @@ use Rattle.peer_lines.specs.Life.{Life}
 use Rattle.peer_lines.specs.Spelling.{written}
 use Rattle.peer_lines.specs.declared.version.Version.{Version}
 use Rattle.peer_lines.specs.declared.peer_line.PeerLine.TheVariants.{Word, Hello}
-use Rattle.gossip_link.specs.Handshake.{Terms, version_for}
+use Rattle.peer_handshake.specs.Handshake.{Terms, version_for}
 use Rattle.peer_session.specs.Session.{greeting}
 use Rattle.peer_session.proofs.greeting.write_greeting.Goals as goal
 

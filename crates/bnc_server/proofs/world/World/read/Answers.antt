@@ -1,5 +1,5 @@
-use Rattle.gossip_delta.specs.ChangeLine.{read_change}
-use Rattle.gossip_delta.proofs.CallerLemmas.{own_fault}
+use Rattle.change_lines.specs.ChangeLine.{read_change}
+use Rattle.change_lines.proofs.CallerLemmas.{own_fault}
 use Rattle.bnc_server.proofs.RequestLemmas.{fault_of_line}
 use Rattle.bnc_server.proofs.world.World.read.Goals as goal
 

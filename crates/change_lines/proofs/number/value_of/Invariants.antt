@@ -1,0 +1,7 @@
+use Rattle.std.proofs.Common.{◌≡◌, ◌<◌, ◌^◌, take}
+use Rattle.change_lines.specs.Number.{value}
+use Rattle.change_lines.proofs.number.value_of.Given as goal
+
+-- the value of the digits so far
+abbrev pub invariant-digits : goal.invariant-digits
+invariant-digits l = (l.n < 2 ^ 64) × (l.n ≡ value (take l.b-index l.text))

@@ -1,0 +1,93 @@
+//! Decimal numbers in lines, and moments.
+ghost use Rattle.std.specs.Prelude.{◌≡◌, ◌-◌, ◌<◌, ◌≤◌, ◌^◌, length, true, SomeIff};
+ghost use Rattle.std.specs.List.{list_all};
+ghost use Rattle.change_lines.specs.Number as spec;
+
+use crate::words::begins_with;
+use chat_change::Moment;
+use irc_time::GREATEST;
+
+fn is_digit(b: u8) -> bool
+    ensures { result ≡ spec.is_digit b }
+{
+    b'0' <= b && b <= b'9'
+}
+
+fn has_digits_only(text: &[u8]) -> bool
+    ensures { result ≡ list_all spec.is_digit text.now }
+{
+    text.iter().all(|b| is_digit(*b))
+}
+
+fn is_digits(text: &[u8]) -> bool
+    ensures { result ≡ spec.is_digits text.now }
+{
+    !text.is_empty() && has_digits_only(text)
+}
+
+fn has_leading_zero(text: &[u8]) -> bool
+    ensures { result ≡ spec.has_leading_zero text.now }
+{
+    text.len() > 1 && begins_with(b'0', text)
+}
+
+// What a digit counts.
+fn digit_value(b: u8) -> u64
+    ensures { result ≡ b - 48 }
+{
+    b.saturating_sub(b'0') as u64
+}
+
+// So many digits have a value below 2^64.
+const FEW: usize = 19;
+
+// The value of few digits.
+fn value_of_few(text: &[u8]) -> u64
+    requires few { length text.now ≤ FEW }
+    requires digits { list_all spec.is_digit text.now ≡ true }
+    ensures { result ≡ spec.value text.now }
+{
+    let mut n = 0u64;
+    'digits: for b in text {
+        n = n * 10 + (*b - b'0') as u64;
+    }
+    n
+}
+
+// The value of digits, where it is below 2^64.
+fn value_of(text: &[u8]) -> Option<u64>
+    requires { list_all spec.is_digit text.now ≡ true }
+    ensures { SomeIff result (spec.value text.now < 2 ^ 64) (spec.value text.now) }
+{
+    if text.len() <= FEW {
+        return Some(value_of_few(text));
+    }
+    let mut n = 0u64;
+    'digits: for b in text {
+        n = n.checked_mul(10)?.checked_add(digit_value(*b))?;
+    }
+    Some(n)
+}
+
+/// The number up to `most` that the text spells: one or more decimal digits without a leading zero (`0` itself is
+/// allowed). None of every other text.
+#[tactic(auto, unfolding(crate::specs::Number::number_to))]
+pub fn number_to(most: u64, text: &[u8]) -> Option<u64>
+    ensures { result ≡ spec.number_to most text.now }
+{
+    if !is_digits(text) || has_leading_zero(text) {
+        return None;
+    }
+    let n = value_of(text)?;
+    if n <= most { Some(n) } else { None }
+}
+
+/// The moment that the text spells, as milliseconds after 1970 began.
+pub(crate) fn moment_of(text: &[u8]) -> Option<Moment>
+    ensures { result ≡ spec.moment_of text.now }
+{
+    match number_to(GREATEST, text) {
+        None => None,
+        Some(ms) => Moment::from_ms(ms),
+    }
+}

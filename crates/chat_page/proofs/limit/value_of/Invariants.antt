@@ -1,6 +1,0 @@
-use Rattle.std.proofs.Common.{◌≡◌, min, take}
-use Rattle.chat_page.specs.Limit.{value, greatest_limit}
-use Rattle.chat_page.proofs.limit.value_of.Given as goal
-
-abbrev pub invariant-digits : goal.invariant-digits
-invariant-digits l = l.n ≡ min greatest_limit (value (take l.byte-index l.text))

@@ -1,5 +1,0 @@
-use Rattle.chat_page.proofs.ParameterLemmas.{few_selected}
-use Rattle.chat_page.proofs.parameters.read_selected.Goals as goal
-
-pub returns-in_default : goal.returns-in_default
-returns-in_default c = few_selected (λ p. p.now) c.args.parameters.now c.in_default.len_below

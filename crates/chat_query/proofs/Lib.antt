@@ -1,0 +1,5 @@
+mod ParameterLemmas
+mod GivenLemmas
+mod WordLemmas
+mod ReferenceLemmas
+pub mod CallerLemmas

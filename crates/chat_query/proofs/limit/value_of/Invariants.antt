@@ -1,0 +1,6 @@
+use Rattle.std.proofs.Common.{◌≡◌, min, take}
+use Rattle.chat_query.specs.Limit.{value, greatest_limit}
+use Rattle.chat_query.proofs.limit.value_of.Given as goal
+
+abbrev pub invariant-digits : goal.invariant-digits
+invariant-digits l = l.n ≡ min greatest_limit (value (take l.byte-index l.text))

@@ -1,5 +1,0 @@
-use Rattle.gossip_delta.proofs.SpellingLemmas.{one_spelling}
-use Rattle.gossip_delta.proofs.laws.changes_have_one_spelling.Goals as goal
-
-pub returns : goal.returns
-returns c = record { spelling = λ line change h. (one_spelling line change h).0; lawful = λ line change h. (one_spelling line change h).1 }

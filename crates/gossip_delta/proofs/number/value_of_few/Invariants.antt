@@ -1,7 +1,0 @@
-use Rattle.std.proofs.Common.{◌≡◌, ◌<◌, ◌^◌, take}
-use Rattle.gossip_delta.specs.Number.{value}
-use Rattle.gossip_delta.proofs.number.value_of_few.Given as goal
-
--- the value of the digits so far, which is below the power of ten that has one digit more
-abbrev pub invariant-digits : goal.invariant-digits
-invariant-digits l = (l.n < 10 ^ l.b-index) × (l.n ≡ value (take l.b-index l.text))

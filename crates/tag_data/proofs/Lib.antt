@@ -1,0 +1,12 @@
+mod ClientOnlyLemmas
+mod ClientTextLemmas
+mod CuttingLemmas
+mod LengthLemmas
+mod LookupLemmas
+mod MergingLemmas
+mod ReadBackLemmas
+mod RewriteLemmas
+mod StandingLemmas
+mod TextLemmas
+mod ValueLemmas
+pub mod CallerLemmas
