@@ -1,6 +1,7 @@
 -- Tags that are written one by one.
-use Rattle.std.proofs.Common.{◌≡◌, ℕ, List, [], ◌∷◌, ◌++◌, Bool, true, false, not, ◌&&◌, Option, Some, None, codes, cond, get_or, refl, sym, ap, ◌∙◌, append_assoc, append-nil, arith}
-use Rattle.std.proofs.lemmas.Bool.{and_parts, or_parts, false_from_ne_true, not-true}
+use Rattle.std.proofs.Common.{◌≡◌, ℕ, zero, suc, ◌-◌, ◌*◌, ◌≤◌, List, [], ◌∷◌, ◌++◌, Bool, true, false, not, ◌&&◌, Option, Some, None, codes, cond, get_or, length, take, drop, length-drop, refl, sym, ap, ◌∙◌, append_assoc, append-nil, arith}
+use Rattle.std.proofs.lemmas.Bool.{and_parts, or_parts, false_from_ne_true, not-true, false≢true}
+use Rattle.std.proofs.lemmas.List.{take_all}
 use Rattle.std.proofs.lemmas.List.Elements.{All-from_get_or}
 use Rattle.std.proofs.lemmas.List.Folds.{list_any_none, list_any_at}
 use Rattle.std.specs.Option.{is_some}
@@ -105,3 +106,45 @@ id_bare text e = not-true (list_any ends_word text) (and_parts _ _ (and_parts _ 
 pub plain_id : (text : List ℕ) (r : Option ℕ) (is_plain : Bool) → is_id text ≡ true → IsFirstByte (is_byte2 semicolon backslash) text r
     → is_some r ≡ not is_plain → is_plain ≡ list_all is_plain_byte text
 plain_id text r is_plain e h none = turned is_plain _ (sym none ∙ some_found (is_byte2 semicolon backslash) text r h) ∙ sym (bare_text text (id_bare text e))
+
+-- ---- ids of which two looks see all bytes
+
+-- where none passes the test at the beginning, one passes exactly where one does behind a part of that
+any_behind : (test : ℕ → Bool) (text : List ℕ) (n k : ℕ) → k ≤ n → list_any test (take n text) ≡ false
+    → list_any test text ≡ list_any test (drop k text)
+any_behind test text n zero l none = refl
+any_behind test [] n (suc k) l none = refl
+any_behind test (b ∷ text) zero (suc k) l none = absurd (omega (arith, l))
+any_behind test (b ∷ text) (suc n) (suc k) l none =
+    let parts = or_parts (test b) (list_any test (take n text)) none in
+    ap (λ x. x || list_any test text) parts.0 ∙ any_behind test text n k (omega (arith, l)) parts.1
+
+-- where one passes at the beginning, one passes
+any_within : (test : ℕ → Bool) (text : List ℕ) (n : ℕ) → list_any test (take n text) ≡ true → list_any test text ≡ true
+any_within test text zero one = absurd (false≢true one)
+any_within test [] (suc n) one = one
+any_within test (b ∷ text) (suc n) one = go (test b) (any_within test text n) one where
+  go : (x : Bool) → (list_any test (take n text) ≡ true → list_any test text ≡ true)
+      → (x || list_any test (take n text)) ≡ true → (x || list_any test text) ≡ true
+  go true more h = refl
+  go false more h = more h
+
+pub none_at_first : (text : List ℕ) (n : ℕ) (first second : Bool) → is_id text ≡ true → n ≤ length text → length text ≤ 2 * n
+    → first ≡ true → first ≡ not (list_any (is_byte2 semicolon backslash) (take n text))
+    → second ≡ not (list_any (is_byte2 semicolon backslash) (take n (take (length text - (length text - n)) (drop (length text - n) text))))
+    → second ≡ list_all is_plain_byte text
+none_at_first text n first second e some few is first_is second_is =
+    let test = is_byte2 semicolon backslash in
+    let k = length text - n in
+    let none : list_any test (take n text) ≡ false = turned _ true (sym first_is ∙ is) in
+    let size = length-drop k text in
+    let rest : take n (take (length text - k) (drop k text)) ≡ drop k text =
+    ap (take n) (take_all (length text - k) (drop k text) (omega (arith, size))) ∙ take_all n (drop k text) (omega (arith, size)) in
+    second_is ∙ ap (λ l. not (list_any test l)) rest ∙ ap not (sym (any_behind test text n k (omega arith) none)) ∙ sym (bare_text text (id_bare text e))
+
+pub one_at_first : (text : List ℕ) (n : ℕ) (first : Bool) → is_id text ≡ true → first ≡ false
+    → first ≡ not (list_any (is_byte2 semicolon backslash) (take n text)) → first ≡ list_all is_plain_byte text
+one_at_first text n first e is first_is =
+    let test = is_byte2 semicolon backslash in
+    let one : list_any test (take n text) ≡ true = turned _ false (sym first_is ∙ is) in
+    is ∙ ap not (sym (any_within test text n one)) ∙ sym (bare_text text (id_bare text e))

@@ -1,8 +1,9 @@
 //! The tags of a message (IRCv3 message-tags), each written only where the session has its capability.
-ghost use Rattle.std.specs.Prelude.{◌≡◌, ◌++◌, ◌||◌, [], true, codes, if◌then◌else◌, OnOk};
+ghost use Rattle.std.specs.Prelude.{◌≡◌, ◌≤◌, ◌==◌, ◌++◌, ◌||◌, [], true, not, codes, length, take, if◌then◌else◌, OnOk};
 ghost use Rattle.byte_text.specs.Writes.{Writes};
-ghost use Rattle.std.specs.List.{list_all};
-ghost use Rattle.tag_data.specs.Value.{value_text};
+ghost use Rattle.std.specs.List.{list_all, list_any};
+ghost use Rattle.memchr.specs.Find.{is_byte2};
+ghost use Rattle.tag_data.specs.Value.{value_text, semicolon, backslash};
 ghost use Rattle.chat_change.specs.Words.{is_id};
 ghost use Rattle.chat_batch.specs.declared.tags.Tag.TheVariants.{MsgId};
 ghost use Rattle.chat_batch.specs.Tags.{next_tag, tag_part, has_own_tags, batch_tags, message_tags, separator, key_text, is_plain_byte};
@@ -15,6 +16,7 @@ use irc_time::write_time;
 use memchr::memchr2;
 use std::io;
 use std::io::Write;
+use std::simd::prelude::*;
 use tag_data::write_value;
 
 /// Writes three texts in turn.
@@ -32,12 +34,38 @@ pub(crate) fn put_three<W: Write>(
     put(writer, third)
 }
 
-// Whether an id has no byte that is escaped. No id has a space, CR or LF, which are escaped too.
+// So many bytes are looked at at once.
+const LANES: usize = 16;
+
+// Whether none of the first bytes is that one.
+fn begins_without(bytes: &[u8], byte: u8) -> bool
+    requires { LANES ≤ length bytes.now }
+    ensures { result ≡ not (list_any (λ b. b == byte) (take LANES bytes.now)) }
+{
+    let found = u8x16::from_slice(bytes)
+        .simd_eq(u8x16::splat(byte))
+        .to_bitmask();
+    found == 0
+}
+
+// Whether none of the first bytes is escaped in an id.
+fn begins_plain(id: &[u8]) -> bool
+    requires { LANES ≤ length id.now }
+    ensures { result ≡ not (list_any (is_byte2 semicolon backslash) (take LANES id.now)) }
+{
+    begins_without(id, b';') && begins_without(id, b'\\')
+}
+
+// Whether an id has no byte that is escaped. No id has a space, CR or LF, which are escaped too. Most ids are so long that two
+// looks, which overlap, see all of them.
 fn is_plain(id: &[u8]) -> bool
     requires { is_id id.now ≡ true }
     ensures { result ≡ list_all is_plain_byte id.now }
 {
-    memchr2(b';', b'\\', id).is_none()
+    if id.len() < LANES || id.len() > 2 * LANES {
+        return memchr2(b';', b'\\', id).is_none();
+    }
+    begins_plain(id) && begins_plain(&id[id.len() - LANES..])
 }
 
 /// Writes an id with the escapes of a value. Most ids have none, and are written at once.
