@@ -2,7 +2,7 @@
 """Writes the tables of queries of this folder, each with the answers of a plain program: filter, sort and cut over a list of
 changes, as the IRCv3 specification draft/chathistory words them. tests/run doesn't run it; it plays what it wrote.
 
-    ./tables.py          writes pages, between, targets, refusals, lengths, orders, limits, extents
+    ./tables.py          writes pages, between, targets, refusals, lengths, orders, limits, extents, escapes
 """
 
 import os
@@ -620,6 +620,24 @@ def extents():
         yield asked_of_all(f"orders with floors of an account, {floors[0][0]} first", in_orders(history.lines), history)
 
 
+def escapes():
+    """Ids with a byte that a tag's value escapes (IRCv3 message-tags, "Escaping values"), at each place of ids of several
+    lengths: such as one look at 16 bytes, or two, see whole, and one byte less and more."""
+    spelled = {";": "\\:", "\\": "\\\\"}
+    for length in (1, 2, 15, 16, 17, 31, 32, 33, 48):
+        asked, printed = [], []
+        for number, (target, byte) in enumerate(zip(("#a", "#b"), spelled), 1):
+            ids = ["a" * length, *("a" * place + byte + "a" * (length - place - 1) for place in range(length))]
+            printed.append(f"{CLUSTER} BATCH +r{number} chathistory {target}")
+            for at, id in enumerate(ids):
+                asked.append(f"C POST demo net {target} {id} {1000 + at} P {target} bob!b@h :{at}")
+                value = "".join(spelled.get(it, it) for it in id)
+                printed.append(f"@batch=r{number};msgid={value};time={time_text(1000 + at)} :bob!b@h PRIVMSG {target} :{at}")
+            asked.append(f"CHATHISTORY LATEST {target} * 100")
+            printed.append(f"{CLUSTER} BATCH -r{number}")
+        yield "\n".join([f"== ids of {length} bytes", *asked, "--", *printed]) + "\n"
+
+
 def write(name, cases):
     path = os.path.join(os.path.dirname(os.path.abspath(__file__)), name)
     with open(path, "w", encoding="utf-8", newline="\n") as file:
@@ -635,3 +653,4 @@ if __name__ == "__main__":
     write("orders", orders())
     write("limits", limits())
     write("extents", extents())
+    write("escapes", escapes())

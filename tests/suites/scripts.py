@@ -1,14 +1,14 @@
 """Scripts, each answered by a run of `bnc replay demo net al` of its own, so by a new cluster.
 
-The tables pages, between, targets, refusals, lengths, orders, limits and extents are what a plain program answers
-(scripts/tables.py); the others were written by hand from docs/PROTOCOL.md."""
+The tables pages, between, targets, refusals, lengths, orders, limits, extents and escapes are what a plain program
+answers (scripts/tables.py); the others were written by hand from docs/PROTOCOL.md."""
 
 from harness.registry import add
 from harness.scripts import cases
 
 FILES = (
     "examples", "markers", "pages", "between", "targets", "refusals", "sessions", "lengths", "nodes", "orders", "lines",
-    "questions", "limits", "thousand", "tags", "floors", "extents",
+    "questions", "limits", "thousand", "tags", "floors", "extents", "escapes",
 )
 
 
