@@ -1,5 +1,5 @@
 //! Who answers questions about the past.
-ghost use Rattle.std.specs.Prelude.{◌≡◌, List, IfOk};
+ghost use Rattle.std.specs.Prelude.{◌≡◌, List, Err, IfOk};
 ghost use Rattle.byte_text.specs.Writes.{Writes};
 ghost use Rattle.chat_change.specs.declared.change.Change.{Change};
 ghost use Rattle.chat_batch.specs.Answers.{answer_of};
@@ -29,7 +29,8 @@ pub trait Past {
     /// The changes that it answers from, once it has answered.
     ghost changes: { Self → List Change };
 
-    /// Answers a question about the past ([`answer`](crate::answer)).
+    /// Answers a question about the past ([`answer`](crate::answer)). Where it isn't entered, and for want of memory, nothing is
+    /// written.
     fn ask<W: Write>(
         &mut self,
         alloc: Global,
@@ -40,5 +41,7 @@ pub trait Past {
         ensures text { Writes W.contents writer.old writer.new result
             (answer_of (changes self.new) facts.now line.now).text }
         ensures answered { IfOk result (λ a.
-            a ≡ (answer_of (changes self.new) facts.now line.now).answered) };
+            a ≡ (answer_of (changes self.new) facts.now line.now).answered) }
+        ensures no_entry { result ≡ Err AskFault.NoEntry → writer.new ≡ writer.old }
+        ensures memory { result ≡ Err AskFault.NoMemory → writer.new ≡ writer.old };
 }
