@@ -6,6 +6,8 @@ use Rattle.std.proofs.KnownBytes.{Appends-trans, Appends-nil}
 use Rattle.byte_text.specs.Writes.{AppendsPrefix, WritesKnown}
 -- a text for each item of a list
 pub use Rattle.byte_text.proofs.TextsLemmas.{texts_at, texts_through, own_texts_at, own_texts_through}
+-- looks at parts of a text
+pub use Rattle.byte_text.proofs.LookLemmas.{any_behind, any_within, both_ends}
 
 -- a prefix of the first text is one of both
 pub prefix_of_first : (a b : Option (List ℕ)) (xs ys : List ℕ) → AppendsPrefix a b xs → AppendsPrefix a b (xs ++ ys)

@@ -1,3 +1,4 @@
 mod PositionLemmas
+mod LookLemmas
 mod TextsLemmas
 pub mod CallerLemmas

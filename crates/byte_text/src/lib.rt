@@ -12,6 +12,6 @@ mod text;
 mod writing;
 
 pub use no_memory::NoMemory;
-pub use search::find_byte;
+pub use search::{LANES, begins_without, find_byte};
 pub use text::Text;
 pub use writing::put;

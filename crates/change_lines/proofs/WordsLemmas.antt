@@ -58,25 +58,6 @@ module _ (bytes : List ℕ) where
   pub none_behind : None ≡ position is_space bytes → [] ≡ behind bytes
   none_behind e = let l = past_end e in sym (drop_all (place bytes + 1) bytes (omega (arith, l))) ∙ behind_is_dropped bytes
 
--- ---- a search among the first bytes
-
-near_place : (n : ℕ) (bytes : List ℕ) → place (take n bytes) < length (take n bytes) → place (take n bytes) ≡ place bytes
-near_place zero bytes l = absurd (omega (arith, l))
-near_place (suc n) [] l = refl
-near_place (suc n) (b ∷ bytes) l =
-    elim (is_space b) as (λ s. cond (not s) (1 + place (take n bytes)) 0 < suc (length (take n bytes)) → cond (not s) (1 + place (take n bytes)) 0 ≡ cond (not s) (1 + place bytes) 0) [
-      | true ↦ λ _. refl
-      | false ↦ λ h. ap (λ k. 1 + k) (near_place n bytes (omega (arith, h)))
-    ] l
-
--- what is found among the first bytes is found
-pub near_found : (n : ℕ) (bytes : List ℕ) (at : ℕ) → at ≡ place (take n bytes) → at < n → n ≤ length bytes → Some at ≡ position is_space bytes
-near_found n bytes at e before room =
-    let near : length (take n bytes) ≡ n = length-take-le n bytes room in
-    let same = near_place n bytes (omega (arith, e, before, near)) in
-    let passes : nat_lt (place bytes) (length bytes) ≡ true = (let l : place bytes < length bytes = omega (arith, e, same, before, room) in grind (arith, nat_tests)) in
-    ap Some (e ∙ same) ∙ sym (cond-true _ _ _ passes)
-
 -- what a slice from a place to the end has
 pub to_the_end : (n : ℕ) (bytes : List ℕ) → take (length bytes - n) (drop n bytes) ≡ drop n bytes
 to_the_end n bytes = take_all (length bytes - n) (drop n bytes) (omega (arith, length-drop n bytes))

@@ -1,6 +1,5 @@
 //! The words of a line, with one space behind each.
-ghost use Rattle.std.specs.Prelude.{◌≡◌, ◌<◌, ◌≤◌, ◌++◌, [], ◌∷◌, map, take, length, position, IfSome};
-ghost use Rattle.std.specs.List.{position_or_len};
+ghost use Rattle.std.specs.Prelude.{◌≡◌, ◌++◌, [], ◌∷◌, map};
 ghost use Rattle.byte_text.specs.Writes.{Writes};
 ghost use Rattle.chat_change.specs.Words as parts;
 ghost use Rattle.change_lines.specs.Words as spec;
@@ -10,7 +9,6 @@ ghost use Rattle.change_lines.specs.ChangeText.{line_end};
 use byte_text::{find_byte, put};
 use std::io;
 use std::io::Write;
-use std::simd::prelude::*;
 
 /// Whether the text is that word, byte for byte.
 pub fn is_text(text: &[u8], word: &[u8]) -> bool
@@ -44,45 +42,12 @@ pub(crate) fn is_last_word(text: &[u8]) -> bool
     is_filled(text) && !has_space(text)
 }
 
-// How many bytes are looked at at once. Most words are shorter: a search that goes on by more takes its time to begin.
-const NEAR: usize = 16;
-
-// The index of the first space among the first bytes, or how many these are.
-fn near_space(bytes: &[u8]) -> usize
-    requires { NEAR ≤ length bytes.now }
-    ensures { result ≡ position_or_len spec.is_space (take NEAR bytes.now) }
-{
-    let spaces = u8x16::from_slice(bytes)
-        .simd_eq(u8x16::splat(b' '))
-        .to_bitmask();
-    if spaces == 0 {
-        NEAR
-    } else {
-        spaces.trailing_zeros() as usize
-    }
-}
-
-// The index of the first space.
-fn space_at(bytes: &[u8]) -> Option<usize>
-    ensures place { result ≡ position spec.is_space bytes.now }
-    ensures within { IfSome result (λ at. at < length bytes.now) }
-{
-    if bytes.len() < NEAR {
-        return bytes.iter().position(|b| *b == b' ');
-    }
-    let at = near_space(bytes);
-    if at < NEAR {
-        return Some(at);
-    }
-    find_byte(bytes, b' ')
-}
-
 /// The first word of a line, and what stands behind the one space that ends it: nothing where there is no space.
 pub fn split_word(bytes: &[u8]) -> (&[u8], &[u8])
     ensures word { result.0.now ≡ spec.word bytes.now }
     ensures behind { result.1.now ≡ spec.behind bytes.now }
 {
-    match space_at(bytes) {
+    match find_byte(bytes, b' ') {
         Some(at) => (&bytes[..at], &bytes[at + 1..]),
         None => (bytes, &bytes[bytes.len()..]),
     }

@@ -1,6 +1,6 @@
 -- Tags that are written one by one.
-use Rattle.std.proofs.Common.{◌≡◌, ℕ, zero, suc, ◌-◌, ◌*◌, ◌≤◌, List, [], ◌∷◌, ◌++◌, Bool, true, false, not, ◌&&◌, Option, Some, None, codes, cond, get_or, length, take, drop, length-drop, refl, sym, ap, ◌∙◌, append_assoc, append-nil, arith}
-use Rattle.std.proofs.lemmas.Bool.{and_parts, or_parts, false_from_ne_true, not-true, false≢true}
+use Rattle.std.proofs.Common.{◌≡◌, ℕ, ◌-◌, ◌*◌, ◌≤◌, List, [], ◌∷◌, ◌++◌, Bool, true, false, not, ◌&&◌, Option, Some, None, codes, cond, get_or, length, take, drop, length-drop, refl, sym, ap, ◌∙◌, append_assoc, append-nil, arith}
+use Rattle.std.proofs.lemmas.Bool.{and_parts, or_parts, false_from_ne_true, not-true}
 use Rattle.std.proofs.lemmas.List.{take_all}
 use Rattle.std.proofs.lemmas.List.Elements.{All-from_get_or}
 use Rattle.std.proofs.lemmas.List.Folds.{list_any_none, list_any_at}
@@ -11,6 +11,7 @@ use Rattle.memchr.specs.Find.{IsFirstByte, is_byte2}
 use Rattle.std.proofs.lemmas.Bool.Decides.{nat_tests}
 use Rattle.tag_data.specs.Value.{byte_spelling, value_text, semicolon, backslash}
 use Rattle.irc_time.specs.Text.{time_text}
+use Rattle.byte_text.proofs.CallerLemmas.{any_behind, any_within}
 use Rattle.chat_change.specs.Record.{Record}
 use Rattle.chat_change.specs.Words.{is_id, ends_word}
 use Rattle.irc_caps.specs.declared.CapSet.{CapSet}
@@ -108,26 +109,6 @@ pub plain_id : (text : List ℕ) (r : Option ℕ) (is_plain : Bool) → is_id te
 plain_id text r is_plain e h none = turned is_plain _ (sym none ∙ some_found (is_byte2 semicolon backslash) text r h) ∙ sym (bare_text text (id_bare text e))
 
 -- ---- ids of which two looks see all bytes
-
--- where none passes the test at the beginning, one passes exactly where one does behind a part of that
-any_behind : (test : ℕ → Bool) (text : List ℕ) (n k : ℕ) → k ≤ n → list_any test (take n text) ≡ false
-    → list_any test text ≡ list_any test (drop k text)
-any_behind test text n zero l none = refl
-any_behind test [] n (suc k) l none = refl
-any_behind test (b ∷ text) zero (suc k) l none = absurd (omega (arith, l))
-any_behind test (b ∷ text) (suc n) (suc k) l none =
-    let parts = or_parts (test b) (list_any test (take n text)) none in
-    ap (λ x. x || list_any test text) parts.0 ∙ any_behind test text n k (omega (arith, l)) parts.1
-
--- where one passes at the beginning, one passes
-any_within : (test : ℕ → Bool) (text : List ℕ) (n : ℕ) → list_any test (take n text) ≡ true → list_any test text ≡ true
-any_within test text zero one = absurd (false≢true one)
-any_within test [] (suc n) one = one
-any_within test (b ∷ text) (suc n) one = go (test b) (any_within test text n) one where
-  go : (x : Bool) → (list_any test (take n text) ≡ true → list_any test text ≡ true)
-      → (x || list_any test (take n text)) ≡ true → (x || list_any test text) ≡ true
-  go true more h = refl
-  go false more h = more h
 
 pub none_at_first : (text : List ℕ) (n : ℕ) (first second : Bool) → is_id text ≡ true → n ≤ length text → length text ≤ 2 * n
     → first ≡ true → first ≡ not (list_any (is_byte2 semicolon backslash) (take n text))

@@ -1,5 +1,5 @@
 //! The tags of a message (IRCv3 message-tags), each written only where the session has its capability.
-ghost use Rattle.std.specs.Prelude.{◌≡◌, ◌≤◌, ◌==◌, ◌++◌, ◌||◌, [], true, not, codes, length, take, if◌then◌else◌, OnOk};
+ghost use Rattle.std.specs.Prelude.{◌≡◌, ◌≤◌, ◌++◌, ◌||◌, [], true, not, codes, length, take, if◌then◌else◌, OnOk};
 ghost use Rattle.byte_text.specs.Writes.{Writes};
 ghost use Rattle.std.specs.List.{list_all, list_any};
 ghost use Rattle.memchr.specs.Find.{is_byte2};
@@ -9,14 +9,13 @@ ghost use Rattle.chat_batch.specs.declared.tags.Tag.TheVariants.{MsgId};
 ghost use Rattle.chat_batch.specs.Tags.{next_tag, tag_part, has_own_tags, batch_tags, message_tags, separator, key_text, is_plain_byte};
 
 use crate::batch::put_pair;
-use byte_text::put;
+use byte_text::{LANES, begins_without, put};
 use chat_change::Record;
 use irc_caps::CapSet;
 use irc_time::write_time;
 use memchr::memchr2;
 use std::io;
 use std::io::Write;
-use std::simd::prelude::*;
 use tag_data::write_value;
 
 /// Writes three texts in turn.
@@ -32,20 +31,6 @@ pub(crate) fn put_three<W: Write>(
     put(writer, first)?;
     put(writer, second)?;
     put(writer, third)
-}
-
-// So many bytes are looked at at once.
-const LANES: usize = 16;
-
-// Whether none of the first bytes is that one.
-fn begins_without(bytes: &[u8], byte: u8) -> bool
-    requires { LANES ≤ length bytes.now }
-    ensures { result ≡ not (list_any (λ b. b == byte) (take LANES bytes.now)) }
-{
-    let found = u8x16::from_slice(bytes)
-        .simd_eq(u8x16::splat(byte))
-        .to_bitmask();
-    found == 0
 }
 
 // Whether none of the first bytes is escaped in an id.
