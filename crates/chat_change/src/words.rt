@@ -1,8 +1,9 @@
 //! Tests of the texts that changes are made of. They take no memory.
-ghost use Rattle.std.specs.Prelude.{◌≡◌};
+ghost use Rattle.std.specs.Prelude.{◌≡◌, ◌≤◌, ◌*◌, length, not, take};
 ghost use Rattle.std.specs.List.{list_any, list_all};
 ghost use Rattle.chat_change.specs.Words as spec;
 
+use byte_text::{LANES, begins_without};
 use memchr::memchr3;
 use tag_data::is_client_only_text;
 
@@ -73,10 +74,34 @@ fn has_line_end(text: &[u8]) -> bool
     memchr3(0, b'\n', b'\r', text).is_some()
 }
 
+// Whether none of the first bytes ends a word.
+fn begins_within_word(text: &[u8]) -> bool
+    requires { LANES ≤ length text.now }
+    ensures { result ≡ not (list_any spec.ends_word (take LANES text.now)) }
+{
+    begins_without(text, 0)
+        & begins_without(text, b'\n')
+        & begins_without(text, b'\r')
+        & begins_without(text, b' ')
+}
+
+// Whether no byte ends a word, where two looks, which overlap, see all of them.
+fn is_within_word(text: &[u8]) -> bool
+    requires long { LANES ≤ length text.now }
+    requires short { length text.now ≤ 2 * LANES }
+    ensures { result ≡ not (list_any spec.ends_word text.now) }
+{
+    begins_within_word(text) & begins_within_word(&text[text.len() - LANES..])
+}
+
+// Most ids and sources are seen by two looks.
 fn has_word_end(text: &[u8]) -> bool
     ensures { result ≡ list_any spec.ends_word text.now }
 {
-    text.iter().any(|byte| ends_word(*byte))
+    if text.len() < LANES || text.len() > 2 * LANES {
+        return text.iter().any(|byte| ends_word(*byte));
+    }
+    !is_within_word(text)
 }
 
 fn has_target_end(text: &[u8]) -> bool
