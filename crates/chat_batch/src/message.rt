@@ -1,33 +1,19 @@
 //! The line of a record (RFC 2812, sections 2.3, 3.3.1 and 3.3.2).
-ghost use Rattle.std.specs.Prelude.{◌≡◌, ◌++◌, codes};
 ghost use Rattle.byte_text.specs.Writes.{Writes};
-ghost use Rattle.chat_change.specs.Message.{kind_word};
 ghost use Rattle.chat_batch.specs.Message.{message_line, record_text, live_text};
 
-use super::tags::{put_tags, put_three};
+use super::tags::put_tags;
 use byte_text::put;
-use chat_change::{Kind, Record};
+use chat_change::Record;
 use irc_caps::CapSet;
 use std::io;
 use std::io::Write;
 
-// The command of a message, between two spaces.
-fn spaced_word(kind: Kind) -> &'static [u8]
-    ensures { result.now ≡ codes " " ++ (kind_word kind ++ codes " ") }
-{
-    match kind {
-        Kind::Privmsg => b" PRIVMSG ",
-        Kind::Notice => b" NOTICE ",
-    }
-}
-
-/// Writes a message as it was sent, by few writes.
+/// Writes a message as it was sent, by one write.
 fn put_message<W: Write>(writer: &mut W, message: &Record) -> io::Result<()>
     ensures { Writes W.contents writer.old writer.new result (message_line message.now) }
 {
-    put_three(writer, b":", message.source(), spaced_word(message.kind()))?;
-    put_three(writer, message.target(), b" :", message.body())?;
-    put(writer, b"\r\n")
+    put(writer, message.line())
 }
 
 /// Writes a record in a batch under that reference.

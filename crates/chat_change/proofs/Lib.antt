@@ -5,3 +5,4 @@ mod KeyLemmas
 mod ShortTextLemmas
 mod FaultsLemmas
 pub mod CallerLemmas
+mod MessageTextsLemmas

@@ -39,6 +39,10 @@ line_of m =
     (codes " " ++ (m.target ++
     (codes " :" ++ m.body))))))
 
+-- the same with its ending, CR LF: as it goes out
+abbrev pub sent_line : Message → List ℕ
+sent_line m = line_of m ++ codes "\r\n"
+
 -- the message has the source, the target and the body of a line, and its line is not too long
 pub record IsLawfulMessage (m : Message) : Type 0 where
   pub lawful_source : is_source m.source ≡ true

@@ -1,7 +1,7 @@
 //! Records: messages that were posted.
 ghost use Rattle.std.specs.Prelude.{◌≡◌, ◌≤◌, true, length, [], IfOk, IfErr, None};
 ghost use Rattle.chat_change.specs.Words.{is_target, is_source, is_body, MayBeTags};
-ghost use Rattle.chat_change.specs.Message.{value_of, IsLawfulMessage};
+ghost use Rattle.chat_change.specs.Message.{value_of, sent_line, IsLawfulMessage};
 ghost use Rattle.chat_change.specs.Faults.{record_fault, tagged_fault, fault_or_no_memory};
 
 use crate::buffer::Buffer;
@@ -30,8 +30,7 @@ struct Parts {
     buffer: Buffer,
     id: MsgId,
     at: Moment,
-    kind: Kind,
-    // tags, source, target and body
+    // its tags and its line
     texts: MessageTexts,
 }
 
@@ -47,20 +46,11 @@ impl Model for Record {
       id = r.parts.value.id;
       at = r.parts.value.at;
       tags = r.parts.value.texts.tags;
-      message = record {
-        kind = r.parts.value.kind;
-        source = r.parts.value.texts.source;
-        target = r.parts.value.texts.target;
-        body = r.parts.value.texts.body;
-      };
+      message = r.parts.value.texts.message;
     } };
 
-    ghost invariant = { λ r. MayBeTags r.parts.value.texts.tags × IsLawfulMessage (record {
-      kind = r.parts.value.kind;
-      source = r.parts.value.texts.source;
-      target = r.parts.value.texts.target;
-      body = r.parts.value.texts.body;
-    }) };
+    ghost invariant = { λ r. MayBeTags r.parts.value.texts.tags
+        × IsLawfulMessage r.parts.value.texts.message };
 }
 
 impl Record {
@@ -159,7 +149,6 @@ impl Record {
             buffer,
             id,
             at,
-            kind: message.kind,
             texts,
         };
         let parts = Arc::new(alloc, parts)?;
@@ -207,12 +196,12 @@ impl Record {
         ensures value { value_of result ≡ self.now.message }
         ensures lawful { IsLawfulMessage (value_of result) }
     {
-        let parts = &self.parts;
+        let texts = &self.parts.texts;
         Message {
-            kind: parts.kind,
-            source: parts.texts.source(),
-            target: parts.texts.target(),
-            body: parts.texts.body(),
+            kind: texts.kind(),
+            source: texts.source(),
+            target: texts.target(),
+            body: texts.body(),
         }
     }
 
@@ -220,7 +209,14 @@ impl Record {
     pub fn kind(&self) -> Kind
         ensures { result ≡ self.now.message.kind }
     {
-        self.parts.kind
+        self.parts.texts.kind()
+    }
+
+    /// The line of the message as it goes out, `:source KIND target :body` with CR LF behind it (RFC 2812, section 2.3).
+    pub fn line(&self) -> &[u8]
+        ensures { result.now ≡ sent_line self.now.message }
+    {
+        self.parts.texts.line()
     }
 
     /// Who sent the message, without the `:` of its line.
