@@ -1,4 +1,4 @@
--- One text written after another.
+-- What the crates above may name of these proofs: texts written one after another, looks at parts of a text, and numbers.
 use Rattle.std.proofs.Common.{◌≡◌, ℕ, List, [], ◌++◌, Option, Result, Ok, Err, refl, sym, ap, ◌∙◌, append_assoc, subst}
 use Rattle.std.specs.Prelude.{IsErrAnd}
 use Rattle.std.specs.Io.KnownBytes.{Appends}
@@ -8,6 +8,8 @@ use Rattle.byte_text.specs.Writes.{AppendsPrefix, WritesKnown}
 pub use Rattle.byte_text.proofs.TextsLemmas.{texts_at, texts_through, own_texts_at, own_texts_through}
 -- looks at parts of a text
 pub use Rattle.byte_text.proofs.LookLemmas.{any_behind, any_within, both_ends}
+-- a number has one spelling, its decimal digits
+pub use Rattle.byte_text.proofs.NumberLemmas.{decimal_digits, number_read, number_spelled}
 
 -- a prefix of the first text is one of both
 pub prefix_of_first : (a b : Option (List ℕ)) (xs ys : List ℕ) → AppendsPrefix a b xs → AppendsPrefix a b (xs ++ ys)

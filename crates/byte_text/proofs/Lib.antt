@@ -1,4 +1,5 @@
 mod PositionLemmas
 mod LookLemmas
 mod TextsLemmas
+mod NumberLemmas
 pub mod CallerLemmas

@@ -1,5 +1,5 @@
-//! What every crate above does with bytes: it keeps them ([`Text`]), finds one of them ([`find_byte`]), writes them to any
-//! writer ([`put`]), and says that there was no memory for them ([`NoMemory`]).
+//! What every crate above does with bytes: it keeps them ([`Text`]), finds one of them ([`find_byte`]), reads a number in
+//! them ([`number_to`]), writes them to any writer ([`put`]), and says that there was no memory for them ([`NoMemory`]).
 //!
 //! Contracts see a text as its list of bytes. What a writing call leaves in its writer they say by one word, `Writes`: at
 //! `Ok` the writer's known bytes have grown by the whole text, and at `Err` by a prefix of it. Writing takes no memory: no
@@ -7,11 +7,13 @@
 #![tactic(auto)]
 
 mod no_memory;
+mod number;
 mod search;
 mod text;
 mod writing;
 
 pub use no_memory::NoMemory;
+pub use number::number_to;
 pub use search::{LANES, begins_without, find_byte};
 pub use text::Text;
 pub use writing::put;

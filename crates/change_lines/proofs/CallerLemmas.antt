@@ -4,6 +4,6 @@ pub use Rattle.change_lines.proofs.TestLemmas.{text_is}
 pub use Rattle.change_lines.proofs.WordsLemmas.{word_of, behind_of, rejoined}
 pub use Rattle.change_lines.proofs.WordsLemmas.{first_words, behind_words, HaveNoSpace}
 pub use Rattle.change_lines.proofs.WordsLemmas.{words_cut, last_cut, filled_words, words_rejoined}
-pub use Rattle.change_lines.proofs.NumberLemmas.{decimal_filled, decimal_no_space, decimal_last, decimal_digits, number_read, number_spelled}
+pub use Rattle.change_lines.proofs.NumberLemmas.{decimal_filled, decimal_no_space, decimal_last}
 pub use Rattle.change_lines.proofs.ReadBackLemmas.{read_back}
 pub use Rattle.change_lines.proofs.SpellingLemmas.{one_spelling, own_fault}

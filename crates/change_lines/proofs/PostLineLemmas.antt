@@ -14,7 +14,7 @@ use Rattle.chat_change.specs.declared.message.Kind.{Kind}
 use Rattle.chat_change.specs.declared.message.Kind.TheVariants.{Privmsg, Notice}
 use Rattle.chat_change.proofs.CallerLemmas.{is_message-lawful}
 use Rattle.change_lines.specs.Words.{is_text, has_space, is_filled, word, behind, words_text}
-use Rattle.change_lines.specs.Number.{moment_of}
+use Rattle.change_lines.specs.Moment.{moment_of}
 use Rattle.change_lines.specs.PostLine.{PostFields, post_fields, tags_word, behind_tags, has_post_form, message_kind, may_be_tags, post_of, has_lawful_parts, post_with, post_in, tags_words, front_words, back_words, post_words}
 use Rattle.change_lines.proofs.TestLemmas.{left, right, text_is, unfilled, target_has_no_space, target_is_filled, id_has_no_space, id_is_filled, tags_have_no_space, tags_pass, tags_that_pass}
 use Rattle.change_lines.proofs.NumberLemmas.{decimal_filled, decimal_no_space, moment_fits, moment_read, moment_is}

@@ -11,8 +11,9 @@ use Rattle.chat_change.specs.Buffer.{Buffer, IsLawfulBuffer}
 use Rattle.chat_change.specs.Record.{Record}
 use Rattle.chat_change.specs.declared.change.Change.{Change}
 use Rattle.chat_change.specs.declared.change.Change.TheVariants.{Post, Redact, Mark, Floor, AccountFloor}
+use Rattle.byte_text.specs.Number.{is_digit}
+use Rattle.byte_text.proofs.CallerLemmas.{decimal_digits}
 use Rattle.change_lines.specs.Words.{is_text, has_space, is_filled, is_last_word, word, behind, words_text}
-use Rattle.change_lines.specs.Number.{is_digit}
 use Rattle.change_lines.specs.PostLine.{post_words}
 use Rattle.change_lines.specs.ChangeLine.{BufferFields, buffer_fields, has_names, has_form, named_moment, is_folded_byte, is_folded, is_buffer, buffer_named, redaction_with, change_in, change_kind, or_bad_field, fields_change, kind_change, account_floor_in, words_change, read_change}
 use Rattle.chat_change.specs.Lawful.{IsLawfulRecord, IsLawfulChange}
@@ -20,7 +21,7 @@ use Rattle.change_lines.specs.ChangeText.{buffer_words, account_words, moment_te
 use Rattle.change_lines.specs.declared.fields.ChangeKind.{ChangeKind}
 use Rattle.change_lines.specs.declared.fields.ChangeKind.TheVariants as of_kind
 use Rattle.change_lines.proofs.TestLemmas.{both, text_is, name_has_no_space, name_is_filled, target_has_no_space, target_is_filled, id_has_no_space, id_is_filled}
-use Rattle.change_lines.proofs.NumberLemmas.{decimal_last, decimal_digits, moment_fits, moment_read}
+use Rattle.change_lines.proofs.NumberLemmas.{decimal_last, moment_fits, moment_read}
 use Rattle.change_lines.proofs.WordsLemmas.{first_words, HaveNoSpace, words_cut, last_cut}
 use Rattle.change_lines.proofs.PostLineLemmas.{form_read, post_in_read}
 

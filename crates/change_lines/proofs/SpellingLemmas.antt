@@ -10,7 +10,7 @@ use Rattle.chat_change.specs.Buffer.{Buffer, IsLawfulBuffer}
 use Rattle.chat_change.specs.declared.change.Change.{Change}
 use Rattle.chat_change.specs.declared.change.Change.TheVariants.{Post, Redact, Mark, Floor, AccountFloor}
 use Rattle.change_lines.specs.Words.{is_text, is_filled, is_last_word, word, behind, words_text}
-use Rattle.change_lines.specs.Number.{moment_of}
+use Rattle.change_lines.specs.Moment.{moment_of}
 use Rattle.change_lines.specs.PostLine.{post_fields, has_post_form, post_in, post_word, post_words}
 use Rattle.change_lines.specs.ChangeLine.{BufferFields, buffer_fields, has_names, has_form, named_moment, is_folded_byte, is_folded, is_buffer, buffer_named, redaction_with, change_in, change_kind, or_bad_field, fields_change, kind_change, account_floor_in, account_floor_change, words_change, read_change}
 use Rattle.chat_change.specs.Lawful.{IsLawfulChange}

@@ -19,7 +19,7 @@ use Rattle.chat_change.specs.Buffer.{Buffer, buffer_of}
 use Rattle.chat_change.specs.declared.change.Change.{Change}
 use Rattle.chat_change.specs.declared.change.Change.TheVariants.{Post, Redact, Mark, Floor, AccountFloor}
 use Rattle.change_lines.specs.Words.{is_text, is_filled, is_last_word, word, behind}
-use Rattle.change_lines.specs.Number.{moment_of}
+use Rattle.change_lines.specs.Moment.{moment_of}
 use Rattle.change_lines.specs.PostLine.{post_fields, has_post_form, post_in}
 use Rattle.change_lines.specs.declared.fault.ChangeLineFault.{ChangeLineFault}
 use Rattle.change_lines.specs.declared.fault.ChangeLineFault.TheVariants.{BadForm, BadField, NoMemory}

@@ -1,6 +1,6 @@
 -- what a reader must believe: lines that spell changes
 pub mod Words
-pub mod Number
+pub mod Moment
 pub mod PostLine
 pub mod ChangeLine
 pub mod ChangeText

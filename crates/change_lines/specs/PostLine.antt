@@ -11,7 +11,7 @@ use Rattle.chat_change.specs.Record.{Record}
 use Rattle.chat_change.specs.declared.message.Kind.{Kind}
 use Rattle.chat_change.specs.declared.message.Kind.TheVariants.{Privmsg, Notice}
 use Rattle.change_lines.specs.Words.{is_text, is_filled, word, behind}
-use Rattle.change_lines.specs.Number.{moment_of}
+use Rattle.change_lines.specs.Moment.{moment_of}
 use Rattle.change_lines.specs.declared.post_line.PostFields as fields
 use Rattle.change_lines.specs.declared.post_line.PostParts.{PostParts}
 

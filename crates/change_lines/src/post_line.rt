@@ -16,8 +16,8 @@ ghost use Rattle.change_lines.specs.NamedBuffer.{IsNamed};
 ghost use Rattle.change_lines.specs.ChangeText.{line_of, line_end, buffer_words};
 
 use crate::fields::BufferFields;
+use crate::moment::moment_of;
 use crate::named_buffer::buffer_for;
-use crate::number::moment_of;
 use crate::words::{begins_with, is_filled, is_text, put_line, put_word, put_words, split_word};
 use chat_change::{
     Buffer, Kind, Message, Moment, Record, is_id, is_message, is_tags, lawful_id, lawful_record,

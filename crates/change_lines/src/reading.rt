@@ -7,7 +7,7 @@ ghost use Rattle.chat_change.specs.Words.{is_id};
 ghost use Rattle.chat_change.specs.declared.change.Change as value;
 ghost use Rattle.chat_change.specs.declared.change.Change.TheVariants as change;
 ghost use Rattle.change_lines.specs.Words as words;
-ghost use Rattle.change_lines.specs.Number as numbers;
+ghost use Rattle.change_lines.specs.Moment as moments;
 ghost use Rattle.change_lines.specs.ChangeLine as spec;
 ghost use Rattle.change_lines.specs.BufferFields as fields;
 ghost use Rattle.change_lines.specs.NamedBuffer.{IsNamed};
@@ -16,8 +16,8 @@ ghost use Rattle.change_lines.specs.Reading.{IsAnswer, checked, moment_or_fault}
 
 use crate::fault::ChangeLineFault;
 use crate::fields::{BufferFields, ChangeKind, buffer_fields, change_kind, has_names};
+use crate::moment::moment_of;
 use crate::named_buffer::{buffer_for, known_buffer, names_buffer};
-use crate::number::moment_of;
 use crate::post_line::{has_post_form, is_lawful_post, new_post, post_fields, post_parts};
 use crate::words::{is_filled, is_last_word, is_text, split_word};
 use chat_change::{Account, Buffer, Change, Moment, is_id, is_name, lawful_id};
@@ -125,7 +125,7 @@ fn read_moment(known: Option<&Buffer>, names: &BufferFields<'_>) -> Result<Momen
     requires { IsNamed (option_map deref known) (fields.value_of names.now) }
     ensures value { (make : ℕ → value.Change) → moment_or_fault make result ≡ checked
         (words.is_last_word names.now.rest.now) (spec.is_buffer (fields.value_of names.now))
-        (option_map make (numbers.moment_of names.now.rest.now)) }
+        (option_map make (moments.moment_of names.now.rest.now)) }
     ensures lawful { OnOk result (spec.is_buffer (fields.value_of names.now) ≡ true) }
 {
     if !is_last_word(names.rest) {

@@ -14,7 +14,7 @@ mod since;
 mod state;
 
 pub use change_lines::{
-    ChangeLineFault, is_text, number_to, read_change, read_change_in, split_word, write_change,
+    ChangeLineFault, is_text, read_change, read_change_in, split_word, write_change,
 };
 pub use delta::{Delta, DeltaFault, NotTaken, Source, Taker};
 pub use since::{DELTA_LIMIT, delta_since};

@@ -4,7 +4,7 @@ use Rattle.std.proofs.lemmas.Bool.Decides.{nat_tests}
 use Rattle.std.specs.Prelude.{◌==◌}
 use Rattle.std.specs.Option.{option_and_then}
 use Rattle.std.specs.Fmt.{decimal}
-use Rattle.change_lines.proofs.CallerLemmas.{number_read, number_spelled}
+use Rattle.byte_text.proofs.CallerLemmas.{number_read, number_spelled}
 use Rattle.peer_lines.specs.Version.{number, of_number}
 use Rattle.peer_lines.specs.Reading.{number_of, version_of}
 use Rattle.peer_lines.specs.declared.version.Version.{Version}

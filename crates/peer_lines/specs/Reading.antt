@@ -1,8 +1,8 @@
 -- How a line is read: word by word, with one space behind each.
 use Rattle.std.specs.Prelude.{ℕ, ◌-◌, ◌^◌, ◌&&◌, List, nat_lt, nat_le, Option, None, Some, if◌then◌else◌}
 use Rattle.std.specs.Option.{option_and_then}
+use Rattle.byte_text.specs.Number.{number_to}
 use Rattle.change_lines.specs.Words.{word, behind}
-use Rattle.change_lines.specs.Number.{number_to}
 use Rattle.peer_lines.specs.Names.{is_node_name, is_shared_word}
 use Rattle.peer_lines.specs.Life.{Life, Hello, Head, Ack}
 use Rattle.peer_lines.specs.Version.{of_number}

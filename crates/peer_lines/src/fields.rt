@@ -8,7 +8,8 @@ ghost use Rattle.peer_lines.specs.Fields.{span_value};
 use crate::names::is_node_name;
 use crate::packet::PACKET_LIMIT;
 use crate::version::Version;
-use change_lines::{number_to, split_word};
+use byte_text::number_to;
+use change_lines::split_word;
 
 /// The number below 2^64 of which the text is the decimal digits, without leading zeros.
 pub(crate) fn number_of(text: &[u8]) -> Option<u64>

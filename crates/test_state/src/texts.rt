@@ -1,7 +1,8 @@
 //! Numbers, moments and changes as text.
+use byte_text::number_to;
 use chat_change::{Change, Moment};
 use chat_state::ChangeRef;
-use gossip_delta::{number_to, write_change};
+use gossip_delta::write_change;
 use std::io;
 use std::io::Write;
 

@@ -1,13 +1,12 @@
 use Rattle.std.proofs.Common.{◌≡◌, ◌∙◌, sym, ap, refl, Bool, true, false, Option, Some, None, Ok, Err}
 use Rattle.std.specs.Option.{option_map, option_and_then}
 use Rattle.chat_change.specs.Record.{Record}
-use Rattle.chat_change.specs.declared.change.Change.{Change}
 use Rattle.chat_change.specs.declared.change.Change.TheVariants.{Post}
 use Rattle.change_lines.specs.BufferFields as names
 use Rattle.change_lines.specs.ChangeLine.{buffer_named}
-use Rattle.change_lines.specs.PostLine.{has_lawful_parts, has_post_form, if_lawful, post_fields, post_in, record_of}
+use Rattle.change_lines.specs.PostLine.{has_lawful_parts, has_post_form, if_lawful, post_in, record_of}
 use Rattle.change_lines.specs.Reading.{IsAnswer, checked}
-use Rattle.change_lines.specs.declared.fault.ChangeLineFault.TheVariants.{BadForm, BadField, NoMemory}
+use Rattle.change_lines.specs.declared.fault.ChangeLineFault.TheVariants.{BadField, NoMemory}
 use Rattle.change_lines.specs.declared.post_line.PostParts.{PostParts}
 use Rattle.change_lines.proofs.reading.read_post.Goals as goal
 

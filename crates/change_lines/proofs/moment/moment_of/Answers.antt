@@ -2,9 +2,9 @@ use Rattle.std.proofs.Common.{◌≡◌, ℕ, ◌≤◌, Option, Some, None, Lis
 use Rattle.std.specs.Prelude.{IsSome, IfSome, ◌↔◌}
 use Rattle.std.proofs.lemmas.Bool.{false≢true}
 use Rattle.irc_time.specs.Time.{greatest}
-use Rattle.change_lines.specs.Number.{number_to}
-use Rattle.change_lines.proofs.NumberLemmas.{number_spelled}
-use Rattle.change_lines.proofs.number.moment_of.Goals as goal
+use Rattle.byte_text.specs.Number.{number_to}
+use Rattle.byte_text.proofs.CallerLemmas.{number_spelled}
+use Rattle.change_lines.proofs.moment.moment_of.Goals as goal
 
 some_is : (o : Option ℕ) (n : ℕ) → IsSome o → IfSome o (λ m. m ≡ n) → o ≡ Some n
 some_is None n h e = absurd (false≢true h)

@@ -1,11 +1,7 @@
-//! Decimal numbers in lines, and moments.
+//! Decimal numbers as texts.
 ghost use Rattle.std.specs.Prelude.{◌≡◌, ◌-◌, ◌<◌, ◌≤◌, ◌^◌, length, true, SomeIff};
 ghost use Rattle.std.specs.List.{list_all};
-ghost use Rattle.change_lines.specs.Number as spec;
-
-use crate::words::begins_with;
-use chat_change::Moment;
-use irc_time::GREATEST;
+ghost use Rattle.byte_text.specs.Number as spec;
 
 fn is_digit(b: u8) -> bool
     ensures { result ≡ spec.is_digit b }
@@ -28,7 +24,7 @@ fn is_digits(text: &[u8]) -> bool
 fn has_leading_zero(text: &[u8]) -> bool
     ensures { result ≡ spec.has_leading_zero text.now }
 {
-    text.len() > 1 && begins_with(b'0', text)
+    text.len() > 1 && text[0] == b'0'
 }
 
 // What a digit counts.
@@ -80,14 +76,4 @@ pub fn number_to(most: u64, text: &[u8]) -> Option<u64>
     }
     let n = value_of(text)?;
     if n <= most { Some(n) } else { None }
-}
-
-/// The moment that the text spells, as milliseconds after 1970 began.
-pub(crate) fn moment_of(text: &[u8]) -> Option<Moment>
-    ensures { result ≡ spec.moment_of text.now }
-{
-    match number_to(GREATEST, text) {
-        None => None,
-        Some(ms) => Moment::from_ms(ms),
-    }
 }

@@ -1,8 +1,6 @@
--- Decimal numbers, and moments.
-use Rattle.std.specs.Prelude.{ℕ, ◌+◌, ◌*◌, ◌-◌, Bool, not, ◌&&◌, nat_lt, nat_le, List, [], ◌∷◌, length, Option, None, Some, if◌then◌else◌}
+-- Decimal numbers as texts.
+use Rattle.std.specs.Prelude.{ℕ, ◌+◌, ◌*◌, ◌-◌, ◌==◌, Bool, not, ◌&&◌, nat_lt, nat_le, List, [], ◌∷◌, length, get_or, Option, None, Some, if◌then◌else◌}
 use Rattle.std.specs.List.{list_all}
-use Rattle.irc_time.specs.Time.{greatest}
-use Rattle.chat_change.specs.Words.{begins_with}
 
 abbrev pub is_digit : ℕ → Bool
 is_digit b = nat_le 48 b && nat_le b 57
@@ -13,7 +11,7 @@ is_digits text = nat_lt 0 (length text) && list_all is_digit text
 
 -- a zero before another digit
 abbrev pub has_leading_zero : List ℕ → Bool
-has_leading_zero text = nat_lt 1 (length text) && begins_with 48 text
+has_leading_zero text = nat_lt 1 (length text) && (get_or text 0 0 == 48)
 
 -- the value of digits that stand behind others of value n
 abbrev pub value_from : ℕ → List ℕ → ℕ
@@ -29,7 +27,3 @@ number_to most text =
     if is_digits text && not (has_leading_zero text) && nat_le (value text) most
     then Some (value text)
     else None
-
--- the moment that a text spells
-abbrev pub moment_of : List ℕ → Option ℕ
-moment_of text = number_to greatest text

@@ -1,9 +1,9 @@
 use Rattle.std.proofs.Common.{◌≡◌, ℕ, ◌+◌, ◌-◌, ◌*◌, ◌<◌, ◌≤◌, ◌^◌, List, [], ◌∷◌, length, get_or, take, drop, refl, sym, ap, ◌∙◌, subst, arith, take-append-drop}
 use Rattle.std.specs.Prelude.{SomeIff}
 use Rattle.std.proofs.lemmas.List.{take_all}
-use Rattle.change_lines.specs.Number.{value, value_from}
-use Rattle.change_lines.proofs.NumberLemmas.{value_from-append, one_digit_more}
-use Rattle.change_lines.proofs.number.value_of.Goals as goal
+use Rattle.byte_text.specs.Number.{value, value_from}
+use Rattle.byte_text.proofs.NumberLemmas.{value_from-append, one_digit_more}
+use Rattle.byte_text.proofs.number.value_of.Goals as goal
 
 at_least : (n : ℕ) (xs : List ℕ) → n ≤ value_from n xs
 at_least n [] = omega arith

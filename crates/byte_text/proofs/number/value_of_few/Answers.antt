@@ -2,13 +2,12 @@ use Rattle.std.proofs.Common.{◌≡◌, ℕ, zero, suc, ◌+◌, ◌-◌, ◌*�
 use Rattle.std.specs.Prelude.{nat_le}
 use Rattle.std.specs.List.{list_all}
 use Rattle.std.proofs.Math.Nat.{pow-suc}
-use Rattle.std.proofs.lemmas.Bool.{true≢false}
+use Rattle.std.proofs.lemmas.Bool.{true≢false, and_parts}
 use Rattle.std.proofs.lemmas.Bool.Decides.{nat_tests}
 use Rattle.std.proofs.lemmas.List.Folds.{list_all_at}
-use Rattle.change_lines.specs.Number.{is_digit}
-use Rattle.change_lines.proofs.TestLemmas.{right}
-use Rattle.change_lines.proofs.NumberLemmas.{one_digit_more}
-use Rattle.change_lines.proofs.number.value_of_few.Goals as goal
+use Rattle.byte_text.specs.Number.{is_digit}
+use Rattle.byte_text.proofs.NumberLemmas.{one_digit_more}
+use Rattle.byte_text.proofs.number.value_of_few.Goals as goal
 
 -- ---- powers of ten
 
@@ -31,7 +30,7 @@ few_fit i l =
 -- ---- digits
 
 digit_fits : (b : ℕ) → is_digit b ≡ true → b - 48 ≤ 9
-digit_fits b h = let most : nat_le b 57 ≡ true = right (nat_le 48 b) (nat_le b 57) h in let l : b ≤ 57 = grind (arith, nat_tests) in omega (arith, l)
+digit_fits b h = let most : nat_le b 57 ≡ true = (and_parts (nat_le 48 b) (nat_le b 57) h).1 in let l : b ≤ 57 = grind (arith, nat_tests) in omega (arith, l)
 
 below_ten : (text : List ℕ) (i : ℕ) → list_all is_digit text ≡ true → i < length text → get_or text i 0 - 48 ≤ 9
 below_ten text i all l =
