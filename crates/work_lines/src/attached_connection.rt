@@ -1,5 +1,5 @@
 //! The connection of a client.
-ghost use Rattle.std.specs.Prelude.{◌≡◌, List, [], ◌++◌, true, IfOk, IfSome, OnErr, MatchBool, drop, length};
+ghost use Rattle.std.specs.Prelude.{◌≡◌, ◌≤◌, List, [], ◌++◌, true, false, IfOk, IfSome, OnErr, MatchBool, drop, length};
 ghost use Rattle.bnc_ports.specs.Outgoing.{BeginsOf};
 ghost use Rattle.irc_line.specs.Stream.{Item};
 ghost use Rattle.work_lines.specs.Incoming.{AreGiven, Lost};
@@ -163,6 +163,48 @@ impl<X: Attachment, C: Connection> AttachedConnection<X, C> {
         false
     }
 
+    /// Offers lines as they come, many at once. Where nothing is owed before them and they are long they go out from where they
+    /// lie, by one write, and what the connection doesn't take of them is owed. False where they don't fit, as of one line
+    /// ([`AttachedConnection::offer`]): none of them is handed over then.
+    pub fn tell<K: Kind, P: Carries<K, Connection = C>>(
+        &mut self,
+        port: &mut P,
+        lines: &[u8],
+    ) -> bool
+        requires { ∥ BeginsOf (K.may_be_told self.old.traffic.received)
+            (handed self.old.traffic ++ lines.now) ∥₁ }
+        ensures handed { MatchBool result
+            (handed self.new.traffic ≡ handed self.old.traffic ++ lines.now)
+            (handed self.new.traffic ≡ handed self.old.traffic) }
+        ensures waiting { self.new.waiting ≡ self.old.waiting }
+        ensures received { self.new.traffic.received ≡ self.old.traffic.received }
+    {
+        self.tell_straight::<K, P>(port, lines) || self.offer::<K, P>(port, lines)
+    }
+
+    // The same of lines that go out from where they lie. False where they may not, or the connection takes none.
+    fn tell_straight<K: Kind, P: Carries<K, Connection = C>>(
+        &mut self,
+        port: &mut P,
+        lines: &[u8],
+    ) -> bool
+        requires { ∥ BeginsOf (K.may_be_told self.old.traffic.received)
+            (handed self.old.traffic ++ lines.now) ∥₁ }
+        ensures handed { MatchBool result
+            (handed self.new.traffic ≡ handed self.old.traffic ++ lines.now)
+            (handed self.new.traffic ≡ handed self.old.traffic) }
+        ensures waiting { self.new.waiting ≡ self.old.waiting }
+        ensures received { self.new.traffic.received ≡ self.old.traffic.received }
+    {
+        let count = lines.len();
+        if self.attachment.owed() != 0 || count < LONG || count > self.attachment.bound() {
+            return false;
+        }
+        let writable = &mut self.is_writable;
+        let owed = &mut self.attachment;
+        send_straight::<K, X, C, P>(port, &mut self.connection, writable, owed, lines)
+    }
+
     // Writes once, so that less is owed. False where nothing is owed, or the connection takes nothing.
     fn make_room<K: Kind, P: Carries<K, Connection = C>>(&mut self, port: &mut P) -> bool
         requires { ∥ BeginsOf (K.may_be_told self.old.traffic.received)
@@ -314,6 +356,31 @@ impl<X: Attachment, C: Connection> AttachedConnection<X, C> {
             other => other,
         }
     }
+}
+
+// Sends the first of these bytes by one write, and owes the others. False where the connection takes none, and nothing changes.
+fn send_straight<K: Kind, X: Attachment, C: Connection, P: Carries<K, Connection = C>>(
+    port: &mut P,
+    connection: &mut C,
+    is_writable: &mut bool,
+    attachment: &mut X,
+    bytes: &[u8],
+) -> bool
+    requires owed { (X.state attachment.old).owed ≡ [] }
+    requires fits { length bytes.now ≤ (X.state attachment.old).bound }
+    requires told { ∥ BeginsOf (K.may_be_told (C.received connection.old))
+        (C.sent connection.old ++ bytes.now) ∥₁ }
+    ensures went { result ≡ true → C.sent connection.new ++ (X.state attachment.new).owed
+        ≡ C.sent connection.old ++ bytes.now }
+    ensures stayed { result ≡ false → (C.sent connection.new ≡ C.sent connection.old)
+        × (attachment.new ≡ attachment.old) }
+    ensures received { C.received connection.new ≡ C.received connection.old }
+{
+    let Ok(count) = send::<K, C, P>(port, connection, is_writable, bytes) else {
+        return false;
+    };
+    // (what is left of them fits)
+    attachment.offer(&bytes[count..]).is_ok()
 }
 
 // The lines that wait where they all fit, or else the first of them, where it may be offered now.
