@@ -1,6 +1,6 @@
 -- What was told in a course is told by right, and how a course goes on.
-use Rattle.std.proofs.Common.{◌≡◌, ℕ, Bool, true, false, MatchBool, List, [], ◌∷◌, ◌++◌, Option, None, Some, refl, sym, ◌∙◌, ap, subst, append-nil}
-use Rattle.std.specs.Prelude.{not, ◌||◌, option_to_list}
+use Rattle.std.proofs.Common.{◌≡◌, ℕ, Bool, true, false, MatchBool, List, [], ◌∷◌, ◌++◌, Option, None, Some, refl, sym, ◌∙◌, ap, subst, append-nil, append_assoc}
+use Rattle.std.specs.Prelude.{not, cond, ◌||◌, option_to_list, filter, flat_map}
 use Rattle.std.specs.Str.{bytes_eq}
 use Rattle.std.proofs.Math.Logic.{∥∥₁_map}
 use Rattle.std.proofs.lemmas.Bool.{and_parts}
@@ -23,10 +23,12 @@ use Rattle.client_session.specs.Hearers.{hears_message, hears_line, is_recipient
 use Rattle.client_session.specs.Session.{new, step, too_long, facts_in, session_after}
 use Rattle.client_session.specs.Step.{Step}
 use Rattle.bnc_ports.specs.Outgoing.{BeginsOf}
+use Rattle.passed_lines.specs.declared.live.Live.{Live}
 use Rattle.passed_lines.specs.Passing.{IsPassedOn, IsNickOf, IsLive}
 use Rattle.work_lines.specs.Incoming.{Unread, Kept, Lost, next_of, without_next, AreGiven}
 use Rattle.work_lines.proofs.CallerLemmas.{none_given, given_next, loses, first_items}
 use Rattle.work_lines.specs.Outgoing.{Told, Moves, handed}
+use Rattle.client_connection.specs.HeardText.{hears, heard_text}
 use Rattle.client_connection.specs.Nick.{nick_line}
 use Rattle.client_connection.specs.Question.{IsAnswerTo, IsUnanswerable}
 use Rattle.client_connection.specs.Served.{IsServed}
@@ -175,13 +177,47 @@ of_network {given_account} {given_network} {account} {network} facts to a n hear
 
 -- ---- what is told as it comes
 
--- a message came that the session hears: its line was handed over, or didn't fit
-pub came : {heard : List Item} {session : Stage} {todo : List Effect} {before : Told} {nick : List ℕ} (facts : Facts) (account network : List ℕ) (is_own : Bool) (message : Record) (text : List ℕ) (fits : Bool) (after : Told) → facts_in session ≡ Some facts → hears_message is_own message facts ≡ true → (IsLive account network is_own message → (message.buffer.account ≡ account) × (message.buffer.network ≡ network)) → ∥ IsLive account network is_own message ∥₁ → text ≡ live_text facts.caps message → after.waiting ≡ before.waiting → MatchBool fits (handed after.traffic ≡ handed before.traffic ++ text) (handed after.traffic ≡ handed before.traffic) → Course IsByRight heard session todo before nick → Course IsByRight heard session todo after nick
-came {heard} {session} {todo} {before} facts account network is_own message text true after knows hears named live is_text waits went c =
-    Comes facts message is_own after knows hears
-    (∥∥₁_map live (λ l. live_is_own facts account network is_own message hears (named l).0 (named l).1 l))
-    (waits, went ∙ ap (λ (t : List ℕ). handed before.traffic ++ t) is_text) c
-came facts account network is_own message text false after knows hears named live is_text waits went c = stayed after waits went c
+-- a message that a session with a server puts is in a buffer of its network
+abbrev pub IsOfItsNetwork : Type 0
+IsOfItsNetwork = (account network : List ℕ) (is_own : Bool) (message : Record) → IsLive account network is_own message → (message.buffer.account ≡ account) × (message.buffer.network ≡ network)
+
+-- the lines of these messages
+abbrev pub lines_of : Facts → List Live → List ℕ
+lines_of facts messages = flat_map (λ (live : Live). live_text facts.caps live.message.now) messages
+
+-- One message came, and others behind it. Its line is handed over, where the session hears it, and then theirs.
+first_came : {heard : List Item} {session : Stage} {todo : List Effect} {nick : List ℕ} (facts : Facts) (named : IsOfItsNetwork) (live : Live) (rest : List Live) (before after : Told) → facts_in session ≡ Some facts → after.waiting ≡ before.waiting → (is_heard : Bool) → hears facts live ≡ is_heard → handed after.traffic ≡ handed before.traffic ++ lines_of facts (cond is_heard (live ∷ rest) rest) → ((middle : Told) → after.waiting ≡ middle.waiting → handed after.traffic ≡ handed middle.traffic ++ lines_of facts rest → Course IsByRight heard session todo middle nick → Course IsByRight heard session todo after nick) → Course IsByRight heard session todo before nick → Course IsByRight heard session todo after nick
+first_came facts named live rest before after knows waits true hears went others c =
+    let text = live_text facts.caps live.message.now in
+    let middle : Told = record { traffic = record { received = before.traffic.received; sent = handed before.traffic ++ text; owed = [] }; waiting = before.waiting } in
+    let own = ∥∥₁_map live.is_live (λ l. let names = named live.account.now live.network.now live.is_own live.message.now l in
+    live_is_own facts live.account.now live.network.now live.is_own live.message.now hears names.0 names.1 l) in
+    let handed_is : handed middle.traffic ≡ handed before.traffic ++ text = append-nil (handed before.traffic ++ text) in
+    others middle waits
+    (went ∙ sym (append_assoc (handed before.traffic) text (lines_of facts rest)) ∙ ap (λ (l : List ℕ). l ++ lines_of facts rest) (sym handed_is))
+    (Comes facts live.message.now live.is_own middle knows hears own (refl, handed_is) c)
+first_came facts named live rest before after knows waits false hears went others c = others before waits went c
+
+-- Messages came: the lines of those that the session hears are handed over.
+all_came : {heard : List Item} {session : Stage} {todo : List Effect} {nick : List ℕ} (facts : Facts) (named : IsOfItsNetwork) (messages : List Live) (before after : Told) → facts_in session ≡ Some facts → after.waiting ≡ before.waiting → handed after.traffic ≡ handed before.traffic ++ heard_text facts messages → Course IsByRight heard session todo before nick → Course IsByRight heard session todo after nick
+all_came facts named [] before after knows waits went c = stayed after waits (went ∙ append-nil (handed before.traffic)) c
+all_came facts named (live ∷ rest) before after knows waits went c =
+    first_came facts named live (filter (hears facts) rest) before after knows waits (hears facts live) refl went
+    (λ middle still further. all_came facts named rest middle after knows still further) c
+
+-- messages came, and what the session hears of them was handed over, or didn't fit
+pub messages_came : {heard : List Item} {session : Stage} {todo : List Effect} {before : Told} {nick : List ℕ} (facts : Facts) (named : IsOfItsNetwork) (messages : List Live) {text : List ℕ} → facts_in session ≡ Some facts → text ≡ heard_text facts messages → (fits : Bool) (after : Told) → after.waiting ≡ before.waiting → MatchBool fits (handed after.traffic ≡ handed before.traffic ++ text) (handed after.traffic ≡ handed before.traffic) → Course IsByRight heard session todo before nick → Course IsByRight heard session todo after nick
+messages_came {before = before} facts named messages knows is_text true after waits went c =
+    all_came facts named messages before after knows waits (went ∙ ap (λ (t : List ℕ). handed before.traffic ++ t) is_text) c
+messages_came facts named messages knows is_text false after waits went c = stayed after waits went c
+
+-- what was handed over so far, and what the session hears of messages that came
+pub told_with_messages : {unread : Unread} {session : Stage} {todo : List Effect} {told : Told} {nick : List ℕ} (facts : Facts) (named : IsOfItsNetwork) (messages : List Live) {text : List ℕ} → facts_in session ≡ Some facts → text ≡ heard_text facts messages → IsServed unread session todo told nick → BeginsOf (IsToldByRight told.traffic.received) (handed told.traffic ++ text)
+told_with_messages {unread} {session} {todo} {told} {nick} facts named messages {text} knows is_text served =
+    let after : Told = record { traffic = record { received = told.traffic.received; sent = handed told.traffic ++ text; owed = [] }; waiting = told.waiting } in
+    let handed_is : handed after.traffic ≡ handed told.traffic ++ text = append-nil (handed told.traffic ++ text) in
+    let later : IsServed unread session todo after nick = goes_on refl (λ h. messages_came facts named messages knows is_text true after refl handed_is) served in
+    subst (BeginsOf (IsToldByRight told.traffic.received)) handed_is (told_so_far later)
 
 -- a line was passed on to a session that hears it: it was handed over, or didn't fit
 pub relayed : {heard : List Item} {session : Stage} {todo : List Effect} {before : Told} {nick given_account given_network account network : List ℕ} (facts : Facts) (to : Recipients) (text : List ℕ) (fits : Bool) (after : Told) → facts_in session ≡ Some facts → given_account ≡ account → given_network ≡ network → hears_line given_account given_network to facts ≡ true → ∥ IsPassedOn account network to text ∥₁ → after.waiting ≡ before.waiting → MatchBool fits (handed after.traffic ≡ handed before.traffic ++ text) (handed after.traffic ≡ handed before.traffic) → Course IsByRight heard session todo before nick → Course IsByRight heard session todo after nick

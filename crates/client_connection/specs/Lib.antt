@@ -8,5 +8,6 @@ pub mod Course
 pub mod Said
 pub mod Own
 pub mod Marking
--- what only the proofs use of the code: a client as a worker has it
+-- what only the proofs use of the code: a client as a worker has it, and what it hears of messages that come at once
 pub mod Served
+pub mod HeardText

@@ -5,29 +5,15 @@ ghost use Rattle.client_session.specs.Session.{facts_in};
 
 use crate::client::Client;
 use crate::delivery::{Delivery, delivery_of};
+use crate::heard_text::HeardText;
 use crate::kind::ToClient;
-use crate::live_text::LiveText;
 use attach::Attachment;
 use bnc_ports::{Carries, Connection, Reason};
 use chat_query::Facts;
-use client_session::{Session, hears_line, hears_message};
+use client_session::{Session, hears_line};
 use irc_caps::Recipients;
+use passed_lines::Passed;
 use passed_lines::laws::what_is_put_is_of_its_network;
-use passed_lines::{Live, Passed};
-
-// The facts of the session, where it hears the message.
-fn message_hearer<'a>(session: &'a Session, message: &Live<'_>) -> Option<&'a Facts>
-    ensures facts { IfSome result (λ f. facts_in session.now ≡ Some f.now) }
-    ensures hears { IfSome result (λ f.
-        spec.hears_message message.now.is_own message.now.message.now f.now ≡ true) }
-{
-    let facts = session.facts()?;
-    if hears_message(message.is_own, message.message, facts) {
-        Some(facts)
-    } else {
-        None
-    }
-}
 
 /// The facts of the session, where it is of that account and network, and one of the recipients.
 pub(crate) fn recipient<'a>(
@@ -49,21 +35,66 @@ pub(crate) fn recipient<'a>(
 }
 
 impl<X: Attachment, C: Connection> Client<X, C> {
-    /// A message of the network comes. Where the session hears it, the client is told.
-    pub fn take_message<P: Carries<ToClient, Connection = C>>(
+    // Messages of the network come at once. The client is told what the session hears of them, all of it or nothing.
+    fn take_text<P: Carries<ToClient, Connection = C>>(
         &mut self,
         port: &mut P,
-        live: &mut LiveText<'_>,
+        text: &mut HeardText<'_>,
     ) -> Delivery {
-        // The network that it is of is that of its buffer.
+        // The network that a message is of is that of its buffer.
         what_is_put_is_of_its_network();
-        let Some(facts) = message_hearer(&self.session, live.message) else {
+        let Some(facts) = self.session.facts() else {
             return Delivery::Skipped;
         };
-        let Ok(()) = live.write(facts.caps) else {
+        let Ok(()) = text.write(facts) else {
             return Delivery::Refused(Reason::NoMemory);
         };
-        delivery_of(self.connection.offer::<ToClient, P>(port, live.as_bytes()))
+        let lines = text.as_bytes();
+        if lines.is_empty() {
+            return Delivery::Skipped;
+        }
+        delivery_of(self.connection.tell::<ToClient, P>(port, lines))
+    }
+
+    // The same, message by message, up to one that the client can't be told.
+    fn take_each<P: Carries<ToClient, Connection = C>>(
+        &mut self,
+        port: &mut P,
+        text: &HeardText<'_>,
+    ) -> Delivery {
+        let messages = text.messages();
+        let mut line = text.beside();
+        let mut told = Delivery::Skipped;
+        for at in 0..messages.len() {
+            line.turn_to(&messages[at..at + 1]);
+            match self.take_text(port, &mut line) {
+                Delivery::Skipped => {}
+                Delivery::Taken => told = Delivery::Taken,
+                Delivery::Refused(reason) => return Delivery::Refused(reason),
+            }
+        }
+        told
+    }
+
+    /// Whether the text is written, for sessions such as this one.
+    pub fn shares_text(&self, text: &HeardText<'_>) -> bool {
+        match self.session.facts() {
+            Some(facts) => text.is_for(facts),
+            None => false,
+        }
+    }
+
+    /// Messages of the network come at once. Where the session hears some, the client is told these. Where they don't fit all
+    /// together, or there is no memory for that, it is told one after the other, up to one that it can't be told.
+    pub fn take_messages<P: Carries<ToClient, Connection = C>>(
+        &mut self,
+        port: &mut P,
+        text: &mut HeardText<'_>,
+    ) -> Delivery {
+        match self.take_text(port, text) {
+            Delivery::Refused(_) if text.messages().len() > 1 => self.take_each(port, text),
+            delivery => delivery,
+        }
     }
 
     /// A line of a server is passed on. Where the session hears it, the client is told.

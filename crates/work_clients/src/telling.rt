@@ -2,31 +2,30 @@
 use crate::admitted::note;
 use crate::clients::Clients;
 use crate::registrations::Registration;
-use crate::untold::tell_line;
+use crate::untold::tell_each;
 use attach::Attachment;
 use bnc_ports::{Carries, Connection};
-use client_connection::{LiveText, ToClient};
+use client_connection::ToClient;
 use passed_lines::{Live, NetworkEntry, Passed};
-use std::mem;
+use std::slice;
 use worker_io::Context;
 
-/// So many sessions of a network are told each message at once.
-const FEW: usize = 2;
-
 impl<X: Attachment, C: Connection> Clients<X, C> {
-    /// A message is to be told to the sessions of the network that hear it. Where these are more than a few it waits for those
-    /// behind it, until [`Clients::tell_untold`] or until anything else is told.
+    /// A message is to be told to the sessions of the network that hear it. It waits for those behind it, until
+    /// [`Clients::tell_untold`] or until anything else is told.
     pub fn tell_message<P: Carries<ToClient, Connection = C>>(
         &mut self,
         context: &mut Context<P>,
         network: usize,
         message: &Live<'_>,
     ) {
-        if self.registrations.of(network, 0).len() > FEW && self.untold.add(network, message) {
+        if self.registrations.of(network, 0).is_empty() || self.untold.add(network, message) {
             return;
         }
         self.tell_untold(context);
-        self.tell_live(context, network, message);
+        if !self.untold.add(network, message) {
+            self.tell_live(context, network, message);
+        }
     }
 
     /// The messages that wait are told to the sessions that hear them.
@@ -48,7 +47,7 @@ impl<X: Attachment, C: Connection> Clients<X, C> {
         );
     }
 
-    // The line of a message is told to the sessions of the network that hear it.
+    // A message is told to the sessions of the network that hear it.
     fn tell_live<P: Carries<ToClient, Connection = C>>(
         &mut self,
         context: &mut Context<P>,
@@ -58,18 +57,17 @@ impl<X: Attachment, C: Connection> Clients<X, C> {
         let Clients {
             connections,
             registrations,
-            room,
+            untold,
             ..
         } = self;
-        let lent = mem::replace(room, Vec::new(context.view.alloc));
-        let mut text = LiveText::new(message, lent);
-        tell_line(
+        tell_each(
+            context.view.alloc,
             connections,
             registrations.of(network, 0),
             &mut context.port,
-            &mut text,
+            slice::from_ref(message),
+            &mut untold.rooms,
         );
-        *room = text.into_room();
     }
 
     /// A line is passed on to sessions of the network.

@@ -4,24 +4,46 @@ use crate::registrations::Registration;
 use attach::Attachment;
 use bnc_ports::{Carries, Connection};
 use byte_text::NoMemory;
-use client_connection::{Client, Delivery, LiveText, ToClient};
+use client_connection::{HeardText, ToClient};
 use passed_lines::{Live, LiveMessage};
 use std::alloc::{AllocError, Global};
+use std::mem;
 use worker_io::Connections;
 
 /// So many messages wait at most.
 const MOST: usize = 256;
 
-/// So much room is kept for a line.
-const KEPT: usize = 1024;
+/// The lines of those that wait have about so many bytes at most, and those of one message more.
+const LONG: usize = 32_768;
+
+/// About so many bytes of a line are neither its message's text nor its client-only tags.
+const REST: usize = 100;
+
+/// So much room is kept for what a session hears.
+const KEPT: usize = 65_536;
+
+/// Room for what sessions hear of messages: for sessions of the kind that was told last, and of another one, which hold other
+/// capabilities.
+#[derive(Drop)]
+pub(crate) struct Rooms {
+    latest: Vec<u8>,
+    other: Vec<u8>,
+}
 
 /// Messages of one network that wait to be told, oldest first.
 #[derive(Drop)]
 pub(crate) struct Untold {
     network: usize,
     messages: Vec<LiveMessage>,
-    // room for their lines
-    rooms: Vec<Vec<u8>>,
+    // about how many bytes their lines have
+    length: usize,
+    pub(crate) rooms: Rooms,
+}
+
+// About how many bytes the line of a message has.
+fn length_of(live: &Live<'_>) -> usize {
+    let (text, tags) = (live.message.body(), live.message.tags());
+    text.len().saturating_add(tags.len()).saturating_add(REST)
 }
 
 impl Untold {
@@ -30,7 +52,11 @@ impl Untold {
         Untold {
             network: 0,
             messages: Vec::new(alloc),
-            rooms: Vec::new(alloc),
+            length: 0,
+            rooms: Rooms {
+                latest: Vec::new(alloc),
+                other: Vec::new(alloc),
+            },
         }
     }
 
@@ -43,19 +69,26 @@ impl Untold {
         }
     }
 
+    // Whether none may wait behind the others.
+    fn is_full(&self) -> bool {
+        self.messages.len() >= MOST || self.length >= LONG
+    }
+
     /// A message of a network waits behind the others. False where these are of another network or many, or for want of memory:
     /// it doesn't wait then.
     pub(crate) fn add(&mut self, network: usize, message: &Live<'_>) -> bool {
         if self.messages.is_empty() {
             self.network = network;
+            self.length = 0;
         }
-        if self.network != network || self.messages.len() >= MOST {
+        if self.network != network || self.is_full() {
             return false;
         }
-        match LiveMessage::new(message) {
-            Ok(message) => self.messages.push(message).is_ok(),
-            Err(NoMemory) => false,
-        }
+        let Ok(untold) = LiveMessage::new(message) else {
+            return false;
+        };
+        self.length = self.length.saturating_add(length_of(message));
+        self.messages.push(untold).is_ok()
     }
 
     /// Those that wait are told to these sessions of their network, each in order, where they hear them. None waits then.
@@ -71,105 +104,51 @@ impl Untold {
             rooms,
             ..
         } = self;
-        if tell_all(alloc, connections, those, port, messages, rooms).is_err() {
+        if let Ok(lent) = lend_all(alloc, messages) {
+            tell_each(alloc, connections, those, port, &lent, rooms);
+        } else {
             for message in messages.iter() {
-                let live = message.lend();
-                let mut text = LiveText::new(&live, Vec::new(alloc));
-                tell_line(connections, those, port, &mut text);
+                tell_each(alloc, connections, those, port, &[message.lend()], rooms);
             }
         }
         messages.clear();
     }
 }
 
-// The messages are told to these sessions. For want of memory none is.
-fn tell_all<X: Attachment, C: Connection, P: Carries<ToClient, Connection = C>>(
+// The messages, lent.
+fn lend_all(alloc: Global, messages: &[LiveMessage]) -> Result<Vec<Live<'_>>, AllocError> {
+    messages.iter().map(|message| message.lend()).collect(alloc)
+}
+
+/// The messages are told to these sessions, one session after the other: what each hears of them. That is written once for
+/// sessions that hear the same, where these are of no more than two kinds.
+pub(crate) fn tell_each<X: Attachment, C: Connection, P: Carries<ToClient, Connection = C>>(
     alloc: Global,
     connections: &mut Connections<Admitted<X, C>>,
     those: &[Registration],
     port: &mut P,
-    messages: &[LiveMessage],
-    rooms: &mut Vec<Vec<u8>>,
-) -> Result<(), AllocError> {
-    let mut lent = Vec::with_capacity(alloc, messages.len())?;
-    for message in messages {
-        lent.push(message.lend())?;
+    messages: &[Live<'_>],
+    rooms: &mut Rooms,
+) {
+    let mut text = HeardText::new(messages, mem::replace(&mut rooms.latest, Vec::new(alloc)));
+    let mut other = HeardText::new(messages, mem::replace(&mut rooms.other, Vec::new(alloc)));
+    for Registration { key, .. } in those {
+        if let Some(mut found) = connections.find_at(*key) {
+            let client = &mut found.served().client;
+            if !client.shares_text(&text) {
+                mem::swap(&mut text, &mut other);
+            }
+            let delivery = client.take_messages(port, &mut text);
+            note(&mut found, delivery);
+        }
     }
-    let mut texts = texts_of(alloc, &lent, rooms)?;
-    tell_each(connections, those, port, &mut texts);
-    for text in texts {
-        keep(rooms, text.into_room());
-    }
-    Ok(())
+    keep(&mut rooms.latest, text.into_room());
+    keep(&mut rooms.other, other.into_room());
 }
 
-// A line for each of the messages, not written yet.
-fn texts_of<'a>(
-    alloc: Global,
-    lent: &'a [Live<'a>],
-    rooms: &mut Vec<Vec<u8>>,
-) -> Result<Vec<LiveText<'a>>, AllocError> {
-    let mut texts = Vec::with_capacity(alloc, lent.len())?;
-    for live in lent {
-        let room = match rooms.pop() {
-            Some(room) => room,
-            None => Vec::new(alloc),
-        };
-        texts.push(LiveText::new(live, room))?;
-    }
-    Ok(texts)
-}
-
-// Keeps room for a line, unless it is for a long one. Where there is no memory for that, it is let go.
-fn keep(rooms: &mut Vec<Vec<u8>>, room: Vec<u8>) {
+// Keeps room for another text, unless it is very large.
+fn keep(kept: &mut Vec<u8>, room: Vec<u8>) {
     if room.capacity() <= KEPT {
-        let _ = rooms.push(room);
+        *kept = room;
     }
-}
-
-/// The line of a message is told to these sessions, where they hear it.
-pub(crate) fn tell_line<X: Attachment, C: Connection, P: Carries<ToClient, Connection = C>>(
-    connections: &mut Connections<Admitted<X, C>>,
-    those: &[Registration],
-    port: &mut P,
-    live: &mut LiveText<'_>,
-) {
-    for Registration { key, .. } in those {
-        if let Some(mut found) = connections.find_at(*key) {
-            let delivery = found.served().client.take_message(port, live);
-            note(&mut found, delivery);
-        }
-    }
-}
-
-// The lines are told to one session after the other, so that what belongs to a session is looked up once.
-fn tell_each<X: Attachment, C: Connection, P: Carries<ToClient, Connection = C>>(
-    connections: &mut Connections<Admitted<X, C>>,
-    those: &[Registration],
-    port: &mut P,
-    texts: &mut [LiveText<'_>],
-) {
-    for Registration { key, .. } in those {
-        if let Some(mut found) = connections.find_at(*key) {
-            let delivery = tell_one(&mut found.served().client, port, texts);
-            note(&mut found, delivery);
-        }
-    }
-}
-
-// The lines are told to one session, up to one that it can't be told.
-fn tell_one<X: Attachment, C: Connection, P: Carries<ToClient, Connection = C>>(
-    client: &mut Client<X, C>,
-    port: &mut P,
-    texts: &mut [LiveText<'_>],
-) -> Delivery {
-    let mut told = Delivery::Skipped;
-    for live in texts {
-        match client.take_message(port, live) {
-            Delivery::Skipped => {}
-            Delivery::Taken => told = Delivery::Taken,
-            Delivery::Refused(reason) => return Delivery::Refused(reason),
-        }
-    }
-    told
 }
