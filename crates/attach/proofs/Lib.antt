@@ -1,3 +1,1 @@
-mod BoxLemmas
 mod HallLemmas
-mod StepLemmas

@@ -1,11 +1,6 @@
--- What a reader must believe: clients, their places, the steps that seats make, and the laws.
-pub mod Attachment
+-- What a reader must believe: clients that count or record, and halls.
 pub mod CountingClient
 pub mod Recorder
 pub mod Hall
-pub mod Places
-pub mod Hold
-pub mod Steps
-pub mod Laws
 -- What only the proofs use of the code: how values are kept as ghosts.
 pub mod Codes

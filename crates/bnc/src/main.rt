@@ -14,9 +14,9 @@ ghost use Rattle.std.specs.Process.{exit_status};
 ghost use Rattle.bnc_commands.specs.Status.{status_of};
 
 use crate::node::run_prepared;
-use attach::{Boxed, RingClient};
 use bnc_commands::{End, end_of_program};
 use bnc_work::WorkEnd;
+use client_places::{Boxed, RingClient};
 use node_config::Config;
 use node_intake::{Prepared, ServeFault, prepare};
 use std::io::BufWriter;

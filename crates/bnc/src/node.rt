@@ -2,10 +2,10 @@
 //! who takes connections in, is `node_intake`; what a worker does is `bnc_work`.
 ghost use Rattle.shared_node.specs.Names.{IsNamed};
 
-use attach::{Attachment, RingClient};
 use bnc_ports::{Carries, Gate};
 use bnc_work::{WorkEnd, WorkPort, WorkerConfig, work_all};
 use chat_change::Change;
+use client_places::{Attachment, RingClient};
 use node_intake::{Intake, ServeFault, begin_node};
 use shared_node::{Naming, Unnamed};
 use std::io::Eprint;

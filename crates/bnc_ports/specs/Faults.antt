@@ -1,6 +1,6 @@
 -- What is told where a part of a node can't begin: the part's own fault, by the same name.
-use Rattle.attach.specs.declared.places.PlacesFault.{PlacesFault}
-use Rattle.attach.specs.declared.places.PlacesFault.TheVariants as places_case
+use Rattle.client_places.specs.declared.places.PlacesFault.{PlacesFault}
+use Rattle.client_places.specs.declared.places.PlacesFault.TheVariants as places_case
 use Rattle.bnc_ports.specs.declared.serve_fault.ServeFault.{ServeFault}
 use Rattle.bnc_ports.specs.declared.serve_fault.ServeFault.TheVariants.{NoMemory, NoThread, BadCount}
 use Rattle.bnc_ports.specs.declared.threads.StartFault.{StartFault}

@@ -2,7 +2,7 @@
 ghost use Rattle.std.specs.Prelude.{◌≡◌, [], IfSome};
 
 use crate::waiting::Waiting;
-use attach::{Attachment, Boxed};
+use client_places::{Attachment, Boxed};
 use crossbeam_channel::Receiver;
 use std::sync::Wait;
 

@@ -2,8 +2,8 @@
 ghost use Rattle.std.specs.Prelude.{◌≡◌, ◌≢◌, ◌↔◌};
 
 use crate::threads::StartFault;
-use attach::PlacesFault;
 use byte_text::NoMemory;
+use client_places::PlacesFault;
 use std::alloc::AllocError;
 use std::io;
 use std::io::ErrorKind;

@@ -1,6 +1,6 @@
 //! What other threads hand in to a worker: mail of other workers, and those who connect.
-use attach::{Attachment, Boxed};
 use bnc_ports::{Arrival, PortFault};
+use client_places::{Attachment, Boxed};
 use crossbeam_channel::{SendError, Sender};
 use mio::Waker;
 use mio::net::TcpStream;

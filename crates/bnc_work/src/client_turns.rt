@@ -2,9 +2,9 @@
 use crate::marker_turns::{ask_gate, tell_mark_of};
 use crate::work_port::WorkPort;
 use crate::worker::Worker;
-use attach::Attachment;
 use bnc_ports::Reason;
 use chat_change::Change;
+use client_places::Attachment;
 use passed_lines::mail_said;
 use shared_node::PutFault;
 use work_clients::{ClientEffect, ClientPut, ClientStep};

@@ -1,7 +1,7 @@
 //! Sessions are told of read markers (IRCv3 draft/read-marker).
-use attach::Attachment;
 use bnc_ports::{Carries, Connection, Port};
 use chat_change::Buffer;
+use client_places::Attachment;
 use passed_lines::{Mail, News, mail_others};
 use work_clients::{Clients, ToClient};
 use worker_io::{Context, NodeView, WorkEnd};

@@ -2,7 +2,7 @@
 use crate::marker_turns::tell_risen;
 use crate::work_port::WorkPort;
 use crate::worker::Worker;
-use attach::Attachment;
+use client_places::Attachment;
 use passed_lines::Mail;
 use peer_session::changes_of;
 use work_peers::PeerStep;

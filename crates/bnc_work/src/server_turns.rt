@@ -3,9 +3,9 @@ use crate::marker_turns::tell_mark_to_all;
 use crate::standings::spread;
 use crate::work_port::WorkPort;
 use crate::worker::Worker;
-use attach::Attachment;
 use bnc_ports::Reason;
 use byte_text::NoMemory;
+use client_places::Attachment;
 use passed_lines::{
     Deed, News, ServerEffects, ServerPut, is_another_behind, mail_line, mail_others,
 };

@@ -1,6 +1,6 @@
 //! How the sessions with networks' servers stand, as all workers know it.
-use attach::Attachment;
 use bnc_ports::{Carries, Connection, Port};
+use client_places::Attachment;
 use passed_lines::{Mail, NetworkEntry, News, mail_others};
 use work_clients::{Clients, ToClient};
 use work_servers::Standing;

@@ -1,8 +1,8 @@
 //! All workers of a node, each on a thread of its own.
 use crate::work_port::WorkPort;
 use crate::worker::try_work;
-use attach::Attachment;
 use bnc_ports::{Carries, Gate, StartFault, each_in_a_thread};
+use client_places::Attachment;
 use shared_node::{Naming, Pass, SharedNode};
 use std::sync::Wait;
 use std::thread::Threads;

@@ -2,10 +2,10 @@
 use crate::marker_turns::tell_mark;
 use crate::standings::{spread, tell_entry};
 use crate::work_port::WorkPort;
-use attach::Attachment;
 use bnc_ports::{Carries, Connection, Dial, Gate, Happening, Port};
 use byte_text::NoMemory;
 use chat_change::Moment;
+use client_places::Attachment;
 use passed_lines::{Mail, is_another_behind, keep_entry};
 use peer_lines::NodeName;
 use shared_node::{Naming, NodeTaker, Pass, SharedNode};

@@ -2,10 +2,10 @@
 ghost use Rattle.std.specs.Prelude.{◌≡◌, [], IfOk, OnErr, IfSome, drop};
 ghost use Rattle.client_connection.specs.Served.{IsServed};
 
-use attach::Attachment;
 use bnc_ports::Connection;
 use byte_text::Text;
 use chat_query::Facts;
+use client_places::Attachment;
 use client_session::{Effect, Session};
 use work_lines::{AttachedConnection, Input};
 use worker_io::NodeView;

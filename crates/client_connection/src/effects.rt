@@ -5,10 +5,10 @@ ghost use Rattle.client_connection.specs.Course.{IsAct};
 ghost use Rattle.client_connection.specs.Marking.{IsMarkedBy};
 
 use crate::client::Client;
-use attach::Attachment;
 use bnc_ports::{Connection, Reason};
 use byte_text::NoMemory;
 use chat_change::Change;
+use client_places::Attachment;
 use client_session::Effect;
 use client_session::laws::{each_reaches_its_own_past_alone, nothing_happens_before_the_door};
 use passed_lines::Said;

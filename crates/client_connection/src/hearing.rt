@@ -1,9 +1,9 @@
 //! What a client hears.
 use crate::client::Client;
 use crate::kind::ToClient;
-use attach::Attachment;
 use bnc_ports::{Carries, Connection, Reason};
 use chat_history::Peek;
+use client_places::Attachment;
 use client_session::StepFault;
 use irc_line::Next;
 use work_lines::Filled;

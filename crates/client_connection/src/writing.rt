@@ -1,8 +1,8 @@
 //! How what a client is owed goes out.
 use crate::client::Client;
 use crate::kind::ToClient;
-use attach::Attachment;
 use bnc_ports::{Carries, Connection};
+use client_places::Attachment;
 use work_lines::Pumped;
 
 /// So many writes a client has before the others have their turn.

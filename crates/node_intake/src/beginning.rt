@@ -5,9 +5,9 @@ ghost use Rattle.shared_node.specs.Names.{IsNamed};
 
 use crate::floors::put_floors;
 use crate::intake::Intake;
-use attach::{Attachment, RingClient};
 use bnc_ports::{Port, ServeFault};
 use chat_change::Change;
+use client_places::{Attachment, RingClient};
 use shared_node::{Naming, NodeFault, Pass, SharedNode, Unnamed};
 use std::alloc::{AllocError, Global};
 use std::io::Eprint;

@@ -1,11 +1,11 @@
 //! Where connections are taken in.
-use crate::client_places::ClientPlaces;
 use crate::listeners::{Caller, Entrance, Listeners};
+use crate::places::ClientPlaces;
 use crate::queue::{MOST_QUEUED, Queue};
 use crate::worker_intakes::WorkerIntakes;
-use attach::{Attachment, Boxed, RingClient, Stand};
 use bnc_ports::{Reason, ServeFault};
 use bnc_sockets::{WorkerIntake, monotonic_ms};
+use client_places::{Attachment, Boxed, RingClient, Stand};
 use passed_lines::Mail;
 use std::alloc::Global;
 use std::io::Eprint;

@@ -7,10 +7,10 @@
 #![tactic(auto)]
 
 mod beginning;
-mod client_places;
 mod floors;
 mod intake;
 mod listeners;
+mod places;
 mod prepared;
 mod queue;
 mod worker_configs;

@@ -3,9 +3,9 @@ ghost use Rattle.std.specs.Prelude.{◌≡◌, IfOk, map};
 ghost use Rattle.node_intake.specs.WorkerConfigs as spec;
 ghost use Rattle.node_config.specs.Beginnings.{directory_of, names_of};
 
-use attach::Attachment;
 use bnc_ports::Lobby;
 use byte_text::{NoMemory, Text};
+use client_places::Attachment;
 use node_config::{Config, Network, Peer};
 use peer_handshake::{PeerTerms, Terms};
 use peer_lines::{Life, LinkFault, SharedWord};

@@ -1,7 +1,7 @@
 //! The workers of a node, as those who connect are handed in to them.
-use crate::client_places::Handed;
-use attach::{Attachment, Boxed};
+use crate::places::Handed;
 use bnc_sockets::WorkerIntake;
+use client_places::{Attachment, Boxed};
 use mio::net::TcpStream;
 use passed_lines::Mail;
 use std::net::SocketAddr;

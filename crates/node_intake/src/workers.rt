@@ -1,11 +1,11 @@
 //! The workers of a node, before they begin, and the intakes for new connections.
 ghost use Rattle.std.specs.Prelude.{◌≡◌, IfOk, map};
 
-use crate::client_places::ClientPlaces;
+use crate::places::ClientPlaces;
 use crate::worker_configs::worker_config_of;
-use attach::Attachment;
 use bnc_ports::{Arrival, Lobby, ServeFault};
 use bnc_sockets::{Addresses, Delivery, Mailbox, Newcomer, SocketPort, WorkerIntake, waker_of};
+use client_places::Attachment;
 use crossbeam_channel::{Receiver, Sender, unbounded};
 use mio::Poll;
 use node_config::{Config, Network, Peer};

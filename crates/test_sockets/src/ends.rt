@@ -2,10 +2,10 @@
 ghost use Rattle.shared_node.specs.Names.{IsNamed};
 
 use crate::node::{listener, node};
-use attach::RingClient;
 use bnc_ports::{Carries, Gate};
 use bnc_work::{WorkEnd, WorkPort, WorkerConfig, work_all};
 use chat_change::Change;
+use client_places::RingClient;
 use node_intake::{Intake, Prepared, begin_node};
 use shared_node::{Naming, Unnamed};
 use std::io::Eprint;

@@ -1,5 +1,5 @@
 //! A node of two workers.
-use attach::RingClient;
+use client_places::RingClient;
 use node_config::{Config, read_config};
 use node_intake::{Prepared, prepare};
 use std::io::Eprint;

@@ -1,9 +1,9 @@
 //! The ports of two workers, and what comes over them.
 use crate::node::Machine;
-use attach::RingClient;
 use bnc_ports::{Happening, Port};
 use bnc_sockets::{Addresses, Delivery, Mailbox, Newcomer, SocketPort, WorkerIntake, waker_of};
 use bnc_work::Mail;
+use client_places::RingClient;
 use crossbeam_channel::{Receiver, Sender, unbounded};
 use mio::Poll;
 use std::net::SocketAddr;

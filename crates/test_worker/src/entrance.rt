@@ -1,6 +1,6 @@
 //! Where the clients of a port of memory come in.
-use attach::{Clerk, Places, RingClient, Stand};
 use bnc_ports::{Arrival, Lobby, Waiting};
+use client_places::{Clerk, Places, RingClient, Stand};
 use crossbeam_channel::Sender;
 use std::alloc::Global;
 use std::sync::Wait;

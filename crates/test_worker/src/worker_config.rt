@@ -1,11 +1,11 @@
 //! What a worker begins with. None is want of memory.
 use crate::setting::Setting;
-use attach::RingClient;
 use bnc_ports::Lobby;
 use bnc_work::WorkerConfig;
 use byte_text::Text;
 use chat_change::Change;
 use client_directory::{Account, Directory, Entry, Network};
+use client_places::RingClient;
 use gossip_delta::read_change;
 use gossip_link::{Life, NodeName, PeerTerms, SharedWord, Terms, Version};
 use std::alloc::Global;

@@ -2,9 +2,9 @@
 use crate::admitted::Admitted;
 use crate::clients::Clients;
 use crate::registrations::{Registration, Registrations};
-use attach::Attachment;
 use bnc_ports::{Carries, Connection, Event, Port, Reason};
 use client_connection::ToClient;
+use client_places::Attachment;
 use std::net::SocketAddr;
 use std::sync::Wait;
 use worker_io::{Closing, Context, PATIENCE, Timer};

@@ -1,8 +1,8 @@
 //! One client as it stands in the table.
 use crate::turned_away::TurnedAway;
-use attach::Attachment;
 use bnc_ports::{Connection, Reason};
 use client_connection::{Client, Delivery};
+use client_places::Attachment;
 use worker_io::{Closing, Found, Served};
 
 /// A client that was admitted.

@@ -4,9 +4,9 @@ ghost use Rattle.std.specs.Prelude.{◌≡◌, []};
 use crate::admitted::Admitted;
 use crate::registrations::{Registration, Registrations};
 use crate::untold::Untold;
-use attach::Attachment;
 use bnc_ports::{Connection, Lobby, Refusals};
 use client_connection::Client;
+use client_places::Attachment;
 use std::alloc::Global;
 use worker_io::{Connections, NodeView};
 

@@ -1,10 +1,10 @@
 //! What comes of clients' lines: what they are answered, and what else is done for them.
 use crate::admitted::note;
 use crate::clients::Clients;
-use attach::Attachment;
 use bnc_ports::{Carries, Connection, Port, Reason};
 use chat_batch::Past;
 use client_connection::{ClientEffect, ToClient};
+use client_places::Attachment;
 use passed_lines::Said;
 use std::alloc::Global;
 use worker_io::Context;

@@ -1,8 +1,8 @@
 //! Clients that give way to others before they are registered.
 use crate::clients::Clients;
-use attach::Attachment;
 use bnc_ports::{Carries, Connection, Reason};
 use client_connection::ToClient;
+use client_places::Attachment;
 use worker_io::Context;
 
 impl<X: Attachment, C: Connection> Clients<X, C> {

@@ -2,10 +2,10 @@
 //! meanwhile: so each secret that somebody tries takes a connection, and a second of its place.
 use crate::admitted::Admitted;
 use crate::clients::Clients;
-use attach::Attachment;
 use bnc_ports::{Connection, Port, Reason};
 use byte_text::NoMemory;
 use client_connection::ClientStep;
+use client_places::Attachment;
 use worker_io::Context;
 
 /// After so many milliseconds a client is told that it is turned away.

@@ -1,10 +1,10 @@
 //! The turns of clients.
 use crate::admitted::Admitted;
 use crate::clients::Clients;
-use attach::Attachment;
 use bnc_ports::{Carries, Connection, Reason};
 use chat_history::Peek;
 use client_connection::{ClientStep, ToClient};
+use client_places::Attachment;
 use work_lines::Pumped;
 use worker_io::{Closing, Context};
 

@@ -1,10 +1,10 @@
 //! Messages that wait to be told, so that each session is told many at once.
 use crate::admitted::{Admitted, note};
 use crate::registrations::Registration;
-use attach::Attachment;
 use bnc_ports::{Carries, Connection};
 use byte_text::NoMemory;
 use client_connection::{HeardText, ToClient};
+use client_places::Attachment;
 use passed_lines::{Live, LiveMessage};
 use std::alloc::{AllocError, Global};
 use std::mem;

@@ -10,9 +10,9 @@ use crate::feeders::Feeders;
 use crate::input::{Filled, Input};
 use crate::pending::Pending;
 use crate::send_queue::{Pumped, send};
-use attach::Attachment;
 use bnc_ports::{Carries, Connection, Kind};
 use byte_text::{NoMemory, find_byte};
+use client_places::Attachment;
 use std::alloc::Global;
 use std::marker::Model;
 

@@ -1,10 +1,10 @@
 //! What a worker has as it begins.
 use crate::node_view::NodeView;
 use crate::worker_config::WorkerConfig;
-use attach::Attachment;
 use bnc_ports::Lobby;
 use byte_text::NoMemory;
 use chat_change::Moment;
+use client_places::Attachment;
 use peer_lines::NodeName;
 use std::alloc::Global;
 use std::sync::Arc;

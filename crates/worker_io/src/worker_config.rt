@@ -1,8 +1,8 @@
 //! What a worker begins with, and how its work ends.
-use attach::Boxed;
 use bnc_ports::Lobby;
 use byte_text::Text;
 use client_directory::Directory;
+use client_places::Boxed;
 use peer_handshake::Terms;
 use peer_lines::NodeName;
 use upstream_session::Config;

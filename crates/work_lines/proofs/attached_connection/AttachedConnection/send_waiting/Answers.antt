@@ -1,6 +1,6 @@
 use Rattle.std.proofs.Common.{◌≡◌, ℕ, List, [], ◌++◌, length, take, drop, sym, ap, ◌∙◌, subst, arith}
 use Rattle.std.proofs.lemmas.List.{drop_all}
-use Rattle.attach.specs.Attachment.{AttachmentState}
+use Rattle.client_places.specs.Attachment.{AttachmentState}
 use Rattle.work_lines.specs.Outgoing.{Told, Moves}
 use Rattle.work_lines.proofs.SentLemmas.{on_ok, on_err, first_straight, all_straight}
 use Rattle.work_lines.proofs.attached_connection.AttachedConnection.send_waiting.Goals as goal

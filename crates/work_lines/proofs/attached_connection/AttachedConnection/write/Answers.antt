@@ -1,6 +1,6 @@
 use Rattle.std.proofs.Common.{ℕ, List, ◌++◌, length, take, drop, refl, sym, ap, ◌∙◌, append_assoc}
 use Rattle.std.proofs.Math.Logic.{∥∥₁_map}
-use Rattle.attach.specs.Attachment.{AttachmentState}
+use Rattle.client_places.specs.Attachment.{AttachmentState}
 use Rattle.work_lines.specs.Outgoing.{handed, Told}
 use Rattle.work_lines.proofs.BeginsLemmas.{first_part, over_same}
 use Rattle.work_lines.proofs.SentLemmas.{first_and_rest, settled}

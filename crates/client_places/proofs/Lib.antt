@@ -1,0 +1,2 @@
+mod BoxLemmas
+mod StepLemmas

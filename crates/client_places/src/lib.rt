@@ -1,0 +1,19 @@
+//! Where a server's clients stand, and what they are owed.
+//!
+//! [`Places`] makes a fixed number of places. A [`Clerk`] hands them out, the lowest free one first, and a [`Stand`] holds one
+//! of them until it is dropped, in whatever thread that is. An [`Attachment`] is a client at its stand, with the bytes that are
+//! owed to it, up to a bound: a [`RingClient`] has them in a ring, and a [`Boxed`] is an attachment of any kind. What holds of
+//! the places between any two steps of any threads is in [`laws`]. Read [`Attachment`] first.
+#![tactic(auto)]
+
+mod attachment;
+mod boxed;
+mod hold;
+pub mod laws;
+mod places;
+mod ring_client;
+
+pub use attachment::{Attachment, Overrun};
+pub use boxed::Boxed;
+pub use places::{ClaimFault, Clerk, MOST_PLACES, Places, PlacesFault, Stand};
+pub use ring_client::{NoRing, RingClient};

@@ -1,0 +1,152 @@
+//! The places of clients, and who gives way where each is taken.
+use bnc_ports::{ServeFault, Waiting};
+use client_places::{ClaimFault, Clerk, Places, Stand};
+use std::alloc::{AllocError, Global};
+
+// After so many milliseconds a client that was asked to go is taken to stay.
+const PATIENCE: u64 = 1000;
+
+// A client that was handed to a worker.
+#[derive(Clone, Copy)]
+pub(crate) struct Handed {
+    // The worker's place among the others.
+    pub(crate) worker: usize,
+    pub(crate) ticket: u64,
+}
+
+// Who was handed in last at a place.
+#[derive(Clone, Copy)]
+struct Seat {
+    handed: Handed,
+    // How many were handed in before, at any place.
+    before: u64,
+    // When it was asked to go, by the monotonic clock.
+    asked_at: Option<u64>,
+}
+
+// The places of clients, with who was handed in last at each: where each is taken these are those who are there.
+#[derive(Drop)]
+pub(crate) struct ClientPlaces {
+    clerk: Clerk,
+    waiting: Waiting,
+    seats: Vec<Option<Seat>>,
+    // How many were handed in.
+    count: u64,
+}
+
+// So many seats, at which nobody was.
+fn empty_seats(alloc: Global, places: usize) -> Result<Vec<Option<Seat>>, AllocError> {
+    let mut seats = Vec::new(alloc);
+    for _ in 0..places {
+        seats.push(None)?;
+    }
+    Ok(seats)
+}
+
+impl ClientPlaces {
+    // So many places, which are all free.
+    pub(crate) fn new(alloc: Global, places: usize) -> Result<ClientPlaces, ServeFault> {
+        let waiting = Waiting::new(alloc, places)?;
+        let clerk = Places::new(alloc, places)?;
+        let seats = empty_seats(alloc, places)?;
+        Ok(ClientPlaces {
+            clerk,
+            waiting,
+            seats,
+            count: 0,
+        })
+    }
+
+    // Who waits to be registered, for a worker that has clients here.
+    pub(crate) fn share_waiting(&self) -> Result<Waiting, AllocError> {
+        self.waiting.try_clone()
+    }
+
+    // A place that is free.
+    pub(crate) fn claim(&mut self) -> Result<Stand, ClaimFault> {
+        self.clerk.claim()
+    }
+
+    // A client is about to be handed in at that place, and waits to be registered.
+    pub(crate) fn begin(&self, place: usize) {
+        self.waiting.set(place, true);
+    }
+
+    // The client at that place was handed in.
+    pub(crate) fn note(&mut self, place: usize, handed: Handed) {
+        let seat = Seat {
+            handed,
+            before: self.count,
+            asked_at: None,
+        };
+        self.count = self.count.saturating_add(1);
+        if let Some(kept) = self.seats.get_mut(place) {
+            *kept = Some(seat);
+        }
+    }
+
+    // How many were asked to go a short while ago, and may be about to.
+    pub(crate) fn count_leaving(&self, now: u64) -> usize {
+        let mut count: usize = 0;
+        for (place, seat) in self.seats.iter().enumerate() {
+            if is_leaving(seat, now) && self.waiting.waits(place) {
+                count = count.saturating_add(1);
+            }
+        }
+        count
+    }
+
+    // The place of who has waited longest to be registered, of those that weren't asked to go.
+    fn longest(&self) -> Option<usize> {
+        let mut least = u64::MAX;
+        let mut first = None;
+        for (place, seat) in self.seats.iter().enumerate() {
+            if let Some(number) = number_of(seat) {
+                if number < least && self.waiting.waits(place) {
+                    least = number;
+                    first = Some(place);
+                }
+            }
+        }
+        first
+    }
+
+    // Who has waited longest to be registered, of those that weren't asked to go. It is to be asked now.
+    pub(crate) fn ask_longest(&mut self, now: u64) -> Option<Handed> {
+        let place = self.longest()?;
+        match self.seats.get_mut(place) {
+            Some(Some(seat)) => {
+                seat.asked_at = Some(now);
+                Some(seat.handed)
+            }
+            _ => None,
+        }
+    }
+}
+
+// Whether it was asked to go a short while ago.
+fn is_leaving(seat: &Option<Seat>, now: u64) -> bool {
+    match seat {
+        Some(
+            Seat {
+                asked_at: Some(at),
+                ..
+            },
+        ) => now.saturating_sub(*at) < PATIENCE,
+        _ => false,
+    }
+}
+
+// How many were handed in before it, where it wasn't asked to go.
+fn number_of(seat: &Option<Seat>) -> Option<u64> {
+    match seat {
+        Some(
+            Seat {
+                before,
+                asked_at: None,
+                ..
+            },
+        ) => Some(*before),
+        _ => None,
+    }
+}
