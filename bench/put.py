@@ -22,11 +22,12 @@ LINES = 5000
 AT_ONCE = ((1, "one at a time"), (200, "200 at once"))
 # (what `absorb` does may stand within its caller, but for what it calls)
 PUT, ABSORB = r"\bshared_node::\S*::put(_now)?\b", r"\bchat_state::\S*::absorb(_copy)?\b"
-# What a line that is relayed to one client comes to, each part with all that it calls.
+# What a line that is relayed to one client comes to, each part with all that it calls. A message waits for the turn's end, and is
+# told then with those behind it.
 PARTS = (
-    ("it is read, and its session takes it", r"\bwork_servers::\S*::hear_line\b"),
-    ("it is put into the node", PUT),
-    ("it is told to the client", r"\bwork_clients::\S*::tell_message\b"),
+    ("it is read, and its session takes it", (r"\bwork_servers::\S*::hear_line\b",)),
+    ("it is put into the node", (PUT,)),
+    ("it is told to the client", (r"\bwork_clients::\S*::tell_message\b", r"\bwork_clients::\S*::tell_untold\b")),
 )
 # (`serve` may stand within its caller)
 ALL = r"\bbnc_work::worker::(serve|try_work)\b"
@@ -83,7 +84,9 @@ def each(run, program, folder, at_once, *names):
 
 def parts_of(program, folder, at_once):
     """The instructions of a relayed line, by its parts and as a whole."""
-    whole, *parts = each(serve, program, folder, at_once, ALL, *(name for _, name in PARTS))
+    whole, *counts = each(serve, program, folder, at_once, ALL, *(name for _, names in PARTS for name in names))
+    counts = iter(counts)
+    parts = [sum(next(counts) for _ in names) for _, names in PARTS]
     return [*parts, whole - sum(parts), whole]
 
 
@@ -94,7 +97,7 @@ def main():
         os.chmod(folder, 0o777)
         lines = [parts_of(program, folder, at_once) for at_once, _ in AT_ONCE]
         [taken] = each(replay, program, folder, 1, ABSORB)
-    put = lines[0][[name for _, name in PARTS].index(PUT)]
+    put = lines[0][[names for _, names in PARTS].index((PUT,))]
     print(f"{name_of_run(program)} Over {LINES:,} messages after as many others.\n")
     print(table(["put into a shared node", "taken by one state", "ratio", "goal"], [
         [f"{put:,.0f} instructions a message", f"{taken:,.0f}", f"{put / taken:.2f}", 1.6],
