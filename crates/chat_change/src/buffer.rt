@@ -18,10 +18,16 @@ use std::sync::Arc;
 ///
 /// The target is folded: `A` to `Z` stand as `a` to `z`, and every other byte as it is, so that `#A` and `#a` are one
 /// buffer. Buffers are ordered by account, then network, then target, each compared byte by byte.
-#[derive(Drop)]
 pub struct Buffer {
     // in one block, shared with every clone
     names: Arc<Names>,
+}
+
+// Written out, so that this is proved once, and not in each crate that lets a buffer go.
+impl Drop for Buffer {
+    fn drop(self) {
+        let Self { names: _names } = self;
+    }
 }
 
 // The names of a buffer. A long target has a block of its own.

@@ -14,10 +14,16 @@ use std::marker::Model;
 use std::sync::Arc;
 
 /// The id of a message (IRCv3 message-ids), compared byte for byte. Contracts see it as the list of its bytes.
-#[derive(Drop)]
 pub struct MsgId {
     // shared with every clone
     text: Arc<CompactText>,
+}
+
+// Written out, so that this is proved once, and not in each crate that lets an id go.
+impl Drop for MsgId {
+    fn drop(self) {
+        let Self { text: _text } = self;
+    }
 }
 
 impl Model for MsgId {

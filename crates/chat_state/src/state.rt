@@ -15,10 +15,19 @@ use std::alloc::Global;
 use std::marker::Model;
 
 /// What a node has taken, in normal form.
-#[derive(Drop)]
 pub struct State {
     pub(crate) store: Store,
     pub(crate) front: u64,
+}
+
+// Written out, so that this is proved once, and not in each crate that lets a state go.
+impl Drop for State {
+    fn drop(self) {
+        let Self {
+            store: _store,
+            front: _front,
+        } = self;
+    }
 }
 
 impl Model for State {

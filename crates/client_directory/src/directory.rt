@@ -11,9 +11,17 @@ use std::alloc::Global;
 use std::marker::Model;
 
 /// The accounts of the cluster, with the networks of each, as they stand at one moment.
-#[derive(Drop)]
 pub struct Directory {
     accounts: Vec<Account>,
+}
+
+// Written out, so that this is proved once, and not in each crate that lets a directory go.
+impl Drop for Directory {
+    fn drop(self) {
+        let Self {
+            accounts: _accounts,
+        } = self;
+    }
 }
 
 impl Model for Directory {

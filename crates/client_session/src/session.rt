@@ -42,10 +42,19 @@ impl From<NoMemory> for StepFault {
 }
 
 /// The session of a client: it waits for its registration, is registered, or is closed.
-#[derive(Drop)]
 pub struct Session {
     stage: Stage,
     scratch: Scratch,
+}
+
+// Written out, so that this is proved once, and not in each crate that lets a session go.
+impl Drop for Session {
+    fn drop(self) {
+        let Self {
+            stage: _stage,
+            scratch: _scratch,
+        } = self;
+    }
 }
 
 impl Model for Session {

@@ -17,11 +17,21 @@ pub struct PeerTerms {
 
 /// What a node brings to each connection with a peer: the word that the nodes share, its own life, and the terms with each
 /// of its peers.
-#[derive(Drop)]
 pub struct Terms {
     word: SharedWord,
     me: Life,
     peers: Vec<PeerTerms>,
+}
+
+// Written out, so that this is proved once, and not in each crate that lets terms go.
+impl Drop for Terms {
+    fn drop(self) {
+        let Self {
+            word: _word,
+            me: _me,
+            peers: _peers,
+        } = self;
+    }
 }
 
 impl Model for Terms {

@@ -15,11 +15,21 @@ use std::alloc::Global;
 use std::marker::Model;
 
 /// One connection with a peer.
-#[derive(Drop)]
 pub struct PeerSession {
     handshake: Handshake,
     gather: Gather,
     pub(crate) pace: Pace,
+}
+
+// Written out, so that this is proved once, and not in each crate that lets a session go.
+impl Drop for PeerSession {
+    fn drop(self) {
+        let Self {
+            handshake: _handshake,
+            gather: _gather,
+            pace: _pace,
+        } = self;
+    }
 }
 
 impl Model for PeerSession {

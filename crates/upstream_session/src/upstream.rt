@@ -24,11 +24,21 @@ use std::alloc::Global;
 use std::marker::Model;
 
 /// The session with the server of a network: it registers, is up, or is closed.
-#[derive(Drop)]
 pub struct Upstream {
     connection: Connection,
     refusal: Refusal,
     scratch: Scratch,
+}
+
+// Written out, so that this is proved once, and not in each crate that lets a session go.
+impl Drop for Upstream {
+    fn drop(self) {
+        let Self {
+            connection: _connection,
+            refusal: _refusal,
+            scratch: _scratch,
+        } = self;
+    }
 }
 
 impl Model for Upstream {

@@ -11,7 +11,6 @@ use std::alloc::Global;
 use worker_io::{Connections, NodeView};
 
 /// A worker's clients, by the numbers of their connections. They come in by its lobby.
-#[derive(Drop)]
 pub struct Clients<X: Attachment, C: Connection> {
     pub connections: Connections<Admitted<X, C>>,
     // those among them that are registered
@@ -23,6 +22,20 @@ pub struct Clients<X: Attachment, C: Connection> {
     pub(crate) room: Vec<u8>,
     // those that were closed before they registered
     pub(crate) refusals: Refusals,
+}
+
+// Written out, so that this is proved once, and not in each crate that lets clients go.
+impl<X: Attachment, C: Connection> Drop for Clients<X, C> {
+    fn drop(self) {
+        let Self {
+            connections: _connections,
+            registrations: _registrations,
+            lobby: _lobby,
+            untold: _untold,
+            room: _room,
+            refusals: _refusals,
+        } = self;
+    }
 }
 
 impl<X: Attachment, C: Connection> Clients<X, C> {

@@ -8,7 +8,6 @@ use std::alloc::{AllocError, Global};
 use worker_io::Connections;
 
 /// A worker's peers, by the numbers of their connections. Places are those of the peers in the node's terms, from 0.
-#[derive(Drop)]
 pub struct Peers<C: Connection> {
     pub connections: Connections<Peer<C>>,
     /// How many connections came so far.
@@ -19,6 +18,19 @@ pub struct Peers<C: Connection> {
     pub(crate) out: Vec<u8>,
     // Strangers that were closed.
     pub(crate) refusals: Refusals,
+}
+
+// Written out, so that this is proved once, and not in each crate that lets peers go.
+impl<C: Connection> Drop for Peers<C> {
+    fn drop(self) {
+        let Self {
+            connections: _connections,
+            begun: _begun,
+            records: _records,
+            out: _out,
+            refusals: _refusals,
+        } = self;
+    }
 }
 
 impl<C: Connection> Peers<C> {

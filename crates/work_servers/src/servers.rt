@@ -22,13 +22,23 @@ struct NetworkLine {
 }
 
 /// A worker's servers, by the numbers of their connections.
-#[derive(Drop)]
 pub struct Servers<C: Connection> {
     pub connections: Connections<Server<C>>,
     // of all networks; those of other workers stay empty
     networks: Vec<NetworkLine>,
     // the room for a line for which there is no memory
     pub(crate) room: LineRoom,
+}
+
+// Written out, so that this is proved once, and not in each crate that lets servers go.
+impl<C: Connection> Drop for Servers<C> {
+    fn drop(self) {
+        let Self {
+            connections: _connections,
+            networks: _networks,
+            room: _room,
+        } = self;
+    }
 }
 
 impl<C: Connection> Servers<C> {

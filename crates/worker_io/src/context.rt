@@ -29,7 +29,6 @@ pub fn clock<P: Port>(port: &mut P) -> Option<(u64, Moment)> {
 }
 
 /// What all parts of a worker share.
-#[derive(Drop)]
 pub struct Context<P> {
     pub view: NodeView,
     pub port: P,
@@ -44,6 +43,22 @@ pub struct Context<P> {
     // Room for nothing, which shows that there is more. (A block that is given back where it was asked for would never be asked
     // for in the built program.)
     spare: Vec<u8>,
+}
+
+// Written out, so that this is proved once, and not in each crate that lets a context go.
+impl<P: Drop> Drop for Context<P> {
+    fn drop(self) {
+        let Self {
+            view: _view,
+            port: _port,
+            timers: _timers,
+            shortage: _shortage,
+            chunk: _chunk,
+            feeders: _feeders,
+            lines: _lines,
+            spare: _spare,
+        } = self;
+    }
 }
 
 // So many timers must not be lost: two of each network, as its server is tried again or is silent; four of each peer, as it is
