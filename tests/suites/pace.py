@@ -14,6 +14,8 @@ BODY = "x" * 400
 NOBODY = ("127.0.0.1", 1)
 # So many clients are silent beside the one that is told lines, and so many lines are measured so often.
 SILENT, LINES, ROUNDS = 1500, 500, 5
+# What a turn brings a client goes out from where it was written where it has so many bytes, and as much as it may be owed at most.
+LONG = 2048
 
 
 def said(number):
@@ -102,6 +104,32 @@ def a_server_that_sends_much_at_once_is_heard_whole(fixture):
     client.hear(*(said(number) for number in range(2000)))
     client.say("CHATHISTORY LATEST #a * 100")
     client.hear(*page(1, "#a", *(said(number) for number in range(1900, 2000))))
+
+
+def messages_of(first, size):
+    """Messages from that number on, whose lines have so many bytes together with their endings."""
+    count = size // 400
+    heads = [f"@msgid=m{number:04} :bob!b@h PRIVMSG #a :" for number in range(first, first + count)]
+    left = size - sum(len(head) + 2 for head in heads)
+    return [head + "x" * (left // count + (at < left % count)) for at, head in enumerate(heads)]
+
+
+@test
+def messages_of_a_turn_are_told_whole_at_each_length(fixture):
+    """Those that come at once: as many bytes as go out from where they were written, and as a client may be owed, one less and
+    one more. One client has the capability that all lines are told alike, and one hasn't."""
+    for bound in (1024, LONG, 4096):
+        node, _, session = node_with(fixture, 0, bound=bound)
+        tagged, plain = node.client().register("message-tags"), node.client().register()
+        number = 0
+        for size in sorted({*range(LONG - 1, LONG + 2), *range(bound - 1, bound + 2)}):
+            messages = messages_of(number, size)
+            number += len(messages)
+            session.say(*messages)
+            tagged.hear(*messages)
+            plain.hear(*(message.split(" ", 1)[1] for message in messages))
+        tagged.ping()
+        plain.ping()
 
 
 @test
