@@ -1,6 +1,6 @@
 //! The run of a node over sockets: its name, its floors, and its workers, each on a thread of its own. What is made before, and
 //! who takes connections in, is `node_intake`; what a worker does is `bnc_work`.
-ghost use Rattle.shared_node.specs.Names.{IsNamed};
+ghost use Rattle.change_log.specs.Names.{IsNamed};
 
 use bnc_ports::{Carries, Gate};
 use bnc_work::{WorkEnd, WorkPort, WorkerConfig, work_all};

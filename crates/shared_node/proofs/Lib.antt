@@ -1,6 +1,1 @@
-mod PrefixLemmas
-mod AddLemmas
-mod ListLemmas
-mod StateLemmas
-mod VersionLemmas
 mod ReadLemmas

@@ -7,10 +7,10 @@ use Rattle.chat_change.specs.declared.change.Change.{Change}
 use Rattle.chat_history.specs.Numbering.{Delta, delta}
 use Rattle.gossip_delta.specs.declared.delta.DeltaFault.{DeltaFault}
 use Rattle.gossip_delta.specs.declared.delta.DeltaFault.TheVariants.{NoEntry, NoMemory}
-use Rattle.shared_node.specs.declared.change_log.entry.Entry.{Entry}
-use Rattle.shared_node.specs.Lists.{changes_in, under}
+use Rattle.change_log.specs.declared.entry.Entry.{Entry}
+use Rattle.change_log.specs.Lists.{changes_in, under}
 use Rattle.shared_node.specs.Passes.{PassValue, Reads}
-use Rattle.shared_node.proofs.ListLemmas.{changes_in-append}
+use Rattle.change_log.proofs.CallerLemmas.{changes_in-append}
 
 -- a pass has seen these changes, from the start on
 abbrev pub HasSeen : PassValue → ℕ → List Change → Type 0

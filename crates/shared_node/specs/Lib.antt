@@ -1,16 +1,6 @@
 -- ---- what a reader must believe
 
--- lists of entries, and the state that they make
-pub mod Lists
--- the published list, and what waits behind it
-pub mod Log
 -- passes, and what a read leaves
 pub mod Passes
 -- what a put leaves
 pub mod Puts
--- which node it is
-pub mod Names
--- ---- what only the proofs use of the code
-
-pub mod Rules
-pub mod Versions

@@ -1,14 +1,13 @@
 //! What stands under the lock.
 ghost use Rattle.std.specs.Prelude.{◌≡◌, ◌+◌, ◌<◌, ◌≤◌, ◌^◌, ◌++◌, [], length, IfOk, IfErr, OnOk, IsErr};
-ghost use Rattle.shared_node.specs.Log.{all_put, log_value, total};
-ghost use Rattle.shared_node.specs.Lists.{under};
+ghost use Rattle.change_log.specs.Log.{all_put, log_value, total};
+ghost use Rattle.change_log.specs.Lists.{under};
 ghost use Rattle.shared_node.specs.Passes.{FollowsAll};
 ghost use Rattle.shared_node.specs.Puts.{LeavesWaiting};
 
-use crate::change_log::Naming;
 use crate::faults::PutFault;
 use crate::pass::{Pass, Receipt};
-use crate::published_log::LogWriter;
+use change_log::{LogWriter, Naming};
 use chat_change::Change;
 use std::marker::Model;
 use std::sync::Wait;
@@ -26,7 +25,7 @@ pub struct WritingHalf<J: Naming, R: Wait + Drop> {
 
 impl<J: Naming, R: Wait + Drop> Model for WritingHalf<J, R> {
     ghost use Rattle.std.specs.Prelude.{◌≡◌};
-    ghost use Rattle.shared_node.specs.Log.{LogValue, total};
+    ghost use Rattle.change_log.specs.Log.{LogValue, total};
 
     ghost Value = { LogValue };
 

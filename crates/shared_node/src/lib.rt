@@ -1,4 +1,4 @@
-//! One node that many threads share.
+//! One node that many threads share, over the log of its changes (`change_log`).
 //!
 //! A [`SharedNode`] has a published list: the changes that were put, each under the number of the [`Pass`] that put it.
 //! The list only grows. [`SharedNode::put`] takes a lock, appends changes, and publishes a state that is made of the longer
@@ -11,14 +11,12 @@
 //! [`Unnamed`], and calls a function that is generic in the name. What stands under the lock is in [`laws`].
 #![tactic(auto)]
 
-mod change_log;
 mod faults;
 mod half;
 pub mod laws;
 mod node;
 mod node_taker;
 mod pass;
-mod published_log;
 mod reads;
 mod seats;
 

@@ -3,8 +3,7 @@ ghost use Rattle.std.specs.Prelude.{◌≡◌, MatchBool};
 ghost use mathlib.Core.List.{IsPrefix};
 ghost use Rattle.shared_node.specs.Passes.{IsSamePut};
 
-use crate::change_log::{Naming, Prefix};
-use crate::published_log::Entrance;
+use change_log::{Entrance, Naming, Prefix};
 use std::marker::Model;
 use std::sync::ledger::Share;
 
@@ -42,7 +41,7 @@ pub struct Receipt<J: Naming> {
 
 impl<J: Naming> Model for Receipt<J> {
     ghost use Rattle.std.specs.Prelude.{List};
-    ghost use Rattle.shared_node.specs.declared.change_log.entry.Entry.{Entry};
+    ghost use Rattle.change_log.specs.declared.entry.Entry.{Entry};
 
     ghost Value = { List Entry };
 

@@ -2,12 +2,12 @@
 ghost use Rattle.std.specs.Prelude.{◌≡◌, ◌≢◌, ◌+◌, [], IfOk, IfErr, vec_len, vec_capacity};
 ghost use Rattle.std.specs.List.{sum_by};
 ghost use Rattle.shared_node.specs.Passes.{pass_value, newcomers};
-ghost use Rattle.shared_node.specs.Log.{total};
+ghost use Rattle.change_log.specs.Log.{total};
 
-use crate::change_log::{Naming, Prefix};
 use crate::faults::NodeFault;
 use crate::half::WritingHalf;
 use crate::pass::Pass;
+use change_log::{Naming, Prefix};
 use std::alloc::Global;
 use std::sync::Wait;
 use std::sync::ledger::{Book, Share};

@@ -1,5 +1,5 @@
 //! Plays the rows.
-ghost use Rattle.shared_node.specs.Names.{IsNamed};
+ghost use Rattle.change_log.specs.Names.{IsNamed};
 
 use crate::asks::facts;
 use crate::fault::Fault;

@@ -1,5 +1,5 @@
 //! How the workers of a node end.
-ghost use Rattle.shared_node.specs.Names.{IsNamed};
+ghost use Rattle.change_log.specs.Names.{IsNamed};
 
 use crate::node::{listener, node};
 use bnc_ports::{Carries, Gate};

@@ -1,5 +1,5 @@
 //! Plays one case.
-ghost use Rattle.shared_node.specs.Names.{IsNamed};
+ghost use Rattle.change_log.specs.Names.{IsNamed};
 
 use crate::gate::Latch;
 use crate::port::MemoryPort;

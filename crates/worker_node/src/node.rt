@@ -1,7 +1,7 @@
 //! What a worker asks of its node.
 ghost use Rattle.std.specs.Prelude.{◌≡◌, ◌⊎◌, List, ℕ, IfOk, OnErr};
 ghost use Rattle.chat_change.specs.declared.change.Change.{Change as Piece};
-ghost use Rattle.shared_node.specs.Lists.{changes_in};
+ghost use Rattle.change_log.specs.Lists.{changes_in};
 ghost use Rattle.peer_connection.specs.Taking.{IsTakenFromPeer};
 ghost use Rattle.worker_node.specs.Putting.{MayBePut};
 

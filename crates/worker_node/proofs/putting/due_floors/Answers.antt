@@ -1,4 +1,4 @@
-use Rattle.shared_node.specs.Lists.{changes_in}
+use Rattle.change_log.specs.Lists.{changes_in}
 use Rattle.worker_node.proofs.PuttingLemmas.{due_or_not}
 use Rattle.worker_node.proofs.putting.due_floors.Goals as goal
 

@@ -1,7 +1,7 @@
 use Rattle.std.proofs.Common.{◌≡◌, List, Result, Ok, Err, ap, subst}
 use mathlib.Core.List.{IsPrefix}
 use Rattle.chat_query.specs.declared.facts.Answered.{Answered}
-use Rattle.shared_node.specs.declared.change_log.entry.Entry.{Entry}
+use Rattle.change_log.specs.declared.entry.Entry.{Entry}
 use Rattle.chat_batch.specs.declared.past.AskFault.{AskFault}
 use Rattle.chat_batch.specs.declared.past.AskFault.TheVariants.{NoEntry, NoMemory, Write}
 use Rattle.shared_node.specs.Passes.{PassValue, FollowsAll, IsSamePut}

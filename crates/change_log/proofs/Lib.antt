@@ -1,0 +1,5 @@
+mod PrefixLemmas
+mod AddLemmas
+mod StateLemmas
+mod VersionLemmas
+pub mod CallerLemmas

@@ -1,0 +1,8 @@
+use Rattle.std.proofs.Common.{ap, sym, ◌∙◌}
+use Rattle.change_log.specs.Log.{all_put}
+use Rattle.change_log.proofs.PrefixLemmas.{prefix_rest}
+use Rattle.change_log.proofs.log_writer.LogWriter.list.Goals as goal
+
+pub returns : goal.returns
+returns g c =
+    sym (prefix_rest c.self.inside.writer.desk.shown.value c.self.inside.list c.self.invariant.0) ∙ ap all_put c.self.view_is

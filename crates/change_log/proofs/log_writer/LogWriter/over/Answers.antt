@@ -1,0 +1,14 @@
+use Rattle.std.proofs.Common.{List, ◌++◌, length, drop, ap, sym, ◌∙◌}
+use Rattle.change_log.specs.declared.entry.Entry.{Entry}
+use Rattle.change_log.specs.Log.{log_value}
+use Rattle.change_log.proofs.log_writer.LogWriter.over.Goals as goal
+
+pub invariant_of-result : goal.invariant_of-result
+invariant_of-result g c = (
+  (c.args.list, ap (λ (l : List Entry). l ++ c.args.list) c.requires.writer.0),
+  rw c.requires.writer.1 (c.requires.list ∙ sym c.requires.writer.0),
+)
+
+pub returns : goal.returns
+returns g c =
+    λ i. log_value (c.requires.writer.0 i) (drop (length (c.requires.writer.0 i)) (c.requires.list i))

@@ -1,0 +1,12 @@
+-- ---- what a reader must believe
+
+-- lists of entries, and the state that they make
+pub mod Lists
+-- the published list, and what waits behind it
+pub mod Log
+-- which node it is
+pub mod Names
+-- ---- what only the proofs use of the code
+
+pub mod Rules
+pub mod Versions

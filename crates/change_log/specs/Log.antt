@@ -1,0 +1,19 @@
+-- A log: what is published, and what waits.
+use Rattle.std.specs.Prelude.{ℕ, ◌+◌, List, ◌++◌, length}
+use Rattle.change_log.specs.declared.entry.Entry.{Entry}
+
+-- the published list, and the entries that wait to be published
+pub record LogValue : Type 0 where
+  pub published : List Entry
+  pub waiting : List Entry
+
+abbrev pub log_value : List Entry → List Entry → LogValue
+log_value published waiting = record { published = published; waiting = waiting }
+
+-- all that was put
+abbrev pub all_put : LogValue → List Entry
+all_put log = log.published ++ log.waiting
+
+-- how many changes were put
+abbrev pub total : LogValue → ℕ
+total log = length log.published + length log.waiting

@@ -1,8 +1,0 @@
-use Rattle.std.proofs.Common.{ap, sym, ◌∙◌}
-use Rattle.shared_node.specs.Log.{all_put}
-use Rattle.shared_node.proofs.PrefixLemmas.{prefix_rest}
-use Rattle.shared_node.proofs.published_log.log_writer.LogWriter.list.Goals as goal
-
-pub returns : goal.returns
-returns g c =
-    sym (prefix_rest c.self.inside.writer.desk.shown.value c.self.inside.list c.self.invariant.0) ∙ ap all_put c.self.view_is
