@@ -14,7 +14,8 @@ BODY = "x" * 400
 NOBODY = ("127.0.0.1", 1)
 # So many clients are silent beside the one that is told lines, and so many lines are measured so often.
 SILENT, LINES, ROUNDS = 1500, 500, 5
-# What a turn brings a client goes out from where it was written where it has so many bytes, and as much as it may be owed at most.
+# What a turn brings a client goes out from where it was written if it has so many bytes, and no more than the client may be owed
+# (docs/PERFORMANCE.md, "Memory of clients and messages").
 LONG = 2048
 
 
@@ -116,8 +117,8 @@ def messages_of(first, size):
 
 @test
 def messages_of_a_turn_are_told_whole_at_each_length(fixture):
-    """Those that come at once: as many bytes as go out from where they were written, and as a client may be owed, one less and
-    one more. One client has the capability that all lines are told alike, and one hasn't."""
+    """As many bytes as go out from where they were written, and as a client may be owed, each with one less and one more. A
+    client that holds `message-tags` is told so many; beside it is one that holds nothing, whose lines are shorter."""
     for bound in (1024, LONG, 4096):
         node, _, session = node_with(fixture, 0, bound=bound)
         tagged, plain = node.client().register("message-tags"), node.client().register()
