@@ -2,6 +2,6 @@
 pub use Rattle.chat_buffers.proofs.StoreLemmas.{get-history, get-numbers_in, placed-plain, history_keyed, by_number_total}
 -- what is known of keys after a step
 pub use Rattle.chat_buffers.proofs.SettleLemmas.{not_same, entered_keyed, removed_keyed}
--- a value that is kept passes, and a buffer that is listed is that of a post which passes
-pub use Rattle.chat_buffers.proofs.SoughtLemmas.{kept_passes, made_post, past_closed}
+-- a value that is kept passes
+pub use Rattle.chat_buffers.proofs.SoughtLemmas.{kept_passes, past_closed}
 pub use Rattle.chat_buffers.proofs.CursorLemmas.{filter_all}

@@ -18,14 +18,14 @@ use Rattle.chat_change.specs.Buffer.{Buffer}
 use Rattle.chat_change.specs.Record.{Record}
 use Rattle.chat_change.specs.Order.{text_cmp, buffer_cmp}
 use Rattle.chat_change.specs.declared.change.Change.{Change}
-use Rattle.chat_change.specs.declared.change.Change.TheVariants.{Post, Redact, Mark, Floor, AccountFloor}
+use Rattle.chat_change.specs.declared.change.Change.TheVariants.{Post}
 use Rattle.chat_change.proofs.CallerLemmas.{buffer_total, buffer_exact, text_total, text_exact}
-use Rattle.chat_history.specs.Buffers.{is_of_network, buffer_where}
+use Rattle.chat_history.specs.Buffers.{is_of_network}
 use Rattle.chat_history.specs.Choice.{keep, Among, IsFirst}
 use Rattle.chat_history.specs.History.{History, changes_of}
 use Rattle.chat_history.specs.Latest.{latest_moment}
 use Rattle.chat_history.specs.Visible.{records_in}
-use Rattle.chat_history.proofs.CallerLemmas.{le_self, first_alike, among-filter_map, among_made, mapped, image, most_greatest, got, get_entry, less_upto}
+use Rattle.chat_history.proofs.CallerLemmas.{le_self, first_alike, among-filter_map, among_made, mapped, image, most_greatest, got, get_entry, less_upto, made_post}
 use Rattle.ordered_maps.specs.MapView.{held_by}
 use Rattle.ordered_maps.proofs.CallerLemmas.{get-held_by, entries-from_ordered}
 use Rattle.chat_buffers.specs.Kept.{IsKept, IsLatestKept}
@@ -80,18 +80,6 @@ no_first : {A : Type 0} (R : A → A → Ordering) (xs : List A) → ((x : A) �
 no_first R xs h = first_alike R [] xs (λ x. (λ m. absurd m, λ m. absurd (h x m))) None refl
 
 -- ---- the buffers that are sought
-
--- a buffer that is listed is that of a post which passes
-pub made_post : (p : Record → Bool) (c : Change) (b : Buffer) → buffer_where p c ≡ Some b → (r : Record) × (c ≡ Post r) × (p r ≡ true) × (r.buffer ≡ b)
-made_post p (Post r) b e =
-    elim (p r) as (λ t. p r ≡ t → cond t (Some r.buffer) None ≡ Some b → (q : Record) × (Post r ≡ Post q) × (p q ≡ true) × (q.buffer ≡ b)) [
-      | true ↦ λ t f. (r, refl, t, same_Some r.buffer b f)
-      | false ↦ λ t f. cc f
-    ] refl e
-made_post p (Redact d m t) b e = cc e
-made_post p (Mark d t) b e = cc e
-made_post p (Floor d t) b e = cc e
-made_post p (AccountFloor a t) b e = cc e
 
 module _ (s : Sought) (last : Option Buffer) (h : History) where
   sought_post : (b : Buffer) → Among b (all_past s last h) → (r : Record) × Among (Post r) (changes_of h) × (is_sought s r ≡ true) × (r.buffer ≡ b) × (is_past last b ≡ true)

@@ -21,6 +21,8 @@ pub use Rattle.chat_history.proofs.VisibleLemmas.{spot_total, rising_total, chan
 pub use Rattle.chat_history.proofs.VisibleLemmas.{record_of, of_record, records_sorted}
 -- buffers in their order
 pub use Rattle.chat_history.proofs.BuffersLemmas.{in_order_member, member_in_order, buffers_sorted}
+-- the moment of the latest of a buffer's records, and the buffers that have a record
+pub use Rattle.chat_history.proofs.LatestLemmas.{latest_among, among_latest, made_post, record_post, listed_record, record_listed}
 -- no record of a normal form lies below the floor of its buffer
 pub use Rattle.chat_history.proofs.StoredLemmas.{not_below}
 -- what one more change does to a normal form and to its numbers

@@ -14,6 +14,7 @@ mod StandingLemmas
 mod VisibleLemmas
 mod NormReadLemmas
 mod BuffersLemmas
+mod LatestLemmas
 mod StoredLemmas
 mod PostedLemmas
 mod IncludesLemmas

@@ -1,5 +1,5 @@
 -- What is visible was posted, and what is listed of a buffer is of a record that was.
-use Rattle.std.proofs.Common.{◌≡◌, ℕ, Bool, true, false, cond, Option, Some, None, List, [], ◌∷◌, map, inl, inr, refl, sym, ◌∙◌, ap, subst}
+use Rattle.std.proofs.Common.{◌≡◌, ℕ, Option, Some, None, List, [], ◌∷◌, map, inl, inr, refl, sym, ◌∙◌, ap, subst}
 use Rattle.std.specs.Prelude.{Contains}
 use Rattle.std.specs.Option.{unwrap_or}
 use Rattle.std.specs.List.{AllByRecursion, filter_map}
@@ -8,13 +8,14 @@ use Rattle.chat_change.specs.Buffer.{Buffer}
 use Rattle.chat_change.specs.Record.{Record}
 use Rattle.chat_change.specs.Key.{MessageOf}
 use Rattle.chat_change.specs.declared.change.Change.{Change}
-use Rattle.chat_change.specs.declared.change.Change.TheVariants.{Post, Redact, Mark, Floor, AccountFloor}
+use Rattle.chat_change.specs.declared.change.Change.TheVariants.{Post}
 use Rattle.chat_history.specs.Choice.{greatest, Among}
 use Rattle.chat_history.specs.History.{norm, changes_of}
 use Rattle.chat_history.specs.Visible.{visible}
 use Rattle.chat_history.specs.Buffers.{buffer_where, is_of_network}
 use Rattle.chat_history.specs.Latest.{latest_moment, with_moment, network_buffers, latest_in}
 use Rattle.chat_history.proofs.BuffersLemmas.{in_order_member}
+use Rattle.chat_history.proofs.LatestLemmas.{made_post}
 use Rattle.chat_history.proofs.MemberLemmas.{contained, among-filter_map, first_none, mapped, image}
 use Rattle.chat_history.proofs.NormLemmas.{latest_total, latest_exact}
 use Rattle.chat_history.proofs.PieceLemmas.{norm_keyed}
@@ -28,17 +29,6 @@ visible_posted changes b r m =
     (first.0.0.0, v.0)
 
 -- ---- buffers with their latest moments
-
-post_where : (p : Record → Bool) (c : Change) (b : Buffer) → buffer_where p c ≡ Some b → (r : Record) × (c ≡ Post r) × (r.buffer ≡ b)
-post_where p (Post r) b e =
-    elim (p r) as (λ t. cond t (Some r.buffer) None ≡ Some b → (q : Record) × (Post r ≡ Post q) × (q.buffer ≡ b)) [
-      | true ↦ λ e. let s : r.buffer ≡ b = cc in (r, refl, s)
-      | false ↦ λ e. cc
-    ] e
-post_where p (Redact d m t) b e = cc
-post_where p (Mark d t) b e = cc
-post_where p (Floor d t) b e = cc
-post_where p (AccountFloor a t) b e = cc
 
 -- a record was posted in that buffer at that moment
 abbrev pub IsPostedAt : List Change → Buffer → ℕ → Type 0
@@ -62,9 +52,9 @@ module _ (changes : List Change) where
   one_listed account network b m =
       let p = λ (r : Record). is_of_network account network r.buffer in
       let s = among-filter_map (buffer_where p) (changes_of (norm changes)) b (in_order_member (filter_map (buffer_where p) (changes_of (norm changes))) b m) in
-      let q = post_where p s.0 b s.2 in
+      let q = made_post p s.0 b s.2 in
       let held = change_held (norm changes) (norm_keyed changes) (Post q.0) (subst (λ c. Among c (changes_of (norm changes))) q.1 s.1) in
-      by_record b q.0 (of_record (norm changes) (norm_keyed changes) b q.0 (q.2, ap (λ d. get (norm changes) (MessageOf d q.0.id)) (sym q.2) ∙ held))
+      by_record b q.0 (of_record (norm changes) (norm_keyed changes) b q.0 (q.3, ap (λ d. get (norm changes) (MessageOf d q.0.id)) (sym q.3) ∙ held))
 
   latest_posted : (account network : List ℕ) (p : Buffer × ℕ) → Among p (latest_in (norm changes) account network) → IsPostedAt changes p.0 p.1
   latest_posted account network p m =

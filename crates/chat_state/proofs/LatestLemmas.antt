@@ -13,14 +13,14 @@ use Rattle.chat_history.specs.Choice.{Among, IsFirst}
 use Rattle.chat_history.specs.History.{History, IsKeyed, changes_of}
 use Rattle.chat_history.specs.Latest.{latest_moment, with_moment}
 use Rattle.chat_history.specs.Buffers.{is_of_network, buffer_where}
-use Rattle.chat_history.proofs.CallerLemmas.{among-filter_map, in_order_member}
+use Rattle.chat_history.proofs.CallerLemmas.{among-filter_map, in_order_member, made_post}
 use Rattle.chat_history.proofs.CallerLemmas.{from_member, passing_from, buffers_sorted}
 use Rattle.chat_buffers.specs.declared.sought.Sought.{Sought}
 use Rattle.chat_buffers.specs.declared.sought.Sought.TheVariants.{OfNetwork}
 use Rattle.chat_buffers.specs.Sought.{is_past, all_past}
 use Rattle.chat_buffers.specs.BufferWalk.{Walk, walk_after}
 use Rattle.chat_buffers.specs.Store.{Store, history_in}
-use Rattle.chat_buffers.proofs.CallerLemmas.{made_post, past_closed, filter_all}
+use Rattle.chat_buffers.proofs.CallerLemmas.{past_closed, filter_all}
 use Rattle.chat_state.specs.LatestSince.{latest_since_in}
 use Rattle.chat_state.specs.Latest.{buffers_since, neighbours, latest_from, next_of, IsAtBuffer}
 use Rattle.chat_state.proofs.BuffersLemmas.{past_buffer, walk_end, is_one}

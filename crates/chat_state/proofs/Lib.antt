@@ -11,4 +11,3 @@ mod NewerLemmas
 mod BuffersLemmas
 mod SinceLemmas
 mod LatestLemmas
-pub mod CallerLemmas
