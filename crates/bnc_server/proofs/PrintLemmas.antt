@@ -13,9 +13,9 @@ use Rattle.irc_line.proofs.CallerLemmas.{middle_from, no_space_from}
 use Rattle.irc_reply.specs.Reply.{ending}
 use Rattle.irc_reply.specs.Standing.{IsCluster}
 use Rattle.chat_change.specs.Faults.{buffer_fault}
-use Rattle.chat_batch.specs.Answers.{answer_of}
+use Rattle.chat_past.specs.Answers.{answer_of}
 use Rattle.chat_query.proofs.CallerLemmas.{target_word}
-use Rattle.chat_batch.proofs.CallerLemmas.{answer_lines}
+use Rattle.chat_past.proofs.CallerLemmas.{answer_lines}
 use Rattle.change_lines.specs.declared.fault.ChangeLineFault.TheVariants.{BadForm, BadField, NoMemory}
 use Rattle.peer_lines.specs.Life.{Life, Packet, Ack}
 use Rattle.peer_lines.specs.declared.fault.LinkFault.{LinkFault}

@@ -1,8 +1,1 @@
 mod AnswerLemmas
-mod OwnPastLemmas
-mod TagLemmas
-mod MessageLemmas
-mod LinesLemmas
-mod ToldLemmas
-mod AnswerLinesLemmas
-pub mod CallerLemmas

@@ -2,14 +2,14 @@
 ghost use Rattle.std.specs.Prelude.{◌≡◌, codes, map, if◌then◌else◌};
 ghost use Rattle.byte_text.specs.Writes.{Writes};
 ghost use Rattle.chat_page.specs.Answer.{value_of};
-ghost use Rattle.chat_batch.specs.Answers as spec;
-ghost use Rattle.chat_batch.specs.Batch.{page_text};
+ghost use Rattle.chat_past.specs.Answers as spec;
+ghost use Rattle.chat_past.specs.Batch.{page_text};
 ghost use Rattle.chat_batch.specs.WritesAnswer.{WritesAnswer, WritesAnswerFrom, IsUnwritten};
 
 use crate::answers::{AnswerFault, write_incapable};
-use crate::batch::{write_page, write_targets};
 use crate::refusal::{refuse_query, refuse_selector};
 use chat_page::{Page, PageFault, Query, QueryFault, Scope, page, read_query};
+use chat_past::{write_page, write_targets};
 use chat_query::{Answered, Facts, reference_text};
 use chat_state::State;
 use irc_caps::CapSet;
@@ -127,7 +127,7 @@ fn answer_in_scope<W: Write>(
     }
 }
 
-ghost use Rattle.chat_page.specs.Page.{page};
+ghost use Rattle.chat_past.specs.Page.{page};
 
 /// Answers a query.
 fn answer_query<W: Write>(

@@ -3,7 +3,7 @@ ghost use Rattle.std.specs.Prelude.{◌≡◌, Some, None, IfOk, map};
 ghost use Rattle.std.specs.Option.{option_copied};
 ghost use Rattle.irc_reply.specs.Reply.{value_of};
 ghost use Rattle.chat_query.specs.Parameters as query;
-ghost use Rattle.chat_batch.specs.Answers as spec;
+ghost use Rattle.chat_past.specs.Answers as spec;
 ghost use Rattle.chat_batch.specs.WritesAnswer.{WritesAnswer, IsUnwritten};
 
 use crate::answers::AnswerFault;

@@ -3,107 +3,16 @@ ghost use Rattle.std.specs.Prelude.{◌≡◌, ◌≤◌, IfOk, OnOk, length, ta
 ghost use Rattle.std.specs.Iterator.{at_most};
 ghost use Rattle.std.specs.BTreeSet.{btree_set_len, insert_key};
 ghost use Rattle.std.specs.Map.Iter.{TakesFirst};
-ghost use Rattle.std.proofs.Common.{rules};
-ghost use Rattle.std.specs.Cmp.Rules.{comparing};
-ghost use Rattle.std.specs.Ordering.{as_partial_cmp, eq_by_cmp};
 ghost use Rattle.chat_history.specs.Visible.{spot_cmp};
-ghost use Rattle.chat_page.specs.ListedBuffer.{listed_total};
-ghost use Rattle.chat_page.specs.Page.{buffers_in, last, lies_between, targets_cut};
+ghost use Rattle.chat_past.specs.Page.{buffers_in, last, lies_between, targets_cut};
 
 use chat_change::Moment;
+use chat_past::ListedBuffer;
 use chat_query::Scope;
 use chat_state::{Latest, State};
 use std::alloc::{AllocError, Global};
-use std::cmp::Ordering;
 use std::collections::BTreeSet;
 use std::marker::Model;
-
-/// A buffer of a list of buffers: its folded target and the moment of its latest message, by which such lists are ordered.
-/// Contracts see the pair of moment and target.
-#[derive(Drop)]
-pub struct ListedBuffer<'a> {
-    at: Moment,
-    target: &'a [u8],
-}
-
-impl<'a> Model for ListedBuffer<'a> {
-    ghost use Rattle.std.specs.Prelude.{ℕ, List};
-
-    ghost Value = { ℕ × List ℕ };
-
-    ghost view = { λ b. (b.at, b.target.now) };
-}
-
-impl<'a> ListedBuffer<'a> {
-    /// The buffer of a target whose latest message is of that moment.
-    pub fn new(target: &'a [u8], at: Moment) -> ListedBuffer<'a>
-        ensures { result ≡ (at, target.now) }
-    {
-        ListedBuffer { at, target }
-    }
-
-    /// The moment of the latest message.
-    pub fn at(&self) -> Moment
-        ensures { result ≡ self.now.0 }
-    {
-        self.at
-    }
-
-    /// The folded target.
-    pub fn target(&self) -> &'a [u8]
-        ensures { result.now ≡ self.now.1 }
-    {
-        self.target
-    }
-
-    // How two of them compare: by moment, and at equal moments by target, byte by byte.
-    fn order(&self, other: &ListedBuffer<'_>) -> Ordering
-        ensures { result ≡ spot_cmp self.now other.now }
-    {
-        match self.at.ms().cmp(&other.at.ms()) {
-            Ordering::Equal => self.target.cmp(other.target),
-            by_moment => by_moment,
-        }
-    }
-}
-
-impl<'a> PartialEq for ListedBuffer<'a> {
-    ghost eq = { eq_by_cmp spot_cmp };
-
-    ghost laws = { Prim.search (comparing, listed_total, rules) };
-
-    fn eq(&self, other: &ListedBuffer<'a>) -> bool {
-        self.order(other).is_eq()
-    }
-}
-
-impl<'a> Eq for ListedBuffer<'a> {
-    ghost laws = { Prim.search (comparing, listed_total, rules) };
-}
-
-impl<'a> PartialOrd for ListedBuffer<'a> {
-    ghost partial_cmp = { as_partial_cmp spot_cmp };
-
-    ghost laws = { Prim.search (comparing, listed_total, rules) };
-
-    fn partial_cmp(&self, other: &ListedBuffer<'a>) -> Option<Ordering> {
-        Some(self.cmp(other))
-    }
-}
-
-impl<'a> Ord for ListedBuffer<'a> {
-    ghost cmp = { spot_cmp };
-
-    ghost total = { Prim.search (comparing, listed_total, rules) };
-
-    ghost matches_partial_cmp = { Prim.search (comparing, rules) };
-
-    ghost matches_eq = { Prim.search (comparing, rules) };
-
-    fn cmp(&self, other: &ListedBuffer<'a>) -> Ordering {
-        self.order(other)
-    }
-}
 
 /// The buffers of a network as they are listed. It is seen as the list of what is left.
 #[derive(Drop)]
@@ -113,7 +22,7 @@ struct Listing<'a> {
 
 impl<'a> Model for Listing<'a> {
     ghost use Rattle.std.specs.Prelude.{ℕ, List};
-    ghost use Rattle.chat_page.specs.Page.{listed};
+    ghost use Rattle.chat_past.specs.Page.{listed};
 
     ghost Value = { List (ℕ × List ℕ) };
 
@@ -140,7 +49,7 @@ fn lies_between(one: Moment, other: Moment, buffer: &ListedBuffer<'_>) -> bool
 {
     let low = one.ms().min(other.ms());
     let high = one.ms().max(other.ms());
-    low < buffer.at.ms() && buffer.at.ms() < high
+    low < buffer.at().ms() && buffer.at().ms() < high
 }
 
 /// Adds a buffer to at most `n` others and keeps the first `n`. A buffer behind `n` others costs one comparison.
@@ -157,7 +66,7 @@ fn keep_first<'a>(
         let Some(end) = kept.last() else {
             return Ok(());
         };
-        if buffer.order(end).is_ge() {
+        if buffer.cmp(end).is_ge() {
             return Ok(());
         }
     }
@@ -182,7 +91,7 @@ fn keep_last<'a>(
         let Some(end) = kept.first() else {
             return Ok(());
         };
-        if buffer.order(end).is_le() {
+        if buffer.cmp(end).is_le() {
             return Ok(());
         }
     }

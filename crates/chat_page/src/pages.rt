@@ -1,7 +1,7 @@
 //! Pages.
 
-use crate::listed_buffer::ListedBuffer;
 use chat_change::Record;
+use chat_past::ListedBuffer;
 use thiserror::Error;
 
 /// Why there is no page.

@@ -3,8 +3,8 @@
 //!
 //! [`Facts`] are what is known of a session, [`Scope`] is of them what an answer depends on, [`read_query`] reads the parameters
 //! of CHATHISTORY, and [`read_moment`] those of MARKREAD. [`Answered`] says what an answer was, and [`next_reference`] which
-//! number the session's next batch has. The answers themselves are a matter of `chat_page` and `chat_batch`; a session needs
-//! to know no more of them than this, so it waits for no state. Read [`read_query`] first.
+//! number the session's next batch has. The answers themselves are defined by `chat_past`, and written by `chat_page` and
+//! `chat_batch`; a session needs to know no more of them than this, so it waits for no state. Read [`read_query`] first.
 #![tactic(auto)]
 
 mod facts;

@@ -9,11 +9,11 @@ use Rattle.irc_line.specs.Stream.{Item}
 use Rattle.chat_change.specs.Extent.{Extent, OfAccount, OfBuffer}
 use Rattle.chat_change.specs.Key.{key_extent, key_of}
 use Rattle.chat_change.specs.declared.change.Change.{Change}
-use Rattle.chat_page.specs.OwnPast.{is_own, is_own_extent, own_past}
+use Rattle.chat_past.specs.OwnPast.{is_own, is_own_extent, own_past}
 use Rattle.chat_query.specs.Scope.{Scope}
 use Rattle.chat_history.specs.Buffers.{is_of_network}
 use Rattle.chat_history.specs.Retention.{same_account}
-use Rattle.chat_batch.specs.Answers.{Answer, answer_of}
+use Rattle.chat_past.specs.Answers.{Answer, answer_of}
 use Rattle.chat_query.specs.Buffers.{scope_of}
 use Rattle.chat_query.specs.declared.facts.Answered.{Answered}
 use Rattle.chat_query.specs.declared.facts.Facts.{Facts}

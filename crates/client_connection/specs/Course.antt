@@ -8,7 +8,7 @@ use Rattle.irc_reply.specs.ToClient.{no_nick, marker_question}
 use Rattle.chat_change.specs.Record.{Record}
 use Rattle.chat_query.specs.declared.facts.Answered.{Answered}
 use Rattle.chat_query.specs.declared.facts.Facts.{Facts}
-use Rattle.chat_batch.specs.Message.{live_text}
+use Rattle.chat_past.specs.Message.{live_text}
 use Rattle.irc_caps.specs.declared.recipients.Recipients.{Recipients}
 use Rattle.client_directory.specs.Directory.{Directory}
 use Rattle.client_session.specs.declared.effect.Effect.{Effect}

@@ -1,6 +1,6 @@
 -- What sessions hear of messages that come at once.
 use Rattle.std.specs.Prelude.{ℕ, ◌≡◌, Bool, List, filter, flat_map}
-use Rattle.chat_batch.specs.Message.{live_text}
+use Rattle.chat_past.specs.Message.{live_text}
 use Rattle.chat_query.specs.declared.facts.Facts.{Facts}
 use Rattle.client_session.specs.Hearers.{hears_message}
 use Rattle.passed_lines.specs.declared.live.Live.{Live}

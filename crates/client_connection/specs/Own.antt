@@ -3,7 +3,7 @@ use Rattle.std.specs.Prelude.{ℕ, ◌≡◌, Bool, true, List, Some}
 use Rattle.chat_query.specs.declared.facts.Facts.{Facts}
 use Rattle.chat_change.specs.Record.{Record}
 use Rattle.chat_change.specs.declared.change.Change.{Change}
-use Rattle.chat_page.specs.OwnPast.{own_past}
+use Rattle.chat_past.specs.OwnPast.{own_past}
 use Rattle.chat_query.specs.Scope.{Scope}
 use Rattle.client_session.specs.declared.effect.Effect.{Effect}
 use Rattle.client_session.specs.declared.stage.Stage.{Stage}

@@ -7,7 +7,7 @@ use Rattle.irc_line.specs.Read.{read}
 use Rattle.chat_change.specs.declared.change.Change.{Change}
 use Rattle.chat_query.specs.declared.facts.Answered.{Answered}
 use Rattle.chat_query.specs.declared.facts.Facts.{Facts}
-use Rattle.chat_batch.specs.Answers.{answer_of}
+use Rattle.chat_past.specs.Answers.{answer_of}
 use Rattle.client_session.specs.declared.stage.Stage.{Stage}
 use Rattle.client_session.specs.Session.{facts_in}
 

@@ -3,7 +3,7 @@ use Rattle.std.specs.Prelude.{ℕ, ◌≡◌, Bool, true, List}
 use Rattle.std.specs.List.{AllByRecursion}
 use Rattle.chat_change.specs.Record.{Record}
 use Rattle.chat_change.specs.declared.change.Change.{Change}
-use Rattle.chat_page.specs.OwnPast.{is_own}
+use Rattle.chat_past.specs.OwnPast.{is_own}
 use Rattle.chat_query.specs.Scope.{Scope}
 use Rattle.irc_caps.specs.declared.recipients.Recipients.{Recipients}
 use Rattle.passed_lines.specs.Passing.{IsPassedOn, IsNickOf, IsLive}

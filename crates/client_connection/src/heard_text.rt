@@ -5,7 +5,7 @@ ghost use Rattle.chat_query.specs.declared.facts.Facts.{Facts};
 ghost use Rattle.client_connection.specs.HeardText.{heard_text, IsHearer};
 
 use byte_text::NoMemory;
-use chat_batch::write_live;
+use chat_past::write_live;
 use chat_query::Facts;
 use client_session::hears_message;
 use irc_caps::CapSet;

@@ -12,7 +12,7 @@ ghost use Rattle.client_connection.specs.Own.{HasOwnOf, HearsItsOwnAlone, IsAmon
 ghost use Rattle.client_connection.specs.Said.{HearsItsConnectionAlone, HearsItsSessionAlone};
 ghost use Rattle.client_connection.specs.Source.{Source, IsByRight};
 
-use chat_batch::laws::answers_are_of_the_own_past;
+use chat_past::laws::answers_are_of_the_own_past;
 use client_session::laws::{each_reaches_its_own_past_alone, nothing_follows_close};
 
 /// A client is heard over its own connection alone. Whatever is told by right over a connection, the session of its client came

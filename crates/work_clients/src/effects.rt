@@ -2,7 +2,7 @@
 use crate::admitted::note;
 use crate::clients::Clients;
 use bnc_ports::{Carries, Connection, Port, Reason};
-use chat_batch::Past;
+use chat_past::Past;
 use client_connection::{ClientEffect, ToClient};
 use client_places::Attachment;
 use passed_lines::Said;

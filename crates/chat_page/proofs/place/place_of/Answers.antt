@@ -1,6 +1,6 @@
 use Rattle.std.proofs.Common.{◌∙◌, ap}
 use Rattle.std.specs.Option.{option_map}
-use Rattle.chat_page.specs.Page.{spot}
+use Rattle.chat_past.specs.Page.{spot}
 use Rattle.chat_page.proofs.PlaceLemmas.{point_found}
 use Rattle.chat_page.proofs.place.place_of.Goals as goal
 
