@@ -25,7 +25,7 @@ use Rattle.client_session.specs.Step.{Step}
 use Rattle.client_session.specs.declared.effect.Effect.{Effect}
 use Rattle.client_session.specs.declared.effect.Effect.TheVariants.{Send, Put, Ask, Upstream, Close}
 use Rattle.client_session.specs.declared.stage.Stage.TheVariants.{Registered}
-use Rattle.peer_lines.specs.Life.{Life}
+use Rattle.node_terms.specs.Life.{Life}
 use Rattle.bnc_server.specs.Node.{Node, Reply, after_taking, with_session, answer_to, reply_to_effect, reply_to_effects, reply_to_step, is_shown, step_of, reply_to_line, reply_to_long_line}
 use Rattle.bnc_server.specs.Request.{Request, of_change, of_command, of_client, over_long, request_of}
 use Rattle.bnc_server.specs.Command.{select, exchange, lose, hold_back, hand_over, restart, bad_form}

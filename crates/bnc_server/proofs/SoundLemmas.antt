@@ -26,9 +26,10 @@ use Rattle.change_lines.specs.ChangeLine.{read_change}
 use Rattle.change_lines.specs.declared.fault.ChangeLineFault.{ChangeLineFault}
 use Rattle.change_lines.proofs.CallerLemmas.{one_spelling}
 use Rattle.chat_history.specs.Numbering.{Delta, delta}
-use Rattle.peer_lines.specs.Life.{Life, Packet, Ack}
-use Rattle.peer_lines.specs.Version.{is_lower}
-use Rattle.peer_lines.specs.declared.version.TheConstants.Version.{OWN}
+use Rattle.node_terms.specs.Life.{Life}
+use Rattle.peer_lines.specs.Packet.{Packet, Ack}
+use Rattle.node_terms.specs.Version.{is_lower}
+use Rattle.node_terms.specs.declared.version.TheConstants.Version.{OWN}
 use Rattle.gossip_link.specs.declared.link.Heard.{Heard}
 use Rattle.gossip_link.specs.Peer.{packet_of, packet_is_mine}
 use Rattle.client_directory.specs.Directory.{Directory, Account, Network, entry_if, entry_of, entry_of_account, entry_in}

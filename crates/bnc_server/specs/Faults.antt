@@ -3,7 +3,7 @@ use Rattle.std.specs.Prelude.{ℕ, ◌-◌, ◌^◌, ◌≡◌, ◌≢◌, ◌�
 use Rattle.chat_change.specs.declared.change.Change.{Change}
 use Rattle.chat_history.specs.Numbering.{front}
 use Rattle.chat_history.specs.StateValue.{state_after, IsPastTheLast, greatest_number}
-use Rattle.peer_lines.specs.Life.{Packet}
+use Rattle.peer_lines.specs.Packet.{Packet}
 use Rattle.client_session.specs.Session.{too_long}
 use Rattle.client_session.specs.Step.{Step}
 use Rattle.client_session.specs.declared.effect.Effect.{Effect}

@@ -10,7 +10,8 @@ use Rattle.change_lines.specs.declared.fault.ChangeLineFault.TheVariants as line
 use Rattle.client_directory.specs.Directory.{Directory}
 use Rattle.client_session.specs.declared.stage.Stage.{Stage}
 use Rattle.chat_query.specs.declared.facts.Facts.{Facts}
-use Rattle.peer_lines.specs.Life.{Life, Ack}
+use Rattle.node_terms.specs.Life.{Life}
+use Rattle.peer_lines.specs.Packet.{Ack}
 use Rattle.gossip_link.specs.Link.{Link}
 use Rattle.bnc_server.specs.Node.{Node}
 use Rattle.bnc_server.specs.Links.{after_ack_of, late_ack}

@@ -19,7 +19,8 @@ use Rattle.client_session.specs.Step.{Step}
 use Rattle.client_session.specs.declared.effect.Effect.{Effect}
 use Rattle.client_session.specs.declared.effect.Effect.TheVariants.{Send, Put, Ask, Upstream, Close}
 use Rattle.client_session.specs.declared.stage.Stage.{Stage}
-use Rattle.peer_lines.specs.Life.{Life, Ack}
+use Rattle.node_terms.specs.Life.{Life}
+use Rattle.peer_lines.specs.Packet.{Ack}
 use Rattle.gossip_link.specs.Link.{Link}
 
 -- A node in its present life. Nodes are told apart by their places, from 0 on.

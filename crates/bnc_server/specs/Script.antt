@@ -10,7 +10,8 @@ use Rattle.client_directory.specs.Directory.{Directory}
 use Rattle.client_session.specs.declared.stage.Stage.{Stage}
 use Rattle.client_session.specs.declared.stage.Stage.TheVariants.{Registered}
 use Rattle.chat_change.specs.declared.change.Change.{Change}
-use Rattle.peer_lines.specs.Life.{Life, Ack}
+use Rattle.node_terms.specs.Life.{Life}
+use Rattle.peer_lines.specs.Packet.{Ack}
 use Rattle.bnc_server.specs.Request.{Request, of_change, of_command, of_client, over_long, request_of}
 use Rattle.bnc_server.specs.Links.{new_node}
 use Rattle.bnc_server.specs.World.{World, Outcome, printing, node_at, with_node, after_command}

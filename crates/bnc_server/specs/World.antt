@@ -4,9 +4,10 @@ use Rattle.irc_reply.specs.Reply.{ending}
 use Rattle.chat_query.specs.declared.facts.Facts.{Facts}
 use Rattle.client_directory.specs.Directory.{Directory}
 use Rattle.client_session.specs.declared.stage.Stage.TheVariants.{Registered, Closed}
-use Rattle.peer_lines.specs.Life.{Life, Packet, Ack}
-use Rattle.peer_lines.specs.declared.fault.LinkFault.{LinkFault}
-use Rattle.peer_lines.specs.declared.fault.LinkFault.TheVariants.{WrongLife}
+use Rattle.node_terms.specs.Life.{Life}
+use Rattle.peer_lines.specs.Packet.{Packet, Ack}
+use Rattle.node_terms.specs.declared.fault.LinkFault.{LinkFault}
+use Rattle.node_terms.specs.declared.fault.LinkFault.TheVariants.{WrongLife}
 use Rattle.bnc_server.specs.Node.{Node}
 use Rattle.bnc_server.specs.Command.{Command, select, exchange, lose, hold_back, hand_over, restart, bad_form}
 use Rattle.bnc_server.specs.Links.{new_node, packet_for, after_making, ack_for, after_packet, ack_answer, after_ack_of, late_ack, with_late, hearing}

@@ -43,3 +43,9 @@ pub use Rattle.chat_history.proofs.SetLemmas.{norm_right, norm_swap}
 pub use Rattle.chat_history.proofs.IncludesLemmas.{Includes-more, Includes-member, includes_all}
 pub use Rattle.chat_history.proofs.PieceStepLemmas.{piece_step, front_rises, front_grows, on_and_on}
 pub use Rattle.chat_history.proofs.PieceStepLemmas.{number_above, number_within, number_tells}
+-- who is up to date with whom, and what a delta has
+pub use Rattle.chat_history.proofs.DeltaLemmas.{UpTo-more, UpTo-later, UpTo-delta, UpTo-start}
+pub use Rattle.chat_history.proofs.DeltaLemmas.{delta_within, delta_all, delta_further, same_at_fronts}
+-- pieces under their numbers, and those that are newer than a number
+pub use Rattle.chat_history.proofs.DeltaLemmas.{IsPiece, pieces_held, numbered, entry_is, by_number, all, all_sorted, all_has}
+pub use Rattle.chat_history.proofs.NumberedEntryLemmas.{all_found, number_is, greatest_more}

@@ -19,4 +19,6 @@ mod StoredLemmas
 mod PostedLemmas
 mod IncludesLemmas
 mod PieceStepLemmas
+mod NumberedEntryLemmas
+mod DeltaLemmas
 pub mod CallerLemmas

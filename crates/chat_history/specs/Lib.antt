@@ -16,6 +16,9 @@ pub mod StateValue
 pub mod Deltas
 pub mod Merging
 pub mod Newer
+-- who is up to date with whom, and what sources and takers of deltas hold
+pub mod UpTo
+pub mod Growth
 -- ---- what only the proofs use of the code
 
 pub mod Same

@@ -1,12 +1,14 @@
 //! Laws of the definitions. Their contracts are the laws, and their bodies are empty.
 
-ghost use Rattle.std.specs.Prelude.{◌≡◌, ◌≤◌, ◌++◌, List, Contains, Some, false};
+ghost use Rattle.std.specs.Prelude.{◌≡◌, ◌≤◌, ◌++◌, ℕ, List, Contains, Some, false};
 ghost use Rattle.chat_change.specs.Buffer as spec;
 ghost use Rattle.chat_change.specs.declared.change.Change.{Change};
 ghost use Rattle.chat_change.specs.declared.change.Change.TheVariants.{Post};
 ghost use Rattle.chat_change.specs.Key.{key_of};
 ghost use Rattle.chat_change.specs.Record.{Record};
 ghost use Rattle.chat_history.specs.History.{History, norm, changes_of, join, mark, floor, is_gone, SameSet, IsAtMost};
+ghost use Rattle.chat_history.specs.Numbering.{front, delta};
+ghost use Rattle.chat_history.specs.UpTo.{IncludesUpTo};
 ghost use Rattle.std.specs.FinMap.{get};
 
 pub mod lookups;
@@ -50,4 +52,19 @@ pub fn stored_records_are_pieces()
         ≡ false }
     ensures none_below { (h : History) → norm (changes_of h) ≡ h → (r : Record) →
         Contains (changes_of h) (Post r) → floor (changes_of h) r.buffer ≤ r.at }
+{}
+
+/// Whoever includes the pieces that a node held with numbers up to `from`, and takes the delta since `from` of what
+/// the node holds now, includes the pieces that it holds now with numbers up to the delta's `to`.
+pub fn delta_carries()
+    ensures carried { (start from : ℕ) (taken earlier more : List Change) →
+        from ≤ front start earlier → IncludesUpTo taken start earlier from →
+        let sent = delta start (earlier ++ more) from in
+        IncludesUpTo (taken ++ sent.changes) start (earlier ++ more) sent.to }
+    // Without a delta nothing is lost: what the node takes meanwhile gets higher numbers.
+    ensures kept { (start upto : ℕ) (taken more earlier later : List Change) →
+        upto ≤ front start earlier → IncludesUpTo taken start earlier upto →
+        IncludesUpTo (taken ++ more) start (earlier ++ later) upto }
+    ensures reached { (start from : ℕ) (changes : List Change) →
+        from ≤ front start changes → (delta start changes from).to ≤ front start changes }
 {}

@@ -11,3 +11,4 @@ mod NewerLemmas
 mod BuffersLemmas
 mod SinceLemmas
 mod LatestLemmas
+mod DeltaLemmas

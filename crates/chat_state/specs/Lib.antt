@@ -20,3 +20,5 @@ pub mod PieceName
 pub mod Index
 -- how what lies below a floor goes, piece by piece
 pub mod Sweeping
+-- the pieces of a delta, one after another
+pub mod Turn

@@ -1,20 +1,15 @@
-//! What one node sends another of its history: deltas.
+//! What one node sends another of its history: deltas, and the lines that spell their changes.
 //!
-//! A [`Delta`] holds the pieces of a node's history that are newer than a number, and how far whoever takes them has come
-//! ([`delta_since`]). [`laws::delta_carries`] says why that is enough: whoever includes the pieces up to a number, and takes
-//! the delta since it, includes those up to the delta's own number. A [`Source`] gives deltas and a [`Taker`] takes their
-//! changes; a `State` does both.
-//!
-//! The lines that spell a delta's changes are those of [`change_lines`], whose names this crate gives out.
+//! This crate has no code of its own: it gives out names. A [`Delta`], a [`Source`], which gives deltas, a [`Taker`], which
+//! takes their changes, and [`laws::delta_carries`], which says why deltas are enough, are those of `chat_history`. The
+//! delta of a state ([`delta_since`]) is made by `chat_state`, where a `State` is both a source and a taker. The lines that
+//! spell changes are those of `change_lines`.
 #![tactic(auto)]
 
-mod delta;
 pub mod laws;
-mod since;
-mod state;
 
 pub use change_lines::{
     ChangeLineFault, is_text, read_change, read_change_in, split_word, write_change,
 };
-pub use delta::{Delta, DeltaFault, NotTaken, Source, Taker};
-pub use since::{DELTA_LIMIT, delta_since};
+pub use chat_history::{DELTA_LIMIT, Delta, DeltaFault, NotTaken, Source, Taker};
+pub use chat_state::delta_since;

@@ -5,4 +5,5 @@ mod SoundLemmas
 mod EventLemmas
 mod NoLossLemmas
 mod StepLemmas
+mod HandshakeLemmas
 pub mod CallerLemmas

@@ -12,10 +12,11 @@ use Rattle.chat_change.specs.declared.change.Change.{Change}
 use Rattle.chat_change.specs.declared.change.Change.TheVariants.{Post, Redact, Mark, Floor, AccountFloor}
 use Rattle.chat_history.specs.History.{norm}
 use Rattle.chat_history.specs.Numbering.{Delta, delta, delta_limit, newer, numbers}
-use Rattle.gossip_delta.proofs.CallerLemmas.{delta_all, delta_further}
-use Rattle.peer_lines.specs.Life.{Life, Packet}
-use Rattle.peer_lines.specs.Names.{is_node_name}
-use Rattle.peer_lines.specs.Spelling.{IsLife, IsPacket}
+use Rattle.chat_history.proofs.CallerLemmas.{delta_all, delta_further}
+use Rattle.node_terms.specs.Life.{Life, IsLife}
+use Rattle.peer_lines.specs.Packet.{Packet}
+use Rattle.node_terms.specs.Names.{is_node_name}
+use Rattle.peer_lines.specs.Spelling.{IsPacket}
 use Rattle.gossip_link.specs.Cluster.{Made}
 use Rattle.gossip_link.specs.Promises.{IsMade, IsMadeMoment, ComesFrom}
 use Rattle.gossip_link.proofs.ComesLemmas.{ComesFrom-made, pieces_come}

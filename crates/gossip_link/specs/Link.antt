@@ -1,10 +1,10 @@
 -- A link: one node's side towards one peer.
 use Rattle.std.specs.Prelude.{List, ℕ}
-use Rattle.peer_lines.specs.Life.{Life}
-use Rattle.peer_lines.specs.declared.fault.LinkFault.{LinkFault}
-use Rattle.peer_lines.specs.declared.fault.LinkFault.TheVariants as fault
-use Rattle.gossip_delta.specs.declared.delta.DeltaFault.{DeltaFault}
-use Rattle.gossip_delta.specs.declared.delta.DeltaFault.TheVariants as delta_fault
+use Rattle.node_terms.specs.Life.{Life}
+use Rattle.node_terms.specs.declared.fault.LinkFault.{LinkFault}
+use Rattle.node_terms.specs.declared.fault.LinkFault.TheVariants as fault
+use Rattle.chat_history.specs.declared.delta.DeltaFault.{DeltaFault}
+use Rattle.chat_history.specs.declared.delta.DeltaFault.TheVariants as delta_fault
 use Rattle.gossip_link.specs.Peer.{Peer}
 
 pub record Link : Type 0 where

@@ -1,13 +1,20 @@
 //! Laws of the definitions. Their contracts are the laws, and their bodies are empty.
-ghost use Rattle.std.specs.Prelude.{◌≡◌, ◌≢◌, ◌<◌, ◌∷◌, [], ℕ, List, length, Some};
+ghost use Rattle.std.specs.Prelude.{◌≡◌, ◌≢◌, ◌<◌, ◌↔◌, ◌++◌, ◌∷◌, [], ℕ, List, length, Option, Some};
+ghost use Rattle.std.specs.Prelude.{true, slice_get};
 ghost use Rattle.std.specs.FinMap.{get};
 ghost use Rattle.chat_change.specs.declared.change.Change.{Change};
 ghost use Rattle.chat_change.specs.Key.{Key};
 ghost use Rattle.chat_history.specs.History.{norm};
 ghost use Rattle.chat_history.specs.Numbering.{delta};
+ghost use Rattle.node_terms.specs.Terms.{Terms, names_of};
+ghost use Rattle.peer_lines.specs.declared.peer_line.PeerLine.{PeerLine};
 ghost use Rattle.gossip_link.specs.Cluster.{World, Event, Send, Packet_comes, Ack_comes, run};
 ghost use Rattle.gossip_link.specs.Promises.{IsReached, ComesFrom, Knows, Serves, PeerIncludes};
 ghost use Rattle.gossip_link.specs.Promises.{IsAcknowledged, next_delta};
+ghost use Rattle.gossip_link.specs.Handshake as spec;
+ghost use Rattle.gossip_link.specs.declared.handshake.Side.{Side};
+ghost use Rattle.gossip_link.specs.declared.handshake.Side.TheVariants.{Acceptor};
+ghost use Rattle.gossip_link.specs.declared.handshake.Action.TheVariants.{Close};
 
 /// Whatever happens in a cluster, in whatever order, and however often messages are lost, repeated or late, whichever
 /// node starts again with nothing, in an incarnation that it never had, and whichever version each node speaks:
@@ -36,4 +43,25 @@ pub fn no_loss()
         let v = run (Send name peer (length (w.nodes name).taken)
         ∷ Packet_comes peer name 0 ∷ Ack_comes name peer 0 ∷ []) w in
         ((v.nodes name).peers peer).acked ≡ (next_delta w name peer).to }
+{}
+
+/// What a node makes of the lines of a connection, whatever they are and in whatever order. A line is handed up exactly
+/// where the lines so far, with it, are the shared word, then a hello of a configured peer other than this node, then
+/// what that peer sends, and it goes to that peer's place. The own word and hello go out because of a line exactly where
+/// this node accepted the connection and the lines are such a word and such a first hello, and no more. Once a connection
+/// was to be closed nothing comes of its lines.
+pub fn handshake()
+    ensures handed_up { (t : Terms) (side : Side) (lines : List (Option PeerLine)) →
+        ((place : ℕ) × (spec.handed_to (spec.last_action t side lines) ≡ Some place))
+        ↔ spec.ArePeers t lines }
+    ensures placed { (t : Terms) (side : Side) (lines : List (Option PeerLine)) (place : ℕ) →
+        spec.handed_to (spec.last_action t side lines) ≡ Some place →
+        (are : spec.ArePeers t lines) →
+        slice_get (names_of t) place ≡ Some are.peer.node }
+    ensures greets { (t : Terms) (side : Side) (lines : List (Option PeerLine)) →
+        (spec.greets (spec.last_action t side lines) ≡ true)
+        ↔ ((side ≡ Acceptor) × spec.ArePeers t lines × (length lines ≡ 2)) }
+    ensures closed { (t : Terms) (side : Side) (lines more : List (Option PeerLine)) →
+        spec.last_action t side lines ≡ Close →
+        spec.last_action t side (lines ++ more) ≡ Close }
 {}

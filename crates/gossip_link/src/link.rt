@@ -3,16 +3,16 @@ ghost use Rattle.std.specs.Prelude.{◌≡◌, ◌++◌, ◌⊎◌, ◌↔◌, �
 ghost use Rattle.std.specs.Prelude.{IfOk, IfErr, OnOk, OnErr, take, if◌then◌else◌};
 ghost use Rattle.chat_change.specs.declared.change.Change.{Change as Piece};
 ghost use Rattle.chat_history.specs.Numbering.{delta};
-ghost use Rattle.gossip_delta.specs.Growth.{AfterOthers};
-ghost use Rattle.peer_lines.specs.Names.{same_name};
-ghost use Rattle.peer_lines.specs.declared.version.TheConstants.Version.{OWN};
+ghost use Rattle.chat_history.specs.Growth.{AfterOthers};
+ghost use Rattle.node_terms.specs.Names.{same_name};
+ghost use Rattle.node_terms.specs.declared.version.TheConstants.Version.{OWN};
 ghost use Rattle.gossip_link.specs.Link.{fault_of};
 ghost use Rattle.gossip_link.specs.Peer.{unheard, is_news, is_older, is_known};
 ghost use Rattle.gossip_link.specs.Peer.{hello_is_wrong, hello_is_news, after_hello};
 ghost use Rattle.gossip_link.specs.Peer.{is_served, packet_of, after_make, packet_is_mine, ack_of, MayBeWritten};
 ghost use Rattle.gossip_link.specs.Peer.{ack_is_mine, ack_is_too_high, after_ack};
 
-use gossip_delta::{DeltaFault, Source, Taker};
+use chat_history::{DeltaFault, Source, Taker};
 use peer_lines::{Ack, Life, LinkFault, NodeName, Packet, Version};
 use std::alloc::Global;
 use std::marker::Model;

@@ -7,7 +7,7 @@ use crate::entries::{Account, Network, Peer};
 use byte_text::{NoMemory, Text};
 use client_directory as directory;
 use client_directory::{Directory, Entry};
-use peer_lines::NodeName;
+use node_terms::NodeName;
 use std::alloc::{AllocError, Global};
 
 fn copies_of(alloc: Global, texts: &[Text]) -> Result<Vec<Text>, AllocError>

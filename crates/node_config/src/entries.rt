@@ -5,7 +5,7 @@ ghost use Rattle.chat_change.specs.Words.{is_name, is_target};
 
 use byte_text::Text;
 use irc_time::Moment;
-use peer_lines::{NodeName, Version};
+use node_terms::{NodeName, Version};
 use std::net::SocketAddr;
 
 /// Another node of the cluster.

@@ -14,7 +14,7 @@ use crate::fault::{ConfigPlace, ListName, ValueFault, Wrong};
 use crate::names::is_cluster_name;
 use byte_text::Text;
 use irc_time::{Moment, read_time};
-use peer_lines::{LinkFault, NodeName, SharedWord, Version};
+use node_terms::{LinkFault, NodeName, SharedWord, Version};
 use std::alloc::Global;
 use std::net::SocketAddr;
 use toml::{Table, Value};

@@ -4,13 +4,13 @@ use Rattle.std.specs.List.{filter_map}
 use Rattle.std.specs.Option.{option_map}
 use Rattle.chat_change.specs.declared.change.Change.{Change}
 use Rattle.chat_change.specs.declared.change.Change.TheVariants.{AccountFloor}
-use Rattle.peer_handshake.specs.Handshake.{Terms}
-use Rattle.peer_handshake.specs.declared.terms.PeerTerms.{PeerTerms}
+use Rattle.node_terms.specs.Terms.{Terms}
+use Rattle.node_terms.specs.declared.terms.PeerTerms.{PeerTerms}
 use Rattle.node_config.specs.declared.config.Config.{Config}
 use Rattle.node_config.specs.declared.entries.Account.{Account}
 use Rattle.node_config.specs.declared.entries.Network.{Network}
 use Rattle.node_config.specs.declared.entries.Peer.{Peer}
-use Rattle.upstream_session.specs.declared.config.Config as session
+use Rattle.client_directory.specs.declared.config.Config as session
 
 -- the session with a network's server: with its account, its names and its channels
 abbrev pub session_of : Network → session.Config

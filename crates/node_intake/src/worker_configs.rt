@@ -5,13 +5,11 @@ ghost use Rattle.node_config.specs.Beginnings.{directory_of, names_of};
 
 use bnc_ports::Lobby;
 use byte_text::{NoMemory, Text};
+use client_directory::Channels;
 use client_places::Attachment;
 use node_config::{Config, Network, Peer};
-use peer_handshake::{PeerTerms, Terms};
-use peer_lines::{Life, LinkFault, SharedWord};
+use node_terms::{Life, LinkFault, PeerTerms, SharedWord, Terms};
 use std::alloc::Global;
-use upstream_session as upstream;
-use upstream_session::Channels;
 use worker_io::WorkerConfig;
 
 fn copies_of(alloc: Global, texts: &[Text]) -> Result<Vec<Text>, NoMemory>
@@ -27,7 +25,7 @@ fn copies_of(alloc: Global, texts: &[Text]) -> Result<Vec<Text>, NoMemory>
     Ok(copies)
 }
 
-fn session_of(alloc: Global, network: &Network) -> Result<upstream::Config, NoMemory>
+fn session_of(alloc: Global, network: &Network) -> Result<client_directory::Config, NoMemory>
     ensures { IfOk result (λ session. session ≡ spec.session_of network.now) }
 {
     let account = network.account.try_clone(alloc)?;
@@ -35,7 +33,7 @@ fn session_of(alloc: Global, network: &Network) -> Result<upstream::Config, NoMe
     let nick = network.nick.try_clone(alloc)?;
     let user = network.user.try_clone(alloc)?;
     let channels = Channels::of(copies_of(alloc, &network.channels)?);
-    Ok(upstream::Config {
+    Ok(client_directory::Config {
         account,
         network: name,
         nick,
@@ -44,7 +42,7 @@ fn session_of(alloc: Global, network: &Network) -> Result<upstream::Config, NoMe
     })
 }
 
-fn sessions_of(alloc: Global, networks: &[Network]) -> Result<Vec<upstream::Config>, NoMemory>
+fn sessions_of(alloc: Global, networks: &[Network]) -> Result<Vec<client_directory::Config>, NoMemory>
     ensures { IfOk result (λ sessions. sessions.items ≡ spec.sessions_of networks.now) }
 {
     let mut sessions = Vec::new(alloc);

@@ -2,14 +2,15 @@
 use Rattle.std.proofs.Common.{◌≡◌, ℕ, true, false, List, [], ◌∷◌, ◌++◌, Option, Some, None, refl, sym, ◌∙◌, ap, subst, append-nil}
 use Rattle.std.specs.Prelude.{IfNone, is_some, option_to_list}
 use Rattle.irc_line.specs.Stream.{Item, holding}
-use Rattle.peer_lines.specs.Life.{Life, Packet}
+use Rattle.node_terms.specs.Life.{Life}
+use Rattle.peer_lines.specs.Packet.{Packet}
 use Rattle.peer_lines.specs.Spelling.{written}
 use Rattle.peer_lines.specs.declared.gather.Arrived.{Arrived}
 use Rattle.peer_lines.specs.declared.peer_line.PeerLine.{PeerLine}
 use Rattle.peer_lines.specs.declared.peer_line.PeerLine.TheVariants as line
-use Rattle.peer_handshake.specs.Handshake.{Terms}
+use Rattle.node_terms.specs.Terms.{Terms}
 use Rattle.gossip_link.specs.Link.{Link}
-use Rattle.peer_handshake.specs.declared.handshake.Side.{Side}
+use Rattle.gossip_link.specs.declared.handshake.Side.{Side}
 use Rattle.peer_session.specs.Arrival.{IsOutcome, pace_after, reply}
 use Rattle.peer_session.specs.Packets.{text_of, to_of}
 use Rattle.peer_session.specs.Pace as pace

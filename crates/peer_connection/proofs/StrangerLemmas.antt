@@ -7,11 +7,12 @@ use Rattle.peer_lines.specs.Gather as gather
 use Rattle.peer_lines.specs.Gather.{Gather, pushed}
 use Rattle.peer_lines.specs.declared.gather.Arrived.{Arrived}
 use Rattle.peer_lines.specs.declared.peer_line.PeerLine.{PeerLine}
-use Rattle.peer_handshake.specs.Handshake.{Terms, ArePeers, names_of, after, action}
-use Rattle.peer_handshake.specs.declared.handshake.Handshake.{Handshake}
-use Rattle.peer_handshake.specs.declared.handshake.Side.{Side}
-use Rattle.peer_handshake.specs.declared.handshake.Action.{Action}
-use Rattle.peer_handshake.specs.declared.handshake.Action.TheVariants as act
+use Rattle.node_terms.specs.Terms.{Terms, names_of}
+use Rattle.gossip_link.specs.Handshake.{ArePeers, after, action}
+use Rattle.gossip_link.specs.declared.handshake.Handshake.{Handshake}
+use Rattle.gossip_link.specs.declared.handshake.Side.{Side}
+use Rattle.gossip_link.specs.declared.handshake.Action.{Action}
+use Rattle.gossip_link.specs.declared.handshake.Action.TheVariants as act
 use Rattle.peer_session.specs.Lines.{after_lines, last_step}
 use Rattle.peer_session.specs.Pace as pace
 use Rattle.peer_session.specs.Session.{Session, Step, new, step, acted, handed_up, gathered, closed, fault_of, opening}

@@ -2,14 +2,16 @@
 -- whether the peer was noted as the one at the other end, and all that was said to it.
 use Rattle.std.specs.Prelude.{ℕ, ◌≡◌, true, false, List, [], ◌∷◌, ◌++◌, Option, None, Some, slice_get}
 use Rattle.irc_line.specs.Stream.{Item, items}
-use Rattle.peer_lines.specs.Life.{Life, Ack, Packet}
+use Rattle.node_terms.specs.Life.{Life}
+use Rattle.peer_lines.specs.Packet.{Ack, Packet}
 use Rattle.peer_lines.specs.Spelling.{written}
 use Rattle.peer_lines.specs.declared.gather.Arrived.{Arrived}
 use Rattle.peer_lines.specs.declared.peer_line.PeerLine.{PeerLine}
 use Rattle.peer_lines.specs.declared.peer_line.PeerLine.TheVariants as line
-use Rattle.peer_handshake.specs.Handshake.{Terms, ArePeers, names_of}
+use Rattle.node_terms.specs.Terms.{Terms, names_of}
+use Rattle.gossip_link.specs.Handshake.{ArePeers}
 use Rattle.gossip_link.specs.Link.{Link}
-use Rattle.peer_handshake.specs.declared.handshake.Side.{Side}
+use Rattle.gossip_link.specs.declared.handshake.Side.{Side}
 use Rattle.peer_session.specs.Arrival.{IsOutcome, pace_after, reply}
 use Rattle.peer_session.specs.Packets.{text_of, to_of}
 use Rattle.peer_session.specs.Pace as pace

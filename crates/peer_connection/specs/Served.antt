@@ -1,7 +1,7 @@
 -- A peer as a worker has it.
 use Rattle.std.specs.Prelude.{ℕ, ◌≡◌, List, Option, Some}
 use Rattle.irc_line.specs.Stream.{Item}
-use Rattle.peer_handshake.specs.Handshake.{Terms}
+use Rattle.node_terms.specs.Terms.{Terms}
 use Rattle.peer_session.specs.Session.{Session, Step, AfterBytes}
 use Rattle.peer_session.specs.declared.heard.Heard.{Heard}
 use Rattle.work_lines.specs.Incoming.{Unread, AreGiven, next_of}

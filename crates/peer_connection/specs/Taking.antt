@@ -3,7 +3,7 @@ use Rattle.std.specs.Prelude.{ℕ, ◌≡◌, ◌++◌, List, Option}
 use Rattle.irc_line.specs.Stream.{Item, items}
 use Rattle.chat_change.specs.declared.change.Change.{Change}
 use Rattle.peer_lines.specs.declared.gather.Arrived.{Arrived}
-use Rattle.peer_handshake.specs.Handshake.{Terms}
+use Rattle.node_terms.specs.Terms.{Terms}
 use Rattle.peer_session.specs.Arrival.{IsTaken, changes_of}
 use Rattle.peer_session.specs.Session.{Session}
 use Rattle.peer_session.specs.declared.heard.Heard.TheVariants.{Message}

@@ -3,7 +3,7 @@
 ghost use Rattle.std.specs.Prelude.{◌≡◌, ◌⊎◌, ℕ, List, Option};
 ghost use Rattle.irc_line.specs.Stream.{Item, items};
 ghost use Rattle.peer_lines.specs.declared.gather.Arrived.{Arrived};
-ghost use Rattle.peer_handshake.specs.Handshake.{Terms};
+ghost use Rattle.node_terms.specs.Terms.{Terms};
 ghost use Rattle.peer_session.specs.Session.{Session, opening};
 ghost use Rattle.peer_session.specs.declared.heard.Heard.{Heard};
 ghost use Rattle.peer_session.specs.declared.heard.Heard.TheVariants.{Message};

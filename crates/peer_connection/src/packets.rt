@@ -6,7 +6,7 @@ use crate::owing::owe;
 use crate::talk::Talk;
 use bnc_ports::{Connection, Reason};
 use byte_text::NoMemory;
-use gossip_delta::{Source, Taker};
+use chat_history::{Source, Taker};
 use gossip_link::{Link, LinkFault};
 use peer_session::{Heard, Outcome};
 use std::mem;

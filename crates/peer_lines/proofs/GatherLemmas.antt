@@ -6,11 +6,11 @@ use Rattle.std.proofs.lemmas.Bool.{cond-true, cond-false}
 use Rattle.std.proofs.lemmas.Bool.Decides.{nat_tests}
 use Rattle.std.proofs.lemmas.List.Elements.{All-cons, All-map}
 use Rattle.chat_change.specs.declared.change.Change as change
-use Rattle.peer_lines.specs.Life as parts
-use Rattle.peer_lines.specs.Life.{Packet, head_of, packet_of}
+use Rattle.peer_lines.specs.Packet as parts
+use Rattle.peer_lines.specs.Packet.{Packet, head_of, packet_of}
 use Rattle.peer_lines.specs.Spelling.{IsPeerLine, IsPacket, lines_of}
 use Rattle.peer_lines.specs.Gather.{Gather, ArrivedOrFault, Pushed, with_change, arrives, waits, pushed, after, answers}
-use Rattle.peer_lines.specs.declared.fault.LinkFault.{LinkFault}
+use Rattle.node_terms.specs.declared.fault.LinkFault.{LinkFault}
 use Rattle.peer_lines.specs.declared.peer_line.PeerLine.{PeerLine}
 use Rattle.peer_lines.specs.declared.peer_line.PeerLine.TheVariants.{Word, Hello, Head, Change, Ack}
 use Rattle.peer_lines.specs.declared.gather.Arrived.TheVariants as arrived

@@ -1,4 +1,3 @@
-mod NameLemmas
 mod NumberLemmas
 mod WordLemmas
 mod ChangeLemmas
@@ -6,4 +5,3 @@ mod LineLemmas
 mod GatherLemmas
 mod CutLemmas
 mod WrittenLemmas
-pub mod CallerLemmas

@@ -3,12 +3,13 @@ use Rattle.std.proofs.Common.{◌≡◌, ℕ, List, ◌++◌, codes, append_asso
 use Rattle.std.specs.List.{flat_map}
 use Rattle.chat_change.specs.declared.change.Change.{Change as Piece}
 use Rattle.change_lines.specs.ChangeText.{line_end}
-use Rattle.peer_lines.specs.Version.{number}
-use Rattle.peer_lines.specs.Life as parts
-use Rattle.peer_lines.specs.Life.{Life, Packet, head_of}
+use Rattle.node_terms.specs.Version.{number}
+use Rattle.peer_lines.specs.Packet as parts
+use Rattle.node_terms.specs.Life.{Life}
+use Rattle.peer_lines.specs.Packet.{Packet, head_of}
 use Rattle.peer_lines.specs.Spelling.{written, packet_text}
 use Rattle.peer_lines.specs.WrittenParts.{number_text, life_text, lives_text, numbers_text}
-use Rattle.peer_lines.specs.declared.version.Version.{Version}
+use Rattle.node_terms.specs.declared.version.Version.{Version}
 use Rattle.peer_lines.specs.declared.peer_line.PeerLine.TheVariants.{Hello, Head, Change, Ack}
 
 pub life_parts : (l : Life) (name : List ℕ) (n : ℕ) → name ≡ l.node → n ≡ l.incarnation → codes " " ++ (name ++ number_text n) ≡ life_text l

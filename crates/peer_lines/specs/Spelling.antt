@@ -10,10 +10,11 @@ use Rattle.std.specs.Fmt.{decimal}
 use Rattle.std.specs.List.{All, flat_map, join_with_byte}
 use Rattle.change_lines.specs.ChangeText.{line_of as change_text, line_end}
 use Rattle.chat_change.specs.Lawful.{IsLawfulChange}
-use Rattle.peer_lines.specs.Names.{is_node_name, is_shared_word}
-use Rattle.peer_lines.specs.Version.{number}
-use Rattle.peer_lines.specs.Life as parts
-use Rattle.peer_lines.specs.Life.{Life, Packet, head_of}
+use Rattle.node_terms.specs.Life.{Life, IsLife}
+use Rattle.node_terms.specs.Names.{is_shared_word}
+use Rattle.node_terms.specs.Version.{number}
+use Rattle.peer_lines.specs.Packet as parts
+use Rattle.peer_lines.specs.Packet.{Packet, head_of}
 use Rattle.peer_lines.specs.declared.packet.TheConstants.{PACKET_LIMIT}
 use Rattle.peer_lines.specs.declared.peer_line.PeerLine.{PeerLine}
 use Rattle.peer_lines.specs.declared.peer_line.PeerLine.TheVariants.{Word, Hello, Head, Change, Ack}
@@ -44,10 +45,6 @@ text_of (Change c) = change_text c
 text_of (Ack ack) = spaced (codes "A" ∷ ack_words ack)
 
 -- ---- which lines there are: those of which each part is lawful
-
-pub record IsLife (l : Life) : Type 0 where
-  pub node : is_node_name l.node ≡ true
-  pub incarnation : l.incarnation < 2 ^ 64
 
 pub record IsHead (h : parts.Head) : Type 0 where
   pub sender : IsLife h.sender

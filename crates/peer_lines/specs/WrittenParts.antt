@@ -1,7 +1,7 @@
 -- The parts that lines are written of, one after another.
 use Rattle.std.specs.Prelude.{ℕ, List, ◌++◌, codes}
 use Rattle.std.specs.Fmt.{decimal}
-use Rattle.peer_lines.specs.Life.{Life}
+use Rattle.node_terms.specs.Life.{Life}
 use Rattle.change_lines.specs.ChangeText.{line_end}
 
 abbrev pub number_text : ℕ → List ℕ

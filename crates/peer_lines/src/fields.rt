@@ -5,17 +5,23 @@ ghost use Rattle.peer_lines.specs.Reading as spec;
 ghost use Rattle.peer_lines.specs.Fields.{life_value, hello_value, head_value, ack_value};
 ghost use Rattle.peer_lines.specs.Fields.{span_value};
 
-use crate::names::is_node_name;
 use crate::packet::PACKET_LIMIT;
-use crate::version::Version;
 use byte_text::number_to;
 use change_lines::split_word;
+use node_terms::{Version, is_node_name};
 
 /// The number below 2^64 of which the text is the decimal digits, without leading zeros.
 pub(crate) fn number_of(text: &[u8]) -> Option<u64>
     ensures { result ≡ spec.number_of text.now }
 {
     number_to(u64::MAX, text)
+}
+
+/// The version of which the text is the number, in decimal digits without leading zeros.
+fn version_of(text: &[u8]) -> Option<Version>
+    ensures { result ≡ spec.version_of text.now }
+{
+    Version::of_number(number_of(text)?)
 }
 
 /// A life in a line: the name of the node, which is one, and the incarnation.
@@ -96,7 +102,7 @@ pub(crate) fn hello_at<'a>(bytes: &'a [u8]) -> Option<HelloFields<'a>>
 {
     let (version, rest) = split_word(bytes);
     let (node, incarnation) = split_word(rest);
-    match (Version::read(version), life_of(node, incarnation)) {
+    match (version_of(version), life_of(node, incarnation)) {
         (Some(version), Some(life)) => Some(HelloFields { life, version }),
         _ => None,
     }

@@ -5,13 +5,10 @@ ghost use Rattle.std.specs.Map.Iter.{deref};
 ghost use Rattle.peer_lines.specs.declared.peer_line.PeerLine.TheVariants as of_line;
 ghost use Rattle.peer_lines.specs.Gather.{pushed, IsAnswerFor, buffer_of};
 
-use crate::fault::LinkFault;
-use crate::life::Life;
 use crate::packet::{Ack, Head, Packet};
 use crate::peer_line::PeerLine;
-use crate::shared_word::SharedWord;
-use crate::version::Version;
 use chat_change::{Buffer, Change, Extent};
+use node_terms::{Life, LinkFault, SharedWord, Version};
 use std::alloc::{AllocError, Global};
 use std::marker::Model;
 

@@ -1,8 +1,8 @@
 //! What nodes send each other: packets of changes, and acknowledgements.
 ghost use Rattle.std.specs.Prelude.{◌≡◌, length};
 
-use crate::life::Life;
 use chat_change::Change;
+use node_terms::Life;
 use std::marker::Model;
 
 /// The most changes of one packet.
@@ -19,7 +19,7 @@ pub struct Head {
 }
 
 impl Model for Head {
-    ghost use Rattle.peer_lines.specs.Life as spec;
+    ghost use Rattle.peer_lines.specs.Packet as spec;
 
     ghost Value = { spec.Head };
 
@@ -33,7 +33,7 @@ impl Model for Head {
 }
 
 impl Head {
-    ghost use Rattle.peer_lines.specs.Life.{packet_of};
+    ghost use Rattle.peer_lines.specs.Packet.{packet_of};
 
     // The packet of the head and these changes.
     pub(crate) fn with_changes(self, changes: Vec<Change>) -> Packet
@@ -60,7 +60,7 @@ pub struct Packet {
 }
 
 impl Model for Packet {
-    ghost use Rattle.peer_lines.specs.Life as spec;
+    ghost use Rattle.peer_lines.specs.Packet as spec;
 
     ghost Value = { spec.Packet };
 
@@ -74,7 +74,7 @@ impl Model for Packet {
 }
 
 impl Packet {
-    ghost use Rattle.peer_lines.specs.Life as spec;
+    ghost use Rattle.peer_lines.specs.Packet as spec;
 
     /// The packet of these changes, from one life to another.
     pub fn new(sender: Life, receiver: Life, from: u64, to: u64, changes: Vec<Change>) -> Packet
@@ -140,7 +140,7 @@ pub struct Ack {
 }
 
 impl Model for Ack {
-    ghost use Rattle.peer_lines.specs.Life as spec;
+    ghost use Rattle.peer_lines.specs.Packet as spec;
 
     ghost Value = { spec.Ack };
 
@@ -148,7 +148,7 @@ impl Model for Ack {
 }
 
 impl Ack {
-    ghost use Rattle.peer_lines.specs.Life as spec;
+    ghost use Rattle.peer_lines.specs.Packet as spec;
 
     /// The acknowledgement of a number, from one life to another.
     pub fn new(sender: Life, receiver: Life, upto: u64) -> Ack

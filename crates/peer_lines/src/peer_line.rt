@@ -1,21 +1,17 @@
 //! Lines of a peer, and how they are read.
 ghost use Rattle.std.specs.Prelude.{◌≡◌, true, IfOk, List, ℕ};
 ghost use Rattle.std.specs.Option.{option_map};
-ghost use Rattle.peer_lines.specs.Names as names;
+ghost use Rattle.node_terms.specs.Names as names;
 ghost use Rattle.peer_lines.specs.Fields.{life_value, hello_value, head_value, ack_value};
 ghost use Rattle.peer_lines.specs.Reading as spec;
 ghost use Rattle.peer_lines.specs.LineReading as reading;
 
-use crate::fault::LinkFault;
 use crate::fields::{AckFields, HeadFields, HelloFields, LifeFields, ack_at, head_at, hello_at};
-use crate::life::Life;
-use crate::names::NodeName;
 use crate::packet::{Ack, Head};
-use crate::shared_word::{SharedWord, is_shared_word};
-use crate::version::Version;
 use byte_text::NoMemory;
 use change_lines::{ChangeLineFault, is_text, read_change_in, split_word};
 use chat_change::{Buffer, Change};
+use node_terms::{Life, LinkFault, NodeName, SharedWord, Version, is_shared_word};
 use std::alloc::Global;
 
 /// A line of a peer.

@@ -3,17 +3,16 @@ ghost use Rattle.std.specs.Prelude.{◌++◌, ◌∷◌, [], length, map, codes}
 ghost use Rattle.std.specs.Fmt.{decimal};
 ghost use Rattle.std.specs.List.{flat_map};
 ghost use Rattle.byte_text.specs.Writes.{Writes};
-ghost use Rattle.peer_lines.specs.Life as parts;
+ghost use Rattle.peer_lines.specs.Packet as parts;
 ghost use Rattle.peer_lines.specs.Spelling.{written, packet_text};
 ghost use Rattle.peer_lines.specs.WrittenParts.{life_text, lives_text, numbers_text};
 
-use crate::life::Life;
 use crate::packet::{Ack, Packet};
 use crate::peer_line::PeerLine;
-use crate::version::Version;
 use byte_text::put;
 use change_lines::write_change;
 use chat_change::Change;
+use node_terms::{Life, Version};
 use std::io;
 use std::io::Write;
 

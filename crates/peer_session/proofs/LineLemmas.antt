@@ -4,15 +4,16 @@ use Rattle.peer_lines.specs.Gather as gather
 use Rattle.peer_lines.specs.Gather.{Gather, pushed}
 use Rattle.peer_lines.specs.declared.gather.Arrived.{Arrived}
 use Rattle.peer_lines.specs.declared.peer_line.PeerLine.{PeerLine}
-use Rattle.peer_handshake.specs.Handshake.{Terms, after, after_all, action, handed_to, last_action}
-use Rattle.peer_handshake.specs.declared.handshake.Side.{Side}
-use Rattle.peer_handshake.specs.declared.handshake.Side.TheVariants.{Opener, Acceptor}
-use Rattle.peer_handshake.specs.declared.handshake.Stage.{Stage}
-use Rattle.peer_handshake.specs.declared.handshake.Stage.TheVariants.{Silent, Refused}
-use Rattle.peer_handshake.specs.declared.handshake.Action.{Action}
-use Rattle.peer_handshake.specs.declared.handshake.Action.TheVariants as act
+use Rattle.node_terms.specs.Terms.{Terms}
+use Rattle.gossip_link.specs.Handshake.{after, after_all, action, handed_to, last_action}
+use Rattle.gossip_link.specs.declared.handshake.Side.{Side}
+use Rattle.gossip_link.specs.declared.handshake.Side.TheVariants.{Opener, Acceptor}
+use Rattle.gossip_link.specs.declared.handshake.Stage.{Stage}
+use Rattle.gossip_link.specs.declared.handshake.Stage.TheVariants.{Silent, Refused}
+use Rattle.gossip_link.specs.declared.handshake.Action.{Action}
+use Rattle.gossip_link.specs.declared.handshake.Action.TheVariants as act
 use Rattle.peer_session.specs.declared.heard.Heard.TheVariants.{Message, Close}
-use Rattle.peer_handshake.specs.declared.handshake.Handshake.{Handshake}
+use Rattle.gossip_link.specs.declared.handshake.Handshake.{Handshake}
 use Rattle.peer_session.specs.Session.{Session, Step, new, step, acted, handed_up, gathered, greeting, fault_of, is_close}
 use Rattle.peer_session.specs.Pace as pace
 use Rattle.peer_session.specs.Lines.{after_lines, last_step}

@@ -1,8 +1,8 @@
 -- What comes of a message of a peer: a hello, a packet or an acknowledgement.
 use Rattle.std.specs.Prelude.{ℕ, ◌≡◌, ◌⊎◌, Bool, true, not, ◌&&◌, ◌++◌, MatchBool, List, [], take, if◌then◌else◌}
 use Rattle.chat_change.specs.declared.change.Change.{Change}
-use Rattle.gossip_delta.specs.Growth.{AfterOthers}
-use Rattle.peer_lines.specs.Life as parts
+use Rattle.chat_history.specs.Growth.{AfterOthers}
+use Rattle.peer_lines.specs.Packet as parts
 use Rattle.peer_lines.specs.Spelling.{written}
 use Rattle.peer_lines.specs.declared.gather.Arrived.{Arrived}
 use Rattle.peer_lines.specs.declared.gather.Arrived.TheVariants.{Word, Hello, Packet, Ack}

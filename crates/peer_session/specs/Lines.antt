@@ -1,8 +1,8 @@
 -- The lines of a connection, in turn. What is published, acknowledged and timed meanwhile plays no part in them.
 use Rattle.std.specs.Prelude.{List, [], ◌∷◌, Option}
 use Rattle.peer_lines.specs.declared.peer_line.PeerLine.{PeerLine}
-use Rattle.peer_handshake.specs.Handshake.{Terms}
-use Rattle.peer_handshake.specs.declared.handshake.Side.{Side}
+use Rattle.node_terms.specs.Terms.{Terms}
+use Rattle.gossip_link.specs.declared.handshake.Side.{Side}
 use Rattle.peer_session.specs.Session.{Session, Step, new, step}
 
 abbrev pub after_lines : Terms → Session → List (Option PeerLine) → Session

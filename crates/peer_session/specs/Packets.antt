@@ -2,11 +2,11 @@
 use Rattle.std.specs.Prelude.{ℕ, ◌≡◌, true, false, Option, Some, None, List, []}
 use Rattle.chat_change.specs.declared.change.Change.{Change}
 use Rattle.chat_history.specs.Numbering.{delta}
-use Rattle.gossip_delta.specs.Growth.{AfterOthers}
-use Rattle.peer_lines.specs.Life.{Packet}
+use Rattle.chat_history.specs.Growth.{AfterOthers}
+use Rattle.peer_lines.specs.Packet.{Packet}
 use Rattle.peer_lines.specs.Spelling.{packet_text}
 use Rattle.gossip_link.specs.Link.{Link}
-use Rattle.peer_lines.specs.declared.version.TheConstants.Version.{OWN}
+use Rattle.node_terms.specs.declared.version.TheConstants.Version.{OWN}
 use Rattle.gossip_link.specs.Peer.{is_served, packet_of, after_make, MayBeWritten}
 
 -- the number up to which a packet is

@@ -5,12 +5,13 @@ use Rattle.peer_lines.specs.Gather.{Gather, pushed}
 use Rattle.peer_lines.specs.Spelling.{Spells, written}
 use Rattle.peer_lines.specs.declared.peer_line.PeerLine.{PeerLine}
 use Rattle.peer_lines.specs.declared.peer_line.PeerLine.TheVariants as line
-use Rattle.peer_handshake.specs.Handshake.{Terms, version_for, after, action, greeted_first}
-use Rattle.peer_handshake.specs.declared.handshake.Handshake.{Handshake}
-use Rattle.peer_handshake.specs.declared.handshake.Side.{Side}
-use Rattle.peer_handshake.specs.declared.handshake.Stage.TheVariants.{Silent, Refused}
-use Rattle.peer_handshake.specs.declared.handshake.Action.{Action}
-use Rattle.peer_handshake.specs.declared.handshake.Action.TheVariants as act
+use Rattle.node_terms.specs.Terms.{Terms, version_for}
+use Rattle.gossip_link.specs.Handshake.{after, action, greeted_first}
+use Rattle.gossip_link.specs.declared.handshake.Handshake.{Handshake}
+use Rattle.gossip_link.specs.declared.handshake.Side.{Side}
+use Rattle.gossip_link.specs.declared.handshake.Stage.TheVariants.{Silent, Refused}
+use Rattle.gossip_link.specs.declared.handshake.Action.{Action}
+use Rattle.gossip_link.specs.declared.handshake.Action.TheVariants as act
 use Rattle.peer_session.specs.declared.heard.Fault.{Fault}
 use Rattle.peer_session.specs.declared.heard.Fault.TheVariants.{WrongWord, UnknownNode, BadLine}
 use Rattle.peer_session.specs.declared.heard.Heard.{Heard}

@@ -1,6 +1,6 @@
 //! What a message of a peer comes to, on the link with that peer.
 ghost use Rattle.std.specs.Prelude.{◌≡◌, ◌++◌, ◌⊎◌, true, IfOk, OnErr};
-ghost use Rattle.gossip_delta.specs.Growth.{AfterOthers};
+ghost use Rattle.chat_history.specs.Growth.{AfterOthers};
 ghost use Rattle.peer_lines.specs.Spelling.{written};
 ghost use Rattle.peer_lines.specs.declared.peer_line.PeerLine.TheVariants as line;
 ghost use Rattle.gossip_link.specs.Peer.{packet_is_mine};
@@ -10,7 +10,7 @@ use crate::outcome::Outcome;
 use crate::session::PeerSession;
 use byte_text::NoMemory;
 use chat_change::Change;
-use gossip_delta::Taker;
+use chat_history::Taker;
 use gossip_link::{Ack, Arrived, Life, Link, LinkFault, Packet, Version, write_ack};
 use std::alloc::Global;
 

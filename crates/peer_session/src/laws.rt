@@ -4,9 +4,10 @@ ghost use Rattle.std.specs.Prelude.{false, true, length, nat_le, slice_get};
 ghost use Rattle.std.specs.List.{list_any, count_by};
 ghost use Rattle.peer_lines.specs.declared.peer_line.PeerLine.{PeerLine};
 ghost use Rattle.peer_lines.specs.declared.gather.Arrived.{Arrived};
-ghost use Rattle.peer_handshake.specs.Handshake.{Terms, names_of, ArePeers};
-ghost use Rattle.peer_handshake.specs.declared.handshake.Side.{Side};
-ghost use Rattle.peer_handshake.specs.declared.handshake.Side.TheVariants.{Acceptor};
+ghost use Rattle.node_terms.specs.Terms.{Terms, names_of};
+ghost use Rattle.gossip_link.specs.Handshake.{ArePeers};
+ghost use Rattle.gossip_link.specs.declared.handshake.Side.{Side};
+ghost use Rattle.gossip_link.specs.declared.handshake.Side.TheVariants.{Acceptor};
 ghost use Rattle.peer_session.specs.Session.{Session, greeting, step, fault_of, is_close};
 ghost use Rattle.peer_session.specs.Lines.{last_step};
 ghost use Rattle.peer_session.specs.declared.heard.Heard.TheVariants.{Message, Close};
@@ -82,5 +83,5 @@ pub fn messages_come_from_peers()
         (pace.is_due (step t s line).session.pace ≡ false)
         × (then.heard ≡ Close (fault_of next)) × (then.sent ≡ []) }
 {
-    peer_handshake::laws::handshake();
+    gossip_link::laws::handshake();
 }

@@ -1,14 +1,14 @@
 //! The next packet for a peer.
 ghost use Rattle.std.specs.Prelude.{◌≡◌, ◌++◌, ◌⊎◌, Option, IfOk, IfErr, OnErr};
 ghost use Rattle.std.specs.Prelude.{true, false, is_some};
-ghost use Rattle.gossip_delta.specs.Growth.{AfterOthers};
-ghost use Rattle.peer_lines.specs.Life.{Packet as Parcel};
+ghost use Rattle.chat_history.specs.Growth.{AfterOthers};
+ghost use Rattle.peer_lines.specs.Packet.{Packet as Parcel};
 ghost use Rattle.peer_session.specs.Packets as spec;
 ghost use Rattle.peer_session.specs.Pace as paces;
 
 use crate::pace::Pace;
 use crate::session::PeerSession;
-use gossip_delta::Source;
+use chat_history::Source;
 use gossip_link::{Link, LinkFault, Packet, write_packet};
 use std::alloc::Global;
 

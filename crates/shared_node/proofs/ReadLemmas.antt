@@ -5,8 +5,8 @@ use Rattle.std.proofs.lemmas.List.{append-nil}
 use mathlib.Core.List.{IsPrefix}
 use Rattle.chat_change.specs.declared.change.Change.{Change}
 use Rattle.chat_history.specs.Numbering.{Delta, delta}
-use Rattle.gossip_delta.specs.declared.delta.DeltaFault.{DeltaFault}
-use Rattle.gossip_delta.specs.declared.delta.DeltaFault.TheVariants.{NoEntry, NoMemory}
+use Rattle.chat_history.specs.declared.delta.DeltaFault.{DeltaFault}
+use Rattle.chat_history.specs.declared.delta.DeltaFault.TheVariants.{NoEntry, NoMemory}
 use Rattle.change_log.specs.declared.entry.Entry.{Entry}
 use Rattle.change_log.specs.Lists.{changes_in, under}
 use Rattle.shared_node.specs.Passes.{PassValue, Reads}

@@ -6,7 +6,7 @@ use Rattle.irc_line.specs.Text.{line_ending}
 use Rattle.irc_line.specs.CanStand.{HasNoBadByte}
 use Rattle.chat_change.specs.Words.{is_target}
 use Rattle.client_directory.specs.Entry.{Entry}
-use Rattle.upstream_session.specs.declared.config.Config.{Config}
+use Rattle.client_directory.specs.declared.config.Config.{Config}
 use Rattle.upstream_session.specs.declared.effect.UpEffect.{UpEffect}
 use Rattle.upstream_session.specs.declared.effect.UpEffect.TheVariants.{Send, Put, Relay, Close}
 use Rattle.upstream_session.specs.Sayings.{without_ending}

@@ -2,9 +2,8 @@
 ghost use Rattle.std.specs.Prelude.{◌≡◌};
 ghost use Rattle.upstream_session.specs.MessageOutcome.{after};
 
-use crate::config::Channels;
 use byte_text::Text;
-use client_directory::Entry;
+use client_directory::{Channels, Entry};
 use irc_caps::CapSet;
 
 /// The serial number at which a session ends.

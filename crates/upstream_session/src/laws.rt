@@ -13,7 +13,7 @@ ghost use Rattle.upstream_session.specs.Refusal.{refuses, refusal_after, IsShown
 ghost use Rattle.upstream_session.specs.Passing.{is_passed_on, IsRelayAtMost};
 ghost use Rattle.upstream_session.specs.Events.{ServerEvent, Line, after, effects_of, run, all_effects, IsOwnEffect, IsUnheard, IsWelcome, id_given, IsIdOf, HasPost, ids_made, tags_given, HasTags, IsSentAsKept, HasClose, EndsAtClose};
 ghost use Rattle.upstream_session.specs.Standing.{WritesOneLine, ConfigStands, EntryStands, EventStands};
-ghost use Rattle.upstream_session.specs.declared.config.Config.{Config};
+ghost use Rattle.client_directory.specs.declared.config.Config.{Config};
 ghost use Rattle.upstream_session.specs.declared.connection.Connection.{Connection};
 ghost use Rattle.upstream_session.specs.declared.connection.TheConstants.{LAST_SERIAL};
 

@@ -8,7 +8,6 @@
 
 mod buffers;
 mod command;
-mod config;
 mod connection;
 mod effect;
 mod effects;
@@ -22,8 +21,7 @@ mod scratch;
 mod upstream;
 
 pub use byte_text::{NoMemory, Text};
-pub use client_directory::Entry;
-pub use config::{Channels, Config};
+pub use client_directory::{Channels, Config, Entry};
 pub use effect::UpEffect;
 pub use irc_caps::{Capability, Recipients};
 pub use messages::is_from;

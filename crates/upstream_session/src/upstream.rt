@@ -7,7 +7,6 @@ ghost use Rattle.upstream_session.specs.Rows.{serve};
 ghost use Rattle.upstream_session.specs.Session as spec;
 ghost use Rattle.upstream_session.specs.Step as steps;
 
-use crate::config::Config;
 use crate::connection::{Connection, Home};
 use crate::effect::UpEffect;
 use crate::effects::{push, send};
@@ -16,7 +15,7 @@ use crate::sayings::without_ending;
 use crate::scratch::Scratch;
 use byte_text::{NoMemory, Text};
 use chat_change::Moment;
-use client_directory::Entry;
+use client_directory::{Config, Entry};
 use irc_caps::CapSet;
 use irc_line::{Line, TagLimit, read_line};
 use irc_reply::to_server::{ls_line, nick_line, user_line};

@@ -3,7 +3,7 @@ use crate::peer::Peer;
 use crate::peer_record::PeerRecord;
 use crate::peers::Peers;
 use bnc_ports::{Connection, Event, Port};
-use gossip_delta::DELTA_LIMIT;
+use chat_history::DELTA_LIMIT;
 use gossip_link::{Arrived, Version};
 use peer_session::{Outcome, changes_of};
 use worker_io::{Context, NodeView, Timer};

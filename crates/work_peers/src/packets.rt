@@ -5,7 +5,7 @@ ghost use Rattle.peer_connection.specs.Taking.{IsTakenFromPeer};
 use crate::peers::Peers;
 use bnc_ports::{Carries, Connection, Port, Reason};
 use byte_text::NoMemory;
-use gossip_delta::{Source, Taker};
+use chat_history::{Source, Taker};
 use gossip_link::Arrived;
 use peer_connection::ToPeer;
 use peer_session::{Heard, Outcome};

@@ -4,7 +4,7 @@ use Rattle.irc_line.specs.Stream.{Item}
 use Rattle.irc_line.specs.Stream.{line as whole_line}
 use Rattle.bnc_ports.specs.declared.event.Reason.{Reason}
 use Rattle.upstream_session.specs.Session.{start}
-use Rattle.upstream_session.specs.declared.config.Config.{Config}
+use Rattle.client_directory.specs.declared.config.Config.{Config}
 use Rattle.upstream_session.specs.declared.effect.UpEffect.{UpEffect}
 use Rattle.passed_lines.specs.OwnSession.{OwnSession, begun}
 use Rattle.work_lines.specs.Incoming.{Unread, AreGiven}

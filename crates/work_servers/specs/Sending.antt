@@ -7,7 +7,7 @@ use Rattle.upstream_session.specs.Events.{ServerEvent, Line, Saying, run, all_ef
 use Rattle.upstream_session.specs.Passing.{is_passed_on}
 use Rattle.upstream_session.specs.Session.{start, opening, step, say}
 use Rattle.upstream_session.specs.Step.{new}
-use Rattle.upstream_session.specs.declared.config.Config.{Config}
+use Rattle.client_directory.specs.declared.config.Config.{Config}
 use Rattle.upstream_session.specs.declared.connection.Connection.{Connection}
 use Rattle.upstream_session.specs.declared.effect.UpEffect.{UpEffect}
 use Rattle.upstream_session.specs.declared.effect.UpEffect.TheVariants.{Send}

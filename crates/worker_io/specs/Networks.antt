@@ -1,7 +1,7 @@
 -- The configurations of networks.
 use Rattle.std.specs.Prelude.{ℕ, List, Bool, ◌&&◌}
 use Rattle.std.specs.Str.{bytes_eq}
-use Rattle.upstream_session.specs.declared.config.Config.{Config}
+use Rattle.client_directory.specs.declared.config.Config.{Config}
 
 -- it is that of the account's network
 abbrev pub is_of : Config → List ℕ → List ℕ → Bool

@@ -5,11 +5,10 @@ ghost use Rattle.worker_io.specs.Networks as spec;
 use bnc_ports::Clocks;
 use byte_text::{NoMemory, Text};
 use chat_change::Moment;
-use client_directory::{Directory, Entry};
-use peer_handshake::Terms;
+use client_directory::{Channels, Config, Directory, Entry};
+use node_terms::Terms;
 use std::alloc::Global;
 use std::sync::Arc;
-use upstream_session::{Channels, Config};
 
 /// What a worker knows of its node and of the time.
 #[derive(Drop)]

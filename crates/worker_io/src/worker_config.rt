@@ -1,11 +1,9 @@
 //! What a worker begins with, and how its work ends.
 use bnc_ports::Lobby;
 use byte_text::Text;
-use client_directory::Directory;
+use client_directory::{Config, Directory};
 use client_places::Boxed;
-use peer_handshake::Terms;
-use peer_lines::NodeName;
-use upstream_session::Config;
+use node_terms::{NodeName, Terms};
 
 /// How the work of one worker ended.
 #[derive(Clone, Copy, Debug, PartialEq, Eq)]

@@ -17,7 +17,7 @@ use worker_io::{Context, NodeView};
 /// A worker's way into its node. It may wait. What comes into the node by it is put by right, or was sent by a peer that had
 /// greeted: there is no other call that brings changes.
 pub trait Node: Wait + Drop {
-    /// What it has taken so far, as a [`Taker`](gossip_delta::Taker) says it.
+    /// What it has taken so far, as a [`Taker`](chat_history::Taker) says it.
     ghost holds: { Self → ℕ → List Piece → Type 0 };
 
     /// What others may give it meanwhile.

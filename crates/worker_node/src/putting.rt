@@ -5,7 +5,7 @@ ghost use Rattle.worker_node.specs.Putting.{MayBePut};
 use crate::node::Node;
 use chat_change::{Change, Moment};
 use client_connection::ClientPut;
-use gossip_delta::DeltaFault;
+use chat_history::DeltaFault;
 use passed_lines::ServerPut;
 use shared_node::PutFault;
 use std::slice;

@@ -1,10 +1,10 @@
 use Rattle.std.proofs.Common.{◌≡◌, ℕ, List, ◌++◌, ◌∙◌, refl}
 use Rattle.byte_text.proofs.CallerLemmas.{prefix_of_first, prefix_same, writes_second, writes_failed, writes_same}
-use Rattle.peer_lines.specs.Life.{Life}
+use Rattle.node_terms.specs.Life.{Life}
 use Rattle.peer_lines.specs.Spelling.{written}
-use Rattle.peer_lines.specs.declared.version.Version.{Version}
+use Rattle.node_terms.specs.declared.version.Version.{Version}
 use Rattle.peer_lines.specs.declared.peer_line.PeerLine.TheVariants.{Word, Hello}
-use Rattle.peer_handshake.specs.Handshake.{Terms, version_for}
+use Rattle.node_terms.specs.Terms.{Terms, version_for}
 use Rattle.peer_session.specs.Session.{greeting}
 use Rattle.peer_session.proofs.greeting.write_greeting.Goals as goal
 

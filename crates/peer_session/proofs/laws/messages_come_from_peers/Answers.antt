@@ -1,5 +1,5 @@
 use Rattle.std.proofs.Common.{[], ◌∷◌, ◌++◌, ap, inl, inr, ⊎_elim}
-use Rattle.peer_handshake.specs.Handshake.{handed_to, greets}
+use Rattle.gossip_link.specs.Handshake.{handed_to, greets}
 use Rattle.peer_session.proofs.LineLemmas.{handed, sends, nothing_follows}
 use Rattle.peer_session.proofs.laws.messages_come_from_peers.Goals as goal
 

@@ -1,5 +1,5 @@
 use Rattle.std.proofs.Common.{None, subst, ◌∙◌}
-use Rattle.peer_handshake.specs.Handshake.{Terms}
+use Rattle.node_terms.specs.Terms.{Terms}
 use Rattle.peer_session.specs.declared.heard.Heard.TheVariants.{Nothing}
 use Rattle.peer_connection.specs.Served.{IsServed}
 use Rattle.peer_connection.proofs.CourseLemmas.{opens, none_handed}

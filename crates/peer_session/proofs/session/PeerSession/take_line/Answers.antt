@@ -2,8 +2,8 @@ use Rattle.std.proofs.Common.{rules, ◌≡◌, ap, subst, ◌∙◌}
 use Rattle.std.specs.Prelude.{IfOk}
 use Rattle.std.specs.Option.{option_map}
 use Rattle.std.specs.Map.Iter.{deref}
-use Rattle.peer_handshake.specs.Handshake.{after}
-use Rattle.peer_handshake.specs.declared.handshake.Action.TheVariants as act
+use Rattle.gossip_link.specs.Handshake.{after}
+use Rattle.gossip_link.specs.declared.handshake.Action.TheVariants as act
 use Rattle.peer_session.specs.Session.{Session, step}
 use Rattle.peer_session.proofs.LineLemmas.{acted_session, acted_heard}
 use Rattle.peer_session.proofs.session.PeerSession.take_line.Goals as goal

@@ -1,4 +1,0 @@
-mod EntryLemmas
-mod DeltaLemmas
-mod SinceLemmas
-pub mod CallerLemmas

@@ -1,0 +1,3 @@
+mod NameLemmas
+mod TermsLemmas
+pub mod CallerLemmas
