@@ -42,7 +42,10 @@ fn session_of(alloc: Global, network: &Network) -> Result<client_directory::Conf
     })
 }
 
-fn sessions_of(alloc: Global, networks: &[Network]) -> Result<Vec<client_directory::Config>, NoMemory>
+fn sessions_of(
+    alloc: Global,
+    networks: &[Network],
+) -> Result<Vec<client_directory::Config>, NoMemory>
     ensures { IfOk result (λ sessions. sessions.items ≡ spec.sessions_of networks.now) }
 {
     let mut sessions = Vec::new(alloc);

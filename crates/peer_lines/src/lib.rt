@@ -17,8 +17,8 @@ mod writing;
 
 pub use gather::{Arrived, Gather};
 pub use node_terms::{
-    Life, LinkFault, NODE_NAME_LIMIT, NodeName, SHARED_WORD_LIMIT, SharedWord, Version, is_node_name,
-    is_shared_word,
+    Life, LinkFault, NODE_NAME_LIMIT, NodeName, SHARED_WORD_LIMIT, SharedWord, Version,
+    is_node_name, is_shared_word,
 };
 pub use packet::{Ack, Head, PACKET_LIMIT, Packet};
 pub use peer_line::{PeerLine, read_peer, read_peer_in};

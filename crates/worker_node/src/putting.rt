@@ -4,8 +4,8 @@ ghost use Rattle.worker_node.specs.Putting.{MayBePut};
 
 use crate::node::Node;
 use chat_change::{Change, Moment};
-use client_connection::ClientPut;
 use chat_history::DeltaFault;
+use client_connection::ClientPut;
 use passed_lines::ServerPut;
 use shared_node::PutFault;
 use std::slice;
