@@ -195,6 +195,70 @@ def a_message_for_which_there_is_no_memory_ends_the_session(fixture):
     client.ping()
 
 
+# Messages of a server that come at once.
+MESSAGES = tuple(f":bob!b@h PRIVMSG #a :{number}" for number in range(12))
+
+
+def heard(client):
+    """What a client is told before a PING is answered. None where the client was closed."""
+    lines = []
+    try:
+        client.say("PING here")
+        while not lines or lines[-1] != ":bnc.example PONG bnc.example :here":
+            lines.append(client.line())
+    except Failed:
+        return None
+    return tuple(lines[:-1])
+
+
+def is_settled(session):
+    """Whether the node takes all that the server said. Else it closes the connection."""
+    try:
+        session.hear("PONG :settled")
+    except Failed:
+        return False
+    return True
+
+
+def told_at_once(fixture, name, passed, refused):
+    """How many of the messages, which come at once, a client is told while so many requests in a row are refused behind so many.
+    None where fewer are made. The node has what the client is told: all of them, or the first ones, where the session ends."""
+    server, refusals = Server(fixture), Refusals(fixture)
+    node = Node(fixture, name, servers=[server.address], workers=1, front=refusals.front).begin()
+    fixture.logs.pop()
+    session, where = server.register(), f"with {refused} refused behind {passed}"
+    client = node.client().register()
+    refusals.set(passed, refused)
+    session.say(*MESSAGES, "PING :settled")
+    is_there = is_settled(session)
+    was_refused, told = refusals.end(), heard(client)
+    refusals.clocks.skip(LATER)
+    page = node.client("a client that asks").register(PAST).ask("CHATHISTORY LATEST #a * 50")
+    has = tuple(line.partition(" ")[2] for line in page)
+    expect(f"which messages the node has {where}", MESSAGES[:len(has)], has)
+    expect(f"whether the session stays {where}", len(has) == len(MESSAGES), is_there)
+    if told is not None:
+        expect(f"what a client was told {where}", has, told)
+    node.kill()
+    return len(has) if was_refused else None
+
+
+@test
+def messages_that_come_at_once_are_told_as_far_as_the_node_has_them(fixture):
+    """Requests in a row are refused, at each place in turn. A client is told those messages that the node has, and where that isn't
+    all of them the session ends."""
+    counts = {}
+    for refused in (1, 11, 40):
+        for passed in range(REQUESTS):
+            count = told_at_once(fixture, f"x{refused}x{passed}", passed, refused)
+            if count is None:
+                break
+            counts[count] = counts.get(count, 0) + 1
+    if not counts:
+        raise Failed("no request for memory was refused: is the program built with a sanitizer, which has its own malloc?")
+    fixture.notes.append(", ".join(f"{count} times {told} told" for told, count in sorted(counts.items())))
+
+
 @test
 def connections_that_are_closed_for_want_of_memory_are_counted(fixture):
     """The operator is told how many there were, a minute later."""

@@ -7,7 +7,7 @@ use byte_text::NoMemory;
 use chat_change::Moment;
 use client_places::Attachment;
 use node_terms::NodeName;
-use passed_lines::{Mail, is_another_behind, keep_entry};
+use passed_lines::{Mail, PutQueue, is_another_behind, keep_entry};
 use shared_node::{Naming, NodeTaker, Pass, SharedNode};
 use std::sync::Wait;
 use work_clients::{Clients, ToClient};
@@ -37,6 +37,8 @@ pub(crate) struct Worker<N: Node, X: Attachment, P: WorkPort> {
     pub(crate) watch: ClockWatch,
     pub(crate) clients: Clients<X, <P as Carries<ToClient>>::Connection>,
     pub(crate) servers: Servers<<P as Carries<ToServer>>::Connection>,
+    // messages of the server whose turn it is; between turns none
+    pub(crate) queue: PutQueue,
     pub(crate) peers: Peers<<P as Carries<ToPeer>>::Connection>,
     // whether something was put that the peers are to have
     pub(crate) has_published: bool,
@@ -179,12 +181,14 @@ impl<N: Node, X: Attachment, P: WorkPort> Worker<N, X, P> {
             Ok((servers, peers)) => {
                 let watch = ClockWatch::new(context.view.clocks());
                 let clients = Clients::new(context.view.alloc, lobby);
+                let queue = PutQueue::new(context.view.alloc);
                 Ok(Worker {
                     node,
                     context,
                     watch,
                     clients,
                     servers,
+                    queue,
                     peers,
                     has_published: false,
                 })
@@ -365,6 +369,7 @@ impl<N: Node, X: Attachment, P: WorkPort> Worker<N, X, P> {
             servers,
             peers,
             has_published,
+            ..
         } = self;
         match timer {
             Timer::RetryNetwork(network) => servers.dial(context, network),

@@ -1,2 +1,3 @@
 mod PassingLemmas
 mod OwnLemmas
+mod QueueLemmas

@@ -51,6 +51,10 @@ pub record IsPutBy (account network : List ℕ) (change : Change) : Type 0 where
   pub behind : List UpEffect
   pub is_effect : effects_of session event ≡ before ++ Put change ∷ behind
 
+-- a session with the server of some account's network puts that change
+abbrev pub IsPutBySome : Change → Type 0
+IsPutBySome change = (account : List ℕ) × (network : List ℕ) × IsPutBy account network change
+
 -- what of that is put or passed on, is so by a session of theirs
 abbrev pub MayPass : List ℕ → List ℕ → UpEffect → Type 0
 MayPass account network (Send text) = Unit {0}

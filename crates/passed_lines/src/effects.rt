@@ -99,6 +99,14 @@ impl ServerEffects {
         }
     }
 
+    /// The change that is to be put, where there is nothing beside it.
+    pub fn only_put(&self) -> Option<ServerPut<'_>> {
+        match (self.at(0), self.at(1)) {
+            (Some(Deed::Put(put)), None) => Some(put),
+            _ => None,
+        }
+    }
+
     /// Whether a line is passed on.
     pub fn has_passed_on(&self) -> bool {
         self.list

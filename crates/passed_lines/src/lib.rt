@@ -4,7 +4,7 @@
 //! its server and lines of its own clients alone ([`Said`]). What a line comes to are [`ServerEffects`], of which each change
 //! that is put is a [`ServerPut`], and each line that is to be passed on a [`Passed`]: values that exist only where some session
 //! with the server of that account's network puts that or passes it on (`IsPutBy`, `IsPassedOn`). A [`Live`] is a message that
-//! such a session put, and a [`NetworkEntry`] how one stands.
+//! such a session put, and a [`NetworkEntry`] how one stands. Messages that wait to be put as one list are a [`PutQueue`].
 //!
 //! A [`SaidLine`], a [`LiveMessage`], a [`NetworkEntry`] and a [`PassedLine`] are these on their way to another worker, which
 //! gets them as [`Mail`]. What all other workers are to know is [`News`] ([`mail_others`]). The crate stands on
@@ -18,6 +18,7 @@ mod live;
 mod mail;
 mod news;
 mod passed;
+mod put_queue;
 mod said;
 mod session;
 
@@ -27,5 +28,6 @@ pub use live::{Live, LiveMessage};
 pub use mail::Mail;
 pub use news::{News, is_another_behind, keep_entry, mail_line, mail_others, mail_said};
 pub use passed::{Passed, PassedLine};
+pub use put_queue::PutQueue;
 pub use said::{Said, SaidLine};
 pub use session::{NetworkSession, SayFault};

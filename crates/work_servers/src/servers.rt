@@ -109,6 +109,15 @@ impl<C: Connection> Servers<C> {
         self.connections.get(number)?.dialogue.session().live(put)
     }
 
+    /// Whether the last line that was taken changed nothing that others are told: the session over that connection stands as all
+    /// workers know it, and joined no channel.
+    pub fn is_settled(&mut self, number: usize) -> bool {
+        match self.connections.get_mut(number) {
+            Some(server) => server.joined.is_none() && !server.has_changed(),
+            None => false,
+        }
+    }
+
     /// The channel that the session over that connection itself joined by the last line that was taken, where it joined one.
     /// It is told once, and for want of memory not at all.
     pub fn take_joined(&mut self, number: usize) -> Option<Text> {

@@ -1,11 +1,13 @@
 -- What is put is put by right.
 use Rattle.std.proofs.Common.{◌≡◌, ℕ, List, [], ◌∷◌, sym, subst, Result, Ok, Err, IfOk}
+use Rattle.std.proofs.Math.Logic.{∥∥₁_map}
+use Rattle.std.specs.List.{AllByRecursion}
 use Rattle.chat_change.specs.declared.change.Change.{Change}
 use Rattle.chat_history.specs.History.{norm}
 use Rattle.chat_history.specs.Retention as retention
-use Rattle.passed_lines.specs.Passing.{IsPutBy}
+use Rattle.passed_lines.specs.Passing.{IsPutBy, IsPutBySome}
 use Rattle.client_connection.specs.Marking.{IsMarkedBy}
-use Rattle.worker_node.specs.Putting.{MayBePut, OfClient, OfServer, Floors}
+use Rattle.worker_node.specs.Putting.{MayBePut, OfClient, OfServers, Floors}
 
 -- by a client
 pub by_client : {now days : ℕ} {change : Change} {changes : List Change} → changes ≡ change ∷ [] → ∥ IsMarkedBy change ∥₁ → ∥ MayBePut now days changes ∥₁
@@ -13,7 +15,11 @@ by_client {now} {days} {change} {changes} is put = ∣ subst (MayBePut now days)
 
 -- by a server
 pub by_server : {now days : ℕ} {change : Change} {changes : List Change} (account network : List ℕ) → changes ≡ change ∷ [] → ∥ IsPutBy account network change ∥₁ → ∥ MayBePut now days changes ∥₁
-by_server {now} {days} {change} {changes} account network is put = ∣ subst (MayBePut now days) (sym is) (OfServer account network change put) ∣₁
+by_server {now} {days} {change} {changes} account network is put = ∣ subst (MayBePut now days) (sym is) (OfServers (change ∷ []) (∥∥₁_map put (λ p. (account, network, p)), tt)) ∣₁
+
+-- by several
+pub by_servers : {now days : ℕ} {queue changes : List Change} → changes ≡ queue → AllByRecursion (λ change. ∥ IsPutBySome change ∥₁) queue → ∥ MayBePut now days changes ∥₁
+by_servers {now} {days} {queue} is put = ∣ subst (MayBePut now days) (sym is) (OfServers queue put) ∣₁
 
 -- floors that are due
 pub as_due : {now days : ℕ} {floors : List Change} (changes : List Change) → floors ≡ retention.due_floors (norm changes) now days → ∥ MayBePut now days floors ∥₁

@@ -6,7 +6,7 @@ use crate::node::Node;
 use chat_change::{Change, Moment};
 use chat_history::DeltaFault;
 use client_connection::ClientPut;
-use passed_lines::ServerPut;
+use passed_lines::{PutQueue, ServerPut};
 use shared_node::PutFault;
 use std::slice;
 use worker_io::NodeView;
@@ -37,6 +37,15 @@ pub fn put_of_server<N: Node>(
     put: &ServerPut<'_>,
 ) -> Result<(), PutFault> {
     node.put(view, slice::from_ref(put.change))
+}
+
+/// Puts the messages that wait in a queue, as one list.
+pub fn put_of_servers<N: Node>(
+    node: &mut N,
+    view: &NodeView,
+    queue: &PutQueue,
+) -> Result<(), PutFault> {
+    node.put(view, queue.changes())
 }
 
 /// Publishes what waits. Refused where it goes on waiting.
@@ -70,8 +79,8 @@ fn due_floors<N: Node>(node: &mut N, view: &NodeView) -> Result<Vec<Change>, Del
         .due_floors(view.alloc, view.moment, view.retain_days)
 }
 
-// How many of the changes the node has now, also where they only wait to be published.
-fn count_put(done: Result<(), PutFault>, all: usize) -> usize {
+/// How many of the changes that were put, the first ones, the node has now, also where they only wait to be published.
+pub fn count_put(done: Result<(), PutFault>, all: usize) -> usize {
     match done {
         Ok(()) | Err(PutFault::Waiting) => all,
         Err(PutFault::NoMemory { appended }) => appended,
