@@ -26,7 +26,7 @@ use Rattle.node_terms.specs.declared.fault.LinkFault.TheVariants.{BadForm, Wrong
 use Rattle.node_terms.specs.declared.version.Version.{Version}
 use Rattle.peer_lines.specs.declared.peer_line.PeerLine.{PeerLine}
 use Rattle.peer_lines.specs.declared.peer_line.PeerLine.TheVariants.{Word, Hello, Head, Change, Ack}
-use Rattle.node_terms.proofs.NameLemmas.{same_name_is, both_true}
+use Rattle.node_terms.proofs.CallerLemmas.{same_name_is, both_true}
 use Rattle.peer_lines.proofs.NumberLemmas.{number_of-decimal, read_number, number_fits, version_of-decimal, read_version}
 use Rattle.peer_lines.proofs.WordLemmas.{IsWord, no_space, name_is_word, shared_is_word, decimal_is_word, word_spaced, behind_spaced, spelled_by_words}
 
