@@ -29,8 +29,8 @@ PARTS = (
     ("it is put into the node", (PUT,)),
     ("it is told to the client", (r"\bwork_clients::\S*::tell_message\b", r"\bwork_clients::\S*::tell_untold\b")),
 )
-# (`serve` may stand within its caller)
-ALL = r"\bbnc_work::worker::(serve|try_work)\b"
+# (what calls `turn` may stand within its own caller)
+ALL = r"\bbnc_work::worker::(serve|try_work|Worker::turn)\b"
 
 
 def instructions(of, log):
