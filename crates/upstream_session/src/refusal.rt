@@ -1,9 +1,8 @@
 //! The words by which a server refuses a session.
-ghost use Rattle.std.specs.Prelude.{◌≡◌, [], map, length, ◌≤◌};
+ghost use Rattle.std.specs.Prelude.{◌≡◌, ◌≤◌, [], length, map, take};
 ghost use Rattle.std.specs.Option.{option_copied};
 ghost use Rattle.upstream_session.specs.Refusal as spec;
 
-use arrayvec::ArrayVec;
 use irc_line::Line;
 use std::marker::Model;
 
@@ -13,15 +12,19 @@ pub(crate) const MOST_WORDS: usize = 200;
 /// What a server said last as it refused the session, as it is shown: printable ASCII. Empty where it said nothing of the kind.
 #[derive(Drop)]
 pub(crate) struct Refusal {
-    words: ArrayVec<u8, MOST_WORDS>,
+    words: [u8; MOST_WORDS],
+    count: usize,
 }
 
 impl Model for Refusal {
-    ghost use Rattle.std.specs.Prelude.{List, ℕ};
+    ghost use Rattle.std.specs.Prelude.{◌≤◌, List, take, ℕ};
+    ghost use Rattle.upstream_session.specs.declared.refusal.TheConstants.{MOST_WORDS};
 
     ghost Value = { List ℕ };
 
-    ghost view = { λ r. r.words.items };
+    ghost view = { λ r. take r.count r.words };
+
+    ghost invariant = { λ r. r.count ≤ MOST_WORDS };
 }
 
 /// Whether a line of that command refuses the session, whose network is up or not.
@@ -54,14 +57,16 @@ fn beginning(text: &[u8]) -> &[u8]
     }
 }
 
-fn shown_words(text: &[u8]) -> ArrayVec<u8, MOST_WORDS>
-    ensures { result.items ≡ spec.shown_words text.now }
+fn shown_words(text: &[u8]) -> Refusal
+    ensures { result ≡ spec.shown_words text.now }
 {
-    let mut words = ArrayVec::new();
+    let mut words = [0; MOST_WORDS];
+    let mut count = 0;
     for byte in beginning(text) {
-        words.push(shown(*byte));
+        words[count] = shown(*byte);
+        count += 1;
     }
-    words
+    Refusal { words, count }
 }
 
 fn last_parameter<'a>(parameters: &[&'a [u8]]) -> Option<&'a [u8]>
@@ -76,7 +81,8 @@ impl Refusal {
         ensures { result ≡ [] }
     {
         Refusal {
-            words: ArrayVec::new(),
+            words: [0; MOST_WORDS],
+            count: 0,
         }
     }
 
@@ -84,7 +90,7 @@ impl Refusal {
     pub(crate) fn as_bytes(&self) -> &[u8]
         ensures { result.now ≡ self.now }
     {
-        self.words.as_slice()
+        &self.words[..self.count]
     }
 
     /// A line of the server came, while the network was up or not.
@@ -95,9 +101,7 @@ impl Refusal {
             return;
         }
         if let Some(text) = last_parameter(line.parameters()) {
-            self.words = shown_words(text);
+            *self = shown_words(text);
         }
     }
 }
-
-ghost use Rattle.std.specs.Prelude.{take};

@@ -1,9 +1,11 @@
-use Rattle.std.proofs.Common.{◌≡◌, ◌++◌, length, map, drop}
+use Rattle.std.proofs.Common.{◌≡◌, ◌++◌, length, map, take, drop}
 use Rattle.upstream_session.specs.Refusal.{shown}
+use Rattle.upstream_session.specs.declared.refusal.TheConstants.{MOST_WORDS}
 use Rattle.upstream_session.proofs.refusal.shown_words.Given as goal
 
 abbrev pub invariant-loop-byte : goal.invariant-loop-byte
 invariant-loop-byte l = record {
-  count : length l.words.items ≡ l.byte-index;
-  words : l.words.items ++ map shown (drop l.byte-index l.byte-items) ≡ map shown l.byte-items;
+  room : length l.words ≡ MOST_WORDS;
+  count : l.count ≡ l.byte-index;
+  words : take l.count l.words ++ map shown (drop l.byte-index l.byte-items) ≡ map shown l.byte-items;
 }
