@@ -6,7 +6,8 @@ use Rattle.std.proofs.lemmas.Bool.{and_parts, or_cases, true≢false, eqb-true}
 use Rattle.std.proofs.lemmas.List.{map-append}
 use Rattle.std.proofs.lemmas.List.Concat.{flat_map-append}
 use Rattle.irc_line.specs.declared.line.TagLimit.{TagLimit}
-use Rattle.irc_line.specs.Line.{begins_with, is_command, is_letter, is_digit, rest_limit}
+use Rattle.byte_text.specs.Number.{is_digit}
+use Rattle.irc_line.specs.Line.{begins_with, is_command, is_letter, rest_limit}
 use Rattle.irc_line.specs.Stream.{items, line}
 use Rattle.irc_line.specs.Text.{Parts, source_text, tags_text, text_of, line_text, line_ending}
 use Rattle.irc_line.specs.CanStand.{HasNoBadByte, CanStand}

@@ -8,8 +8,8 @@ use Rattle.byte_text.specs.Writes.{AppendsPrefix, WritesKnown}
 pub use Rattle.byte_text.proofs.TextsLemmas.{texts_at, texts_through, own_texts_at, own_texts_through}
 -- looks at parts of a text
 pub use Rattle.byte_text.proofs.LookLemmas.{any_behind, any_within, both_ends}
--- a number has one spelling, its decimal digits
-pub use Rattle.byte_text.proofs.NumberLemmas.{decimal_digits, number_read, number_spelled}
+-- a number has one spelling, its decimal digits; what digits come to, digit by digit
+pub use Rattle.byte_text.proofs.NumberLemmas.{decimal_digits, number_read, number_spelled, one_digit_more}
 
 -- a prefix of the first text is one of both
 pub prefix_of_first : (a b : Option (List ℕ)) (xs ys : List ℕ) → AppendsPrefix a b xs → AppendsPrefix a b (xs ++ ys)

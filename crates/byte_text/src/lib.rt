@@ -13,7 +13,7 @@ mod text;
 mod writing;
 
 pub use no_memory::NoMemory;
-pub use number::number_to;
+pub use number::{has_digits_only, is_digits, number_to};
 pub use search::{LANES, begins_without, find_byte};
 pub use text::Text;
 pub use writing::put;

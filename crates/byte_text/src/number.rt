@@ -9,13 +9,15 @@ fn is_digit(b: u8) -> bool
     b'0' <= b && b <= b'9'
 }
 
-fn has_digits_only(text: &[u8]) -> bool
+/// Whether every byte is a decimal digit.
+pub fn has_digits_only(text: &[u8]) -> bool
     ensures { result ≡ list_all spec.is_digit text.now }
 {
     text.iter().all(|b| is_digit(*b))
 }
 
-fn is_digits(text: &[u8]) -> bool
+/// Whether the text is one or more decimal digits.
+pub fn is_digits(text: &[u8]) -> bool
     ensures { result ≡ spec.is_digits text.now }
 {
     !text.is_empty() && has_digits_only(text)

@@ -1,21 +1,6 @@
 -- How many records a client asks for at most (IRCv3 draft/chathistory, "CHATHISTORY").
-use Rattle.std.specs.Prelude.{ℕ, ◌+◌, ◌*◌, ◌-◌, ◌^◌, Bool, ◌&&◌, nat_lt, nat_le, min, List, [], ◌∷◌, length, Option, None, Some, if◌then◌else◌}
-use Rattle.std.specs.List.{list_all}
-
-abbrev pub is_digit : ℕ → Bool
-is_digit b = nat_le 48 b && nat_le b 57
-
--- one or more digits
-abbrev pub is_digits : List ℕ → Bool
-is_digits text = nat_lt 0 (length text) && list_all is_digit text
-
--- the value of digits that stand behind others of value n
-abbrev pub value_from : ℕ → List ℕ → ℕ
-value_from n [] = n
-value_from n (b ∷ digits) = value_from (n * 10 + (b - 48)) digits
-
-abbrev pub value : List ℕ → ℕ
-value text = value_from 0 text
+use Rattle.std.specs.Prelude.{ℕ, ◌-◌, ◌^◌, ◌&&◌, nat_lt, min, List, Option, None, Some, if◌then◌else◌}
+use Rattle.byte_text.specs.Number.{is_digits, value}
 
 -- the greatest number that there is room for
 abbrev pub greatest_limit : ℕ

@@ -1,25 +1,9 @@
 //! How many records a client asks for at most.
 ghost use Rattle.std.specs.Prelude.{◌≡◌, ◌≤◌, ◌-◌, min};
-ghost use Rattle.std.specs.List.{list_all};
+ghost use Rattle.byte_text.specs.Number.{value};
 ghost use Rattle.chat_query.specs.Limit as spec;
 
-fn is_digit(byte: u8) -> bool
-    ensures { result ≡ spec.is_digit byte }
-{
-    b'0' <= byte && byte <= b'9'
-}
-
-fn has_digits_only(text: &[u8]) -> bool
-    ensures { result ≡ list_all spec.is_digit text.now }
-{
-    text.iter().all(|byte| is_digit(*byte))
-}
-
-fn is_digits(text: &[u8]) -> bool
-    ensures { result ≡ spec.is_digits text.now }
-{
-    !text.is_empty() && has_digits_only(text)
-}
+use byte_text::is_digits;
 
 /// What a digit counts.
 fn digit_value(byte: u8) -> usize
@@ -31,7 +15,7 @@ fn digit_value(byte: u8) -> usize
 
 /// The value of the digits, or the greatest number where it is above that.
 fn value_of(text: &[u8]) -> usize
-    ensures { result ≡ min usize.MAX (spec.value text.now) }
+    ensures { result ≡ min usize.MAX (value text.now) }
 {
     let mut n = 0usize;
     'digits: for byte in text {

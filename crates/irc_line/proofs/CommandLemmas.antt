@@ -3,7 +3,8 @@ use Rattle.std.proofs.Common.{◌≡◌, ℕ, ◌<◌, ◌≤◌, Bool, true, fa
 use Rattle.std.specs.Prelude.{◌==◌, ◌&&◌, ◌||◌, nat_le}
 use Rattle.std.specs.List.{AllByRecursion, list_any, list_all}
 use Rattle.std.proofs.lemmas.Bool.{and_parts, or_cases, ltb-true, leb-true, ne_eqb, eqb-true}
-use Rattle.irc_line.specs.Line.{space, colon, at_sign, begins_with, is_bad, is_letter, is_digit, is_command, HasNoSpace}
+use Rattle.byte_text.specs.Number.{is_digit}
+use Rattle.irc_line.specs.Line.{space, colon, at_sign, begins_with, is_bad, is_letter, is_command, HasNoSpace}
 
 -- a byte that is no space, no colon, no at-sign, and none that a line may not hold
 pub record IsPlain (b : ℕ) : Type 0 where

@@ -4,9 +4,9 @@ ghost use Rattle.std.specs.List.{list_any, list_all};
 ghost use Rattle.std.specs.Option.{option_copied};
 ghost use Rattle.irc_line.specs.Faults.{shows, first_fault, is_empty_source};
 ghost use Rattle.irc_line.specs.Read.{read, text_in};
-ghost use Rattle.irc_line.specs.Line.{Reading, most_parameters, tag_limit, space, colon, begins_with, is_bad, is_letter, is_digit, is_command, SkipsSpaces, SplitsWord, SplitsTags, SplitsSource, HasParameters, IsRefused, Reads};
+ghost use Rattle.irc_line.specs.Line.{Reading, most_parameters, tag_limit, space, colon, begins_with, is_bad, is_letter, is_command, SkipsSpaces, SplitsWord, SplitsTags, SplitsSource, HasParameters, IsRefused, Reads};
 
-use byte_text::find_byte;
+use byte_text::{find_byte, has_digits_only};
 use memchr::memchr3;
 use std::marker::Model;
 use thiserror::Error;
@@ -169,22 +169,10 @@ fn is_letter(b: u8) -> bool
     (b'A' <= b && b <= b'Z') || (b'a' <= b && b <= b'z')
 }
 
-fn is_digit(b: u8) -> bool
-    ensures { result ≡ is_digit b }
-{
-    b'0' <= b && b <= b'9'
-}
-
 fn has_letters_only(text: &[u8]) -> bool
     ensures { result ≡ list_all is_letter text.now }
 {
     text.iter().all(|b| is_letter(*b))
-}
-
-fn has_digits_only(text: &[u8]) -> bool
-    ensures { result ≡ list_all is_digit text.now }
-{
-    text.iter().all(|b| is_digit(*b))
 }
 
 fn is_command(text: &[u8]) -> bool

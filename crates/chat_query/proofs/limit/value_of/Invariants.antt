@@ -1,5 +1,6 @@
 use Rattle.std.proofs.Common.{◌≡◌, min, take}
-use Rattle.chat_query.specs.Limit.{value, greatest_limit}
+use Rattle.byte_text.specs.Number.{value}
+use Rattle.chat_query.specs.Limit.{greatest_limit}
 use Rattle.chat_query.proofs.limit.value_of.Given as goal
 
 abbrev pub invariant-digits : goal.invariant-digits
