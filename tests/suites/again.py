@@ -248,7 +248,7 @@ def messages_that_come_at_once_are_told_as_far_as_the_node_has_them(fixture):
     """Requests in a row are refused, at each place in turn. A client is told those messages that the node has, and where that isn't
     all of them the session ends."""
     counts = {}
-    for refused in (1, 11, 40):
+    for refused in (1, TRIES + 1):
         for passed in range(REQUESTS):
             count = told_at_once(fixture, f"x{refused}x{passed}", passed, refused)
             if count is None:
