@@ -1,5 +1,6 @@
 //! What a worker puts into its node, each by right.
-ghost use Rattle.std.specs.Prelude.{IfOk};
+ghost use Rattle.std.specs.Prelude.{◌≡◌, IfOk, MatchResult};
+ghost use Rattle.shared_node.specs.Puts.{appended_of};
 ghost use Rattle.worker_node.specs.Putting.{MayBePut};
 
 use crate::node::Node;
@@ -80,7 +81,9 @@ fn due_floors<N: Node>(node: &mut N, view: &NodeView) -> Result<Vec<Change>, Del
 }
 
 /// How many of the changes that were put, the first ones, the node has now, also where they only wait to be published.
-pub fn count_put(done: Result<(), PutFault>, all: usize) -> usize {
+pub fn count_put(done: Result<(), PutFault>, all: usize) -> usize
+    ensures { MatchResult done (λ _. result ≡ all) (λ fault. result ≡ appended_of all fault) }
+{
     match done {
         Ok(()) | Err(PutFault::Waiting) => all,
         Err(PutFault::NoMemory { appended }) => appended,
