@@ -215,18 +215,19 @@ impl Negotiation {
             subcommand.now (list.now ∷ [])).line) }
         ensures err { OnErr result (self.new ≡ self.old) }
     {
-        if subcommand.eq_ignore_ascii_case(b"LS") {
-            Ok(Some(self.ls(alloc, cluster, nick)?))
+        let answer = if subcommand.eq_ignore_ascii_case(b"LS") {
+            self.ls(alloc, cluster, nick)
         } else if subcommand.eq_ignore_ascii_case(b"LIST") {
-            Ok(Some(self.list(alloc, cluster, nick)?))
+            self.list(alloc, cluster, nick)
         } else if subcommand.eq_ignore_ascii_case(b"REQ") {
-            Ok(Some(self.req(alloc, cluster, nick, list)?))
+            self.req(alloc, cluster, nick, list)
         } else if subcommand.eq_ignore_ascii_case(b"END") {
             self.registration = self.registration.released();
-            Ok(None)
+            return Ok(None);
         } else {
-            Ok(Some(self.invalid(alloc, cluster, nick, subcommand)?))
-        }
+            self.invalid(alloc, cluster, nick, subcommand)
+        };
+        Ok(Some(answer?))
     }
 
     /// Answers a CAP of these parameters (IRCv3 capability negotiation): [`step`](Negotiation::step) of a line whose
