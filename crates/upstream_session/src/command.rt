@@ -30,15 +30,12 @@ fn is_greeting(word: &[u8]) -> bool
         || word.eq_ignore_ascii_case(b"005")
 }
 
-/// The command of that word, which is compared without regard to case.
-pub(crate) fn command_of(word: &[u8]) -> ServerCommand
-    ensures { result ≡ spec.command_of word.now }
+// The command of a word of registration, or of the end of a session; any other is none of those that are told apart.
+#[tactic(auto, unfolding(crate::specs::Command::registration_command_of))]
+fn registration_command_of(word: &[u8]) -> ServerCommand
+    ensures { result ≡ spec.registration_command_of word.now }
 {
-    if word.eq_ignore_ascii_case(b"PRIVMSG") {
-        ServerCommand::Privmsg
-    } else if word.eq_ignore_ascii_case(b"NOTICE") {
-        ServerCommand::Notice
-    } else if word.eq_ignore_ascii_case(b"CAP") {
+    if word.eq_ignore_ascii_case(b"CAP") {
         ServerCommand::Cap
     } else if word.eq_ignore_ascii_case(b"001") {
         ServerCommand::Welcome
@@ -46,7 +43,19 @@ pub(crate) fn command_of(word: &[u8]) -> ServerCommand
         ServerCommand::Greeting
     } else if word.eq_ignore_ascii_case(b"433") {
         ServerCommand::NickInUse
-    } else if word.eq_ignore_ascii_case(b"PING") {
+    } else if word.eq_ignore_ascii_case(b"ERROR") {
+        ServerCommand::Error
+    } else {
+        ServerCommand::Other
+    }
+}
+
+// The command of a word by which users come and go, or of one of [`registration_command_of`].
+#[tactic(auto, unfolding(crate::specs::Command::channel_command_of))]
+fn channel_command_of(word: &[u8]) -> ServerCommand
+    ensures { result ≡ spec.channel_command_of word.now }
+{
+    if word.eq_ignore_ascii_case(b"PING") {
         ServerCommand::Ping
     } else if word.eq_ignore_ascii_case(b"NICK") {
         ServerCommand::Nick
@@ -56,13 +65,24 @@ pub(crate) fn command_of(word: &[u8]) -> ServerCommand
         ServerCommand::Part
     } else if word.eq_ignore_ascii_case(b"KICK") {
         ServerCommand::Kick
-    } else if word.eq_ignore_ascii_case(b"ERROR") {
-        ServerCommand::Error
-    } else if word.eq_ignore_ascii_case(b"REDACT") {
-        ServerCommand::Redact
+    } else {
+        registration_command_of(word)
+    }
+}
+
+/// The command of that word, which is compared without regard to case. Those of messages are looked for first.
+pub(crate) fn command_of(word: &[u8]) -> ServerCommand
+    ensures { result ≡ spec.command_of word.now }
+{
+    if word.eq_ignore_ascii_case(b"PRIVMSG") {
+        ServerCommand::Privmsg
+    } else if word.eq_ignore_ascii_case(b"NOTICE") {
+        ServerCommand::Notice
     } else if word.eq_ignore_ascii_case(b"TAGMSG") {
         ServerCommand::Tagmsg
+    } else if word.eq_ignore_ascii_case(b"REDACT") {
+        ServerCommand::Redact
     } else {
-        ServerCommand::Other
+        channel_command_of(word)
     }
 }
