@@ -361,32 +361,33 @@ impl<N: Node, X: Attachment, P: WorkPort> Worker<N, X, P> {
     }
 
     fn look_after(&mut self, timer: Timer) {
-        let Worker {
-            node,
-            context,
-            watch,
-            clients,
-            servers,
-            peers,
-            has_published,
-            ..
-        } = self;
         match timer {
-            Timer::RetryNetwork(network) => servers.dial(context, network),
+            Timer::RetryNetwork(network) => self.servers.dial(&mut self.context, network),
             Timer::QuietUpstream(number) => {
-                let standing = servers.check_quiet(context, number);
-                spread(context, clients, standing, false);
+                let standing = self.servers.check_quiet(&mut self.context, number);
+                spread(&mut self.context, &mut self.clients, standing, false);
             }
             Timer::Unregistered(number) => {
-                clients.check_registered(context, number);
-                peers.check_greeted(context, number);
+                self.clients.check_registered(&mut self.context, number);
+                self.peers.check_greeted(&mut self.context, number);
             }
-            Timer::RetryPeer(place) => peers.dial(context, place),
-            Timer::UnansweredPacket(number) => peers.check_answered(context, number, node.pass()),
-            Timer::QuietPeer(number) => peers.check_quiet(context, number),
-            Timer::AbsentPeer(place) => peers.check_absent(context, place),
-            Timer::Floors => *has_published |= put_floors(node, context, watch),
-            Timer::Publish => *has_published |= publish_now(node, context),
+            Timer::RetryPeer(place) => self.peers.dial(&mut self.context, place),
+            Timer::UnansweredPacket(number) => {
+                self.peers
+                    .check_answered(&mut self.context, number, self.node.pass());
+            }
+            Timer::QuietPeer(number) => self.peers.check_quiet(&mut self.context, number),
+            Timer::AbsentPeer(place) => self.peers.check_absent(&mut self.context, place),
+            Timer::Floors => {
+                self.has_published |= put_floors(
+                    &mut self.node,
+                    &mut self.context,
+                    &mut self.watch,
+                );
+            }
+            Timer::Publish => {
+                self.has_published |= publish_now(&mut self.node, &mut self.context);
+            }
         }
     }
 }
