@@ -34,13 +34,29 @@ pub fn prepare<R: Net + Wait + Clock + Eprint + AllocGlobal + Copy + Drop, X: At
     config: &Config,
 ) -> Result<Prepared<R, X>, ServeFault> {
     let listeners = Listeners::open(rt, config.listen, config.peer_listen)?;
+    match workers_of(rt, config) {
+        Ok((workers, floors)) => {
+            tell_retention(rt, config.limits.retain_days);
+            Ok(prepared_of(config, rt.alloc(), listeners, workers, floors))
+        }
+        Err(fault) => {
+            drop(listeners);
+            Err(fault)
+        }
+    }
+}
+
+// The workers, in the incarnation that the clock says, and the floors that are put before they begin.
+fn workers_of<R: Net + Wait + Clock + Eprint + AllocGlobal + Copy + Drop, X: Attachment>(
+    rt: &R,
+    config: &Config,
+) -> Result<(Workers<R, X>, Vec<Change>), ServeFault> {
     let Some(incarnation) = now_ms(rt) else {
         return Err(ServeFault::NoClock);
     };
-    let workers = Workers::new(rt, config, incarnation)?;
     let floors = floors_of(rt.alloc(), &config.accounts)?;
-    tell_retention(rt, config.limits.retain_days);
-    Ok(prepared_of(config, rt.alloc(), listeners, workers, floors))
+    let workers = Workers::new(rt, config, incarnation)?;
+    Ok((workers, floors))
 }
 
 fn prepared_of<R: Wait + Drop, X: Attachment>(

@@ -4,7 +4,7 @@ ghost use Rattle.node_intake.specs.WorkerConfigs as spec;
 ghost use Rattle.node_config.specs.Beginnings.{directory_of, names_of};
 
 use bnc_ports::Lobby;
-use byte_text::{NoMemory, Text};
+use byte_text::NoMemory;
 use client_directory::Channels;
 use client_places::Attachment;
 use node_config::{Config, Network, Peer};
@@ -12,33 +12,23 @@ use node_terms::{Life, LinkFault, PeerTerms, SharedWord, Terms};
 use std::alloc::Global;
 use worker_io::WorkerConfig;
 
-fn copies_of(alloc: Global, texts: &[Text]) -> Result<Vec<Text>, NoMemory>
-    ensures { IfOk result (λ copies. copies.items ≡ texts.now) }
-{
-    let mut copies = Vec::new(alloc);
-    for text in texts {
-        let copy = text.try_clone(alloc)?;
-        if copies.push(copy).is_err() {
-            return Err(NoMemory);
-        }
-    }
-    Ok(copies)
-}
-
 fn session_of(alloc: Global, network: &Network) -> Result<client_directory::Config, NoMemory>
     ensures { IfOk result (λ session. session ≡ spec.session_of network.now) }
 {
-    let account = network.account.try_clone(alloc)?;
-    let name = network.name.try_clone(alloc)?;
-    let nick = network.nick.try_clone(alloc)?;
-    let user = network.user.try_clone(alloc)?;
-    let channels = Channels::of(copies_of(alloc, &network.channels)?);
+    let Network {
+        account,
+        name,
+        nick,
+        user,
+        channels,
+        ..
+    } = network.try_clone(alloc)?;
     Ok(client_directory::Config {
         account,
         network: name,
         nick,
         user,
-        channels,
+        channels: Channels::of(channels),
     })
 }
 
