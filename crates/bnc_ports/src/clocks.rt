@@ -2,7 +2,7 @@
 use std::fmt;
 
 /// What the clocks of a node read, in milliseconds.
-#[derive(Clone, Copy, Debug, PartialEq, Eq)]
+#[derive(Clone, Copy, PartialEq, Eq)]
 pub struct Clocks {
     /// The wall clock: since 1970 began. It may be set, ahead or back. Moments of messages and floors go by it.
     pub wall: u64,
@@ -11,7 +11,7 @@ pub struct Clocks {
 }
 
 /// How the wall clock moved against the monotonic one, and by how many milliseconds.
-#[derive(Clone, Copy, Debug, PartialEq, Eq)]
+#[derive(Clone, Copy, PartialEq, Eq)]
 pub enum Leap {
     Ahead(u128),
     Back(u128),

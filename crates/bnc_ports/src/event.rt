@@ -6,7 +6,7 @@ use std::fmt;
 use std::net::SocketAddr;
 
 /// Why a connection ended, or wasn't accepted.
-#[derive(Clone, Copy, Debug, PartialEq, Eq)]
+#[derive(Clone, Copy, PartialEq, Eq)]
 pub enum Reason {
     /// The other end closed it.
     Closed,

@@ -4,7 +4,7 @@ use crate::event::Event;
 use std::net::SocketAddr;
 
 /// Whom a worker connects to. Networks and peers are those of the configuration, counted from 0.
-#[derive(Clone, Copy, Debug, PartialEq, Eq)]
+#[derive(Clone, Copy, PartialEq, Eq)]
 pub enum Dial {
     Network(usize),
     Peer(usize),
@@ -51,7 +51,7 @@ pub enum Happening<M> {
 }
 
 /// Why no byte moved.
-#[derive(Clone, Copy, Debug, PartialEq, Eq)]
+#[derive(Clone, Copy, PartialEq, Eq)]
 pub enum Halt {
     /// There is none, or no room, for now. `Ready` follows.
     Blocked,
@@ -60,7 +60,7 @@ pub enum Halt {
 }
 
 /// The port failed, or could not do what it was asked.
-#[derive(Clone, Copy, Debug, PartialEq, Eq)]
+#[derive(Clone, Copy, PartialEq, Eq)]
 pub struct PortFault;
 
 /// The connections of one worker: sockets, or memory in tests.

@@ -8,7 +8,7 @@ const MINUTE: u64 = 60_000;
 
 /// Counts the clients that were closed before they registered: the first ten of a minute are told one by one, and how many
 /// more there were is told once the minute is over.
-#[derive(Clone, Copy, Debug, PartialEq, Eq)]
+#[derive(Clone, Copy, PartialEq, Eq)]
 pub struct Refusals {
     // when the minute began, by the monotonic clock
     since: u64,

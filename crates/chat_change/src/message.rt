@@ -13,7 +13,7 @@ pub const LINE_LIMIT: usize = 510;
 const LINE_MARKS: usize = 5;
 
 /// By which command a message was sent (RFC 1459 section 4.4).
-#[derive(Clone, Copy, Debug, PartialEq, Eq)]
+#[derive(Clone, Copy, PartialEq, Eq)]
 pub enum Kind {
     /// A private message, `PRIVMSG` (RFC 1459 section 4.4.1).
     Privmsg,

@@ -79,7 +79,7 @@ impl Facts {
 }
 
 /// What an answer was.
-#[derive(Clone, Copy, Debug, PartialEq, Eq)]
+#[derive(Clone, Copy, PartialEq, Eq)]
 pub enum Answered {
     /// It opened a batch, which used up a reference.
     Batch,

@@ -10,7 +10,7 @@ use node_terms::Terms;
 use peer_lines::PeerLine;
 
 /// Who opened a connection.
-#[derive(Clone, Copy, Debug, PartialEq, Eq)]
+#[derive(Clone, Copy, PartialEq, Eq)]
 pub enum Side {
     /// This node, to the peer at that place of the terms, whom it greets first.
     Opener(usize),
@@ -19,7 +19,7 @@ pub enum Side {
 }
 
 /// How far the other node of a connection has come.
-#[derive(Clone, Copy, Debug, PartialEq, Eq)]
+#[derive(Clone, Copy, PartialEq, Eq)]
 pub enum Stage {
     /// It has said nothing.
     Silent,
@@ -34,7 +34,7 @@ pub enum Stage {
 }
 
 /// What is to be done with a line, or because of it.
-#[derive(Clone, Copy, Debug, PartialEq, Eq)]
+#[derive(Clone, Copy, PartialEq, Eq)]
 pub enum Action {
     /// Nothing.
     Wait,
@@ -68,7 +68,7 @@ fn after_hello_again(known: usize, place: Option<usize>) -> Stage
 }
 
 /// One node's side of a connection with a peer.
-#[derive(Clone, Copy, Debug, PartialEq, Eq)]
+#[derive(Clone, Copy, PartialEq, Eq)]
 pub struct Handshake {
     side: Side,
     stage: Stage,

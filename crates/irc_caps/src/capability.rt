@@ -4,7 +4,7 @@ ghost use Rattle.std.specs.Str.{bytes_eq};
 ghost use Rattle.irc_caps.specs.Capability.{name_of, capability_of};
 
 /// A capability that the cluster offers.
-#[derive(Clone, Copy, Debug, PartialEq, Eq)]
+#[derive(Clone, Copy, PartialEq, Eq)]
 pub enum Capability {
     /// `batch` (IRCv3 batch).
     Batch,

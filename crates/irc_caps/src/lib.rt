@@ -23,7 +23,7 @@ pub use registration::Registration;
 
 /// A set of capabilities: for each of the seven names whether it is held. The fields stand in the byte order of the
 /// names.
-#[derive(Clone, Copy, Debug, PartialEq, Eq)]
+#[derive(Clone, Copy, PartialEq, Eq)]
 pub struct CapSet {
     /// `batch`: answers come between two BATCH lines, and their lines are tagged `batch`.
     pub batch: bool,

@@ -3,7 +3,7 @@ ghost use Rattle.std.specs.Prelude.{◌≡◌};
 ghost use Rattle.irc_caps.specs.Negotiation as spec;
 
 /// How far the registration of a session is, as its negotiation sees it.
-#[derive(Clone, Copy, Debug, PartialEq, Eq)]
+#[derive(Clone, Copy, PartialEq, Eq)]
 pub enum Registration {
     /// To come, and not held back.
     Free,

@@ -25,7 +25,7 @@ const MAX_PARAMETERS: usize = 15;
 const MAX_MIDDLES: usize = 14;
 
 /// Whose lines are read, which says how long their tag data may be (IRCv3 message-tags).
-#[derive(Clone, Copy, Debug, PartialEq, Eq)]
+#[derive(Clone, Copy, PartialEq, Eq)]
 pub enum TagLimit {
     /// At most 4094 bytes of tag data.
     Client,

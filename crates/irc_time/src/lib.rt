@@ -31,7 +31,7 @@ pub const GREATEST: u64 = 253_402_300_799_999;
 
 /// A moment in UTC, from 1970-01-01T00:00:00.000Z to 9999-12-31T23:59:59.999Z, counted in milliseconds without leap
 /// seconds. Contracts see it as that number, and moments are ordered by it.
-#[derive(Clone, Copy, Debug, PartialEq, Eq, PartialOrd, Ord)]
+#[derive(Clone, Copy, PartialEq, Eq, PartialOrd, Ord)]
 pub struct Moment {
     ms: u64,
 }

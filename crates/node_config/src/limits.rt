@@ -26,7 +26,7 @@ pub const LEAST_MAXIMUM: u32 = 100;
 pub const MOST_MAXIMUM: u32 = 1_000;
 
 /// The numbers of a configuration, each in its range.
-#[derive(Clone, Copy, Debug)]
+#[derive(Clone, Copy)]
 pub struct Limits {
     /// How many threads serve connections.
     pub workers: usize,

@@ -1,7 +1,7 @@
 //! What messages come to.
 
 /// What a message of a peer comes to.
-#[derive(Clone, Copy, Debug, PartialEq, Eq)]
+#[derive(Clone, Copy, PartialEq, Eq)]
 pub enum Outcome {
     /// It is passed over: it is of another life or for another, or acknowledges more than was sent.
     Ignored,

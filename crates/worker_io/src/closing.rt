@@ -2,7 +2,7 @@
 use bnc_ports::Reason;
 
 /// Whether and when a connection is closed.
-#[derive(Clone, Copy, Debug, PartialEq, Eq)]
+#[derive(Clone, Copy, PartialEq, Eq)]
 pub enum Closing {
     /// It stays.
     Open,

@@ -7,7 +7,7 @@ const MINUTE: u64 = 60_000;
 /// Counts the connections that are closed for want of memory. As long as memory is short that may be each one that comes, so how
 /// many they were is told once a minute. By itself only the end of a session with a server is told, and that of a connection with
 /// a peer, since these are opened again a minute later at the soonest.
-#[derive(Clone, Copy, Debug, PartialEq, Eq)]
+#[derive(Clone, Copy, PartialEq, Eq)]
 pub struct Shortage {
     // when the minute began, by the monotonic clock
     since: u64,

@@ -1,7 +1,7 @@
 //! What is done when it is due.
 
 /// What is done when it is due. The numbers are those that the caller gives to networks, peers and lines.
-#[derive(Clone, Copy, Debug, PartialEq, Eq, PartialOrd, Ord)]
+#[derive(Clone, Copy, PartialEq, Eq, PartialOrd, Ord)]
 pub enum Timer {
     /// The connection to the server of a network is tried again.
     RetryNetwork(usize),

@@ -6,7 +6,7 @@ use client_places::Boxed;
 use node_terms::{NodeName, Terms};
 
 /// How the work of one worker ended.
-#[derive(Clone, Copy, Debug, PartialEq, Eq)]
+#[derive(Clone, Copy, PartialEq, Eq)]
 pub enum WorkEnd {
     /// The gate didn't let an answer through.
     GateShut,
