@@ -2,8 +2,9 @@
 //!
 //! A [`Life`] is a node from one start to the next, by its [`NodeName`] and its incarnation. It speaks a [`Version`] of the
 //! lines between nodes. What a node brings to each connection, the [`SharedWord`], its own life and its peers' names with
-//! the versions for them, are its [`Terms`]. It stands on no line and on no state: what is configured, and what workers
-//! begin with, names these and waits for no more. Read [`Terms`] first.
+//! the versions for them, are its [`Terms`]; why a line or a message of a peer is refused is a [`LinkFault`]. It stands on no
+//! line and on no state: what is configured, and what workers begin with, names these and waits for no more. Read [`Terms`]
+//! first.
 #![tactic(auto)]
 
 mod fault;
