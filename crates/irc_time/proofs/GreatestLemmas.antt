@@ -6,15 +6,15 @@ use Rattle.std.proofs.lemmas.Bool.Decides.{nat_tests}
 use Rattle.std.proofs.lemmas.Option.{cond_some}
 use Rattle.jiff_core.specs.Calendar.{days_from_civil}
 use Rattle.jiff_core.proofs.SignedLemmas.{signed_arith}
-use Rattle.irc_time.specs.Time.{Fields, IsDateTime, greatest}
+use Rattle.irc_time.specs.Time.{Fields, IsDateTime, greatest, greatest_day}
 use Rattle.irc_time.specs.Reading.{fields_at, is_date, is_time_of_day, is_text, moment_of, time_of}
 use Rattle.irc_time.proofs.ReadingLemmas.{exists, days_since, days_until_9999}
 
-abs_within : (z : ℤ) → pos 0 ≤ℤ z → z ≤ℤ pos 2932896 → unsigned_abs z ≤ 2932896
+abs_within : (z : ℤ) → pos 0 ≤ℤ z → z ≤ℤ pos greatest_day → unsigned_abs z ≤ greatest_day
 abs_within (pos n) low high = omega (arith, signed_arith)
 abs_within (negsuc n) low high = absurd (omega (arith, signed_arith))
 
-days_within : (f : Fields) → IsDateTime f → unsigned_abs (days_from_civil (pos f.year) f.month f.day) ≤ 2932896
+days_within : (f : Fields) → IsDateTime f → unsigned_abs (days_from_civil (pos f.year) f.month f.day) ≤ greatest_day
 days_within f ok = abs_within _ (days_since f ok) (days_until_9999 f ok)
 
 in_minute : (second millisecond : ℕ) → second ≤ 60 → millisecond ≤ 999 → cond (second == 60) 59999 (second * 1000 + millisecond) ≤ 59999

@@ -7,7 +7,7 @@ use Rattle.jiff_core.proofs.SignedLemmas.{signed_arith}
 use Rattle.jiff_core.proofs.CalendarLemmas.{days_in_month_bounds}
 use Rattle.jiff_core.proofs.DateLemmas.{days_from_civil-day, days_from_civil-next_month, days_from_civil-next_year, days_from_civil-max}
 use Rattle.jiff_core.proofs.StandardFacts.{known_days}
-use Rattle.irc_time.specs.Time.{Fields, IsFrom, since_midnight, digit, text, IsTextOf, greatest}
+use Rattle.irc_time.specs.Time.{Fields, IsFrom, since_midnight, digit, text, IsTextOf, greatest, greatest_day}
 use Rattle.irc_time.specs.Text.{time_text}
 use Rattle.irc_time.proofs.TextLemmas.{text_once}
 
@@ -76,13 +76,13 @@ module _ (n y m d : ℕ) (is : IsDateOf n y m d) where
         },
       )
 
-  no_later : d ≡ 31 → m ≡ 12 → y ≡ 9999 → n ≡ 2932896
+  no_later : d ≡ 31 → m ≡ 12 → y ≡ 9999 → n ≡ greatest_day
   no_later last month year =
-      let greatest_day = days_from_civil-max in
+      let last_day = days_from_civil-max in
       let old : days_from_civil (pos 9999) 12 31 ≡ pos n = (λ i. days_from_civil (pos (sym year i)) (sym month i) (sym last i)) ∙ is.number in
       omega (arith, signed_arith)
 
-  next_day : n < 2932896 → HasDate (suc n)
+  next_day : n < greatest_day → HasDate (suc n)
   next_day below = elim (cases_lt d (days_in_month (pos y) m)) [
     | inl less ↦ same_month less
     | inr ends ↦ (
@@ -103,7 +103,7 @@ module _ (n y m d : ℕ) (is : IsDateOf n y m d) where
         )
   ]
 
-date_of_day : (n : ℕ) → n ≤ 2932896 → HasDate n
+date_of_day : (n : ℕ) → n ≤ greatest_day → HasDate n
 date_of_day zero h =
     (1970, 1, 1, record { year_in = (lit≤ tt, lit≤ tt); month_in = (lit≤ tt, lit≤ tt); day_in = first_in 1970 1; number = known_days.0 })
 date_of_day (suc n) h = (let before = date_of_day n (omega arith) in next_day n before.0 before.1 before.2 before.3 (omega arith))
