@@ -60,7 +60,7 @@ pub enum Halt {
 }
 
 /// The port failed, or could not do what it was asked.
-#[derive(Clone, Copy, PartialEq, Eq)]
+#[derive(Clone, Copy, Debug, PartialEq, Eq)]
 pub struct PortFault;
 
 /// The connections of one worker: sockets, or memory in tests.
