@@ -7,7 +7,7 @@ use work_lines::{Filled, Pumped};
 use worker_io::Context;
 
 /// What a step of a peer comes to.
-#[derive(Clone, Copy, Debug, PartialEq, Eq)]
+#[derive(Clone, Copy, PartialEq, Eq)]
 pub enum PeerStep {
     /// A message came ([`Peers::message`]), which is to be carried out by [`Peers::greet`] and then [`Peers::arrive`].
     Take,
