@@ -124,6 +124,15 @@ fn player_of(alloc: Global, setting: &str) -> Result<Player, Error> {
     })
 }
 
+/// The kind of an answer, as a table names it.
+fn name_of(answered: Answered) -> &'static str {
+    match answered {
+        Answered::Batch => "Batch",
+        Answered::Plain => "Plain",
+        Answered::NotAQuery => "NotAQuery",
+    }
+}
+
 // A marker as its target and its milliseconds after 1970 began.
 fn tell_change(out: &mut Vec<u8>, change: &Change) -> Result<(), AllocError> {
     match change {
@@ -213,7 +222,7 @@ impl Player {
         let line = read_line(question.as_bytes(), TagLimit::Client)?;
         let answered = answer(alloc, &self.state, facts, &line, out)?;
         self.session.answered(answered);
-        write!(out, "{answered:?}\n")?;
+        write!(out, "{}\n", name_of(answered))?;
         Ok(())
     }
 
