@@ -12,25 +12,25 @@ is_greeting word =
     || (str_eq_ignore_ascii_case word (codes "004")
     || str_eq_ignore_ascii_case word (codes "005")))
 
--- of registration, or of the end of a session
-unfoldable pub registration_command_of : List ℕ → ServerCommand
-registration_command_of word =
-    if str_eq_ignore_ascii_case word (codes "CAP") then Cap
+-- a word about the connection itself: its registration, PING or ERROR; any other is none of those that are told apart
+unfoldable pub connection_command_of : List ℕ → ServerCommand
+connection_command_of word =
+    if str_eq_ignore_ascii_case word (codes "PING") then Ping
+    else if str_eq_ignore_ascii_case word (codes "CAP") then Cap
     else if str_eq_ignore_ascii_case word (codes "001") then Welcome
     else if is_greeting word then Greeting
     else if str_eq_ignore_ascii_case word (codes "433") then NickInUse
     else if str_eq_ignore_ascii_case word (codes "ERROR") then Error
     else Other
 
--- by which users come and go, or one of registration
-unfoldable pub channel_command_of : List ℕ → ServerCommand
-channel_command_of word =
-    if str_eq_ignore_ascii_case word (codes "PING") then Ping
-    else if str_eq_ignore_ascii_case word (codes "NICK") then Nick
-    else if str_eq_ignore_ascii_case word (codes "JOIN") then Join
+-- a word by which users come, go or are renamed, or one about the connection
+unfoldable pub user_command_of : List ℕ → ServerCommand
+user_command_of word =
+    if str_eq_ignore_ascii_case word (codes "JOIN") then Join
     else if str_eq_ignore_ascii_case word (codes "PART") then Part
     else if str_eq_ignore_ascii_case word (codes "KICK") then Kick
-    else registration_command_of word
+    else if str_eq_ignore_ascii_case word (codes "NICK") then Nick
+    else connection_command_of word
 
 abbrev pub command_of : List ℕ → ServerCommand
 command_of word =
@@ -38,4 +38,4 @@ command_of word =
     else if str_eq_ignore_ascii_case word (codes "NOTICE") then Notice
     else if str_eq_ignore_ascii_case word (codes "TAGMSG") then Tagmsg
     else if str_eq_ignore_ascii_case word (codes "REDACT") then Redact
-    else channel_command_of word
+    else user_command_of word

@@ -30,12 +30,15 @@ fn is_greeting(word: &[u8]) -> bool
         || word.eq_ignore_ascii_case(b"005")
 }
 
-// The command of a word of registration, or of the end of a session; any other is none of those that are told apart.
-#[tactic(auto, unfolding(crate::specs::Command::registration_command_of))]
-fn registration_command_of(word: &[u8]) -> ServerCommand
-    ensures { result ≡ spec.registration_command_of word.now }
+// The command of a word that is about the connection itself: its registration, PING or ERROR. Any other is none of those that
+// are told apart.
+#[tactic(auto, unfolding(crate::specs::Command::connection_command_of))]
+fn connection_command_of(word: &[u8]) -> ServerCommand
+    ensures { result ≡ spec.connection_command_of word.now }
 {
-    if word.eq_ignore_ascii_case(b"CAP") {
+    if word.eq_ignore_ascii_case(b"PING") {
+        ServerCommand::Ping
+    } else if word.eq_ignore_ascii_case(b"CAP") {
         ServerCommand::Cap
     } else if word.eq_ignore_ascii_case(b"001") {
         ServerCommand::Welcome
@@ -50,23 +53,21 @@ fn registration_command_of(word: &[u8]) -> ServerCommand
     }
 }
 
-// The command of a word by which users come and go, or of one of [`registration_command_of`].
-#[tactic(auto, unfolding(crate::specs::Command::channel_command_of))]
-fn channel_command_of(word: &[u8]) -> ServerCommand
-    ensures { result ≡ spec.channel_command_of word.now }
+// The command of a word by which users come, go or are renamed, or of one of [`connection_command_of`].
+#[tactic(auto, unfolding(crate::specs::Command::user_command_of))]
+fn user_command_of(word: &[u8]) -> ServerCommand
+    ensures { result ≡ spec.user_command_of word.now }
 {
-    if word.eq_ignore_ascii_case(b"PING") {
-        ServerCommand::Ping
-    } else if word.eq_ignore_ascii_case(b"NICK") {
-        ServerCommand::Nick
-    } else if word.eq_ignore_ascii_case(b"JOIN") {
+    if word.eq_ignore_ascii_case(b"JOIN") {
         ServerCommand::Join
     } else if word.eq_ignore_ascii_case(b"PART") {
         ServerCommand::Part
     } else if word.eq_ignore_ascii_case(b"KICK") {
         ServerCommand::Kick
+    } else if word.eq_ignore_ascii_case(b"NICK") {
+        ServerCommand::Nick
     } else {
-        registration_command_of(word)
+        connection_command_of(word)
     }
 }
 
@@ -83,6 +84,6 @@ pub(crate) fn command_of(word: &[u8]) -> ServerCommand
     } else if word.eq_ignore_ascii_case(b"REDACT") {
         ServerCommand::Redact
     } else {
-        channel_command_of(word)
+        user_command_of(word)
     }
 }
