@@ -2,8 +2,6 @@
 //!
 //! What goes into a line has the shape that the grammar of messages gives it (RFC 1459 and RFC 2812, section 2.3).
 
-ghost use Rattle.std.specs.Prelude.{◌≡◌, ◌↔◌, IsTrue};
-
 use thiserror::Error;
 
 /// Why a part of a change is refused. Of several faults the first of this list is answered, and [`BadTags`](Self::BadTags)
@@ -34,16 +32,4 @@ pub enum ChangeFault {
     /// The tags of a message are client-only tags as they are written, in 1 to 4094 bytes (IRCv3 message-tags).
     #[error("not client-only tags")]
     BadTags,
-}
-
-impl ChangeFault {
-    /// Whether it was memory that was wanted, and not a lawful part.
-    pub fn is_no_memory(self) -> bool
-        ensures { IsTrue result ↔ (self ≡ ChangeFault.NoMemory) }
-    {
-        match self {
-            ChangeFault::NoMemory => true,
-            _ => false,
-        }
-    }
 }

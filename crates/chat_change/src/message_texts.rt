@@ -10,7 +10,7 @@ use std::marker::Model;
 /// The tags of a message, and behind them its line as it goes out, `:source KIND target :body` with its ending. They stand one
 /// after the other in one block of memory, so that a line is written by one write. What shares them copies no text.
 #[derive(Drop)]
-pub struct MessageTexts {
+pub(crate) struct MessageTexts {
     bytes: Vec<u8>,
     // where the line begins, whose source stands behind a colon
     line: u16,
@@ -50,7 +50,11 @@ fn spaced_word(kind: Kind) -> &'static [u8]
 
 impl MessageTexts {
     /// Copies of the texts of a message, and of its tags. Fails where there is no memory.
-    pub fn new(alloc: Global, tags: &[u8], message: Message<'_>) -> Result<MessageTexts, AllocError>
+    pub(crate) fn new(
+        alloc: Global,
+        tags: &[u8],
+        message: Message<'_>,
+    ) -> Result<MessageTexts, AllocError>
         requires { spec.length_to_body tags.now (value_of message) < 2 ^ 16 }
         ensures { IfOk result (λ texts. texts ≡ record {
           tags = tags.now;
@@ -82,42 +86,42 @@ impl MessageTexts {
     }
 
     /// By which command the message was sent.
-    pub fn kind(&self) -> Kind
+    pub(crate) fn kind(&self) -> Kind
         ensures { result ≡ self.now.message.kind }
     {
         self.kind
     }
 
     /// The tags.
-    pub fn tags(&self) -> &[u8]
+    pub(crate) fn tags(&self) -> &[u8]
         ensures { result.now ≡ self.now.tags }
     {
         &self.bytes[..self.line as usize]
     }
 
     /// The line as it goes out, with its ending.
-    pub fn line(&self) -> &[u8]
+    pub(crate) fn line(&self) -> &[u8]
         ensures { result.now ≡ sent_line self.now.message }
     {
         &self.bytes[self.line as usize..]
     }
 
     /// The source.
-    pub fn source(&self) -> &[u8]
+    pub(crate) fn source(&self) -> &[u8]
         ensures { result.now ≡ self.now.message.source }
     {
         &self.bytes[self.line as usize + 1..self.command as usize]
     }
 
     /// The target.
-    pub fn target(&self) -> &[u8]
+    pub(crate) fn target(&self) -> &[u8]
         ensures { result.now ≡ self.now.message.target }
     {
         &self.bytes[self.target as usize..self.body as usize - 2]
     }
 
     /// The body.
-    pub fn body(&self) -> &[u8]
+    pub(crate) fn body(&self) -> &[u8]
         ensures { result.now ≡ self.now.message.body }
     {
         &self.bytes[self.body as usize..self.bytes.len() - 2]
