@@ -67,7 +67,7 @@ impl Account {
     }
 
     /// Whether this is the secret of the account.
-    pub fn has_secret(&self, given: &[u8]) -> bool
+    pub(crate) fn has_secret(&self, given: &[u8]) -> bool
         ensures { result ≡ bytes_eq self.now.secret given.now }
     {
         self.secret.is_same(given)
