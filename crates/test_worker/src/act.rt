@@ -65,18 +65,36 @@ fn act_at(number: usize, text: &str) -> Option<Act<'_>> {
     }
 }
 
+// An act that has a time behind its word.
+fn timed_act(word: &str, rest: &str) -> Option<Act<'static>> {
+    let time = time_in(rest)?;
+    match word {
+        "wait" => Some(Act::Wait(time)),
+        "ahead" => Some(Act::Ahead(time)),
+        "back" => Some(Act::Back(time)),
+        "leave" => Some(Act::Leave(time)),
+        _ => None,
+    }
+}
+
+// An act that has a count behind its word.
+fn counted_act(word: &str, rest: &str) -> Option<Act<'static>> {
+    let count = number_in(rest)?;
+    match word {
+        "behind" => Some(Act::Behind(count)),
+        "together" => Some(Act::Together(count)),
+        _ => None,
+    }
+}
+
 /// The act that a line of a case spells.
 pub fn act_in(text: &str) -> Option<Act<'_>> {
     let (word, rest) = cut(text);
     match word {
-        "wait" => Some(Act::Wait(time_in(rest)?)),
-        "ahead" => Some(Act::Ahead(time_in(rest)?)),
-        "back" => Some(Act::Back(time_in(rest)?)),
-        "stop" => Some(Act::Stop),
+        "wait" | "ahead" | "back" | "leave" => timed_act(word, rest),
+        "behind" | "together" => counted_act(word, rest),
         "mail" => Some(Act::Mail(rest)),
-        "leave" => Some(Act::Leave(time_in(rest)?)),
-        "behind" => Some(Act::Behind(number_in(rest)?)),
-        "together" => Some(Act::Together(number_in(rest)?)),
+        "stop" => Some(Act::Stop),
         "fail" => Some(Act::Fail),
         _ => act_at(number_in(word)?, rest),
     }

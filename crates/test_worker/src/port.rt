@@ -242,7 +242,9 @@ impl<R: Wait + Drop> Port for &mut MemoryPort<R> {
     }
 
     fn send_mail(&mut self, worker: usize, mail: Mail) -> Result<(), PortFault> {
-        match tell_post(self.alloc, &mut self.told, worker, &mail) {
+        let told = tell_post(self.alloc, &mut self.told, worker, &mail);
+        drop(mail);
+        match told {
             Ok(()) => Ok(()),
             Err(_) => Err(PortFault),
         }
