@@ -76,6 +76,32 @@ def a_system_without_a_clock_is_told(fixture):
     fails(fixture, "the clock can't be read", env={"LD_PRELOAD": fixture.shims.path("devices"), "NO_CLOCK": "1"})
 
 
+def without_a_worker(fixture, place):
+    """A node of two workers, of which one can't wait for its sockets any more: the place where it waits is the one of that
+    number, of which the first is that of who takes connections in. The other worker ends too, while it serves a client, and
+    that a worker failed is told."""
+    failure = fixture.path("failure")
+    front = ["env", f"LD_PRELOAD={fixture.shims.path('waits')}", f"WAITS={place}", f"FAILS={failure}"]
+    server = Server(fixture)
+    node = Node(fixture, servers=[server.address], front=front).begin()
+    server.register()
+    node.client().register()
+    fixture.write("failure", b"")
+    fixture.until("the node ends", lambda: node.process.poll() is not None)
+    expect("the status", 4, node.process.returncode)
+    expect("the last lines", ["read or write failed", "a worker failed"], node.log()[-2:])
+
+
+@test
+def the_first_worker_that_fails_ends_the_node(fixture):
+    without_a_worker(fixture, 2)
+
+
+@test
+def the_second_worker_that_fails_ends_the_node(fixture):
+    without_a_worker(fixture, 3)
+
+
 @test
 def what_is_told_of_a_day(fixture):
     """Each event is a line on standard error with the time in UTC, in the words of docs/OPERATING.md. Nothing goes to standard

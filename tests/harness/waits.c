@@ -1,0 +1,30 @@
+/* Laid before the C library: a wait for sockets that fails. WAITS=n says which one, by the order in which the program made the
+   places where it waits (`epoll_create1`); it fails once the file exists that FAILS names. Waits end after 20 milliseconds, so
+   that the file is looked for soon. */
+#define _GNU_SOURCE
+#include <errno.h>
+#include <stdlib.h>
+#include <sys/epoll.h>
+#include <sys/syscall.h>
+#include <unistd.h>
+
+static const char *fails;
+static int number, made, place = -1;
+
+__attribute__((constructor)) static void begin(void) {
+    const char *which = getenv("WAITS");
+    fails = getenv("FAILS");
+    number = which ? atoi(which) : 0;
+}
+
+int epoll_create1(int how) {
+    int fd = syscall(SYS_epoll_create1, how);
+    if (fd >= 0 && ++made == number) place = fd;
+    return fd;
+}
+
+int epoll_wait(int fd, struct epoll_event *to, int most, int patience) {
+    if (fails && fd == place && access(fails, F_OK) == 0) return errno = EBADF, -1;
+    if (fails && (patience < 0 || patience > 20)) patience = 20;
+    return syscall(SYS_epoll_wait, fd, to, most, patience);
+}
