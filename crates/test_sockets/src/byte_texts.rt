@@ -1,5 +1,5 @@
-//! Searches in texts, writes of what a writer doesn't take at once, and the text of want of memory.
-use byte_text::{NoMemory, find_byte, put};
+//! Writes of what a writer doesn't take at once, and the text of want of memory.
+use byte_text::{NoMemory, put};
 use std::alloc::{AllocError, Global};
 use std::io::ErrorKind;
 use std::test::Fail;
@@ -48,27 +48,6 @@ fn writes_what_is_left(rt: HostRuntime) {
     let mut writer = two_writes(rt.alloc());
     assert!(rt; put(&mut writer, TEXT).is_ok() && writer.bytes() == TEXT);
     assert!(rt; put(&mut writer, b"").is_ok() && put(&mut writer, b"x").is_err());
-}
-
-#[test]
-fn finds_the_first(rt: HostRuntime) {
-    let rows: [(&[u8], Option<usize>); 6] = [
-        (b"", None),
-        (b" ", Some(0)),
-        (b"P", None),
-        (b"P ", Some(1)),
-        (b"PING", None),
-        (b"PING :a b", Some(4)),
-    ];
-    for (text, at) in rows {
-        assert_eq!(rt; find_byte(text, b' '), at);
-    }
-    let mut long = [b'x'; 200];
-    assert_eq!(rt; find_byte(&long, b'\n'), None);
-    long[150] = b'\n';
-    long[199] = b'\n';
-    assert_eq!(rt; find_byte(&long, b'\n'), Some(150));
-    assert_eq!(rt; find_byte(&long[151..], b'\n'), Some(48));
 }
 
 #[test]

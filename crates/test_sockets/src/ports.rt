@@ -1,12 +1,14 @@
 //! The ports of two workers, and what comes over them.
-use crate::node::Machine;
+use crate::machine::Machine;
 use bnc_ports::{Happening, Port};
 use bnc_sockets::{Addresses, Delivery, Mailbox, Newcomer, SocketPort, WorkerIntake, waker_of};
-use bnc_work::Mail;
 use client_places::RingClient;
 use crossbeam_channel::{Receiver, Sender, unbounded};
 use mio::Poll;
 use std::net::SocketAddr;
+
+/// What the two workers tell each other: a number.
+pub(crate) type Mail = u64;
 
 // How often something is waited for that is to come.
 const TURNS: usize = 1000;

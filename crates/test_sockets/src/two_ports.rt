@@ -1,9 +1,8 @@
 //! Two workers: a line between them, mail, and their end.
-use crate::node::{Machine, listener};
-use crate::ports::{TwoPorts, next, two_ports};
+use crate::machine::{Machine, listener};
+use crate::ports::{Mail, TwoPorts, next, two_ports};
 use bnc_ports::{Carries, Connection, Dial, Halt, Happening, Kind, Port};
 use bnc_sockets::{SocketConnection, SocketPort};
-use bnc_work::Mail;
 use mio::net::TcpStream;
 use std::net::{SocketAddr, TcpListener};
 
@@ -45,14 +44,17 @@ fn readable<R: Machine>(rt: &R, port: &mut SocketPort<R, Mail>) -> usize {
     }
 }
 
-fn is_published<R: Machine>(rt: &R, port: &mut SocketPort<R, Mail>) -> bool {
-    matches!(&next(rt, port), Happening::Mail(Mail::Published))
+// The number that one worker tells the other.
+const TOLD: Mail = 7;
+
+fn is_told<R: Machine>(rt: &R, port: &mut SocketPort<R, Mail>) -> bool {
+    matches!(next(rt, port), Happening::Mail(TOLD))
 }
 
 // Whether a worker is told of bytes before it has read all of so much mail.
 fn are_bytes_between<R: Machine>(rt: &R, port: &mut SocketPort<R, Mail>, mail: usize) -> bool {
     for _ in 0..mail {
-        if !is_published(rt, port) {
+        if !is_told(rt, port) {
             return true;
         }
     }
@@ -110,8 +112,8 @@ fn bytes_mail_and_the_end_reach_the_other_worker(rt: HostRuntime) {
     assert!(rt; Carries::<ToPeer>::receive(&mut second, &mut far, &mut buffer) == Ok(8));
     assert!(rt; buffer.starts_with(b"PING x\r\n"));
 
-    assert!(rt; second.workers() == 2 && second.send_mail(0, Mail::Published).is_ok());
-    assert!(rt; is_published(&rt, &mut first));
+    assert!(rt; second.workers() == 2 && second.send_mail(0, TOLD).is_ok());
+    assert!(rt; is_told(&rt, &mut first));
 
     Carries::<ToPeer>::close(&mut second, far);
     assert!(rt; readable(&rt, &mut first) == near.number());
@@ -130,10 +132,10 @@ fn bytes_are_told_between_mail(rt: HostRuntime) {
     let mut ports = two_ports(&rt, address);
     let (_near, mut far) = connected(&rt, &listener, &mut ports);
     for _ in 0..1000 {
-        assert!(rt; ports.second.send_mail(0, Mail::Published).is_ok());
+        assert!(rt; ports.second.send_mail(0, TOLD).is_ok());
     }
     assert!(rt; ports.second.backlog(0) == 1000 && ports.second.backlog(1) == 0);
-    assert!(rt; is_published(&rt, &mut ports.first));
+    assert!(rt; is_told(&rt, &mut ports.first));
     assert!(rt; Carries::<ToPeer>::send(&mut ports.second, &mut far, b"PING x\r\n") == Ok(8));
     assert!(rt; are_bytes_between(&rt, &mut ports.first, 66));
     assert!(rt; ports.second.backlog(0) >= 933);

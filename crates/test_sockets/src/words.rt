@@ -1,7 +1,7 @@
 //! The words of faults, also of why a node can't begin.
 use crate::places::{claimed, clerk_of};
 use attach::{ClaimFault, HallFault, NoRing, Overrun, PlacesFault, Stand};
-use node_intake::ServeFault;
+use bnc_ports::ServeFault;
 use std::alloc::Global;
 use std::fmt;
 use std::io::ErrorKind;
