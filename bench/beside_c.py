@@ -1,11 +1,13 @@
 #!/usr/bin/env python3
 """Measures what a relayed line costs beside a loop in C that reads it from one socket and writes it to another, in pieces of
-the same size: by turns, the processor time of either.
+the same size, and beside relays in plain Rust that keep it: by turns, the processor time of each.
 
     bench/beside_c.py PROGRAM [ROUNDS]      9 rounds if nothing else is said
 
-It needs cc. The loop keeps nothing and knows no line; the bouncer takes each message into its history.
+It needs cc and rustc. The loop keeps nothing and knows no line. The relays know messages alone, and put each into two states, as a
+node does, or into none.
 """
+import operator
 import os
 import shutil
 import statistics
@@ -23,20 +25,24 @@ PLAIN = os.path.join(os.path.dirname(os.path.realpath(__file__)), "plain")
 
 
 def built(name, folder):
-    """Builds a program in C of bench/plain."""
+    """Builds a program of bench/plain, in C or in Rust."""
     program = os.path.join(folder, name)
-    subprocess.run(["cc", "-O2", "-o", program, os.path.join(PLAIN, f"{name}.c")], check=True)
+    source = os.path.join(PLAIN, name)
+    if os.path.exists(f"{source}.c"):
+        subprocess.run(["cc", "-O2", "-o", program, f"{source}.c"], check=True)
+    else:
+        subprocess.run(["rustc", "-O", "--edition", "2021", "-o", program, f"{source}.rs"], check=True)
     return program
 
 
 class Loop(Bouncer):
-    """The loop in C, as a process between a server and so many clients."""
+    """The loop in C, as a process between a server and so many clients; or another program that is called like it."""
 
-    def __init__(self, home, count=1):
-        self.kind, self.home, self.count = "loop", home, count
+    def __init__(self, home, count=1, name="relay", words=()):
+        self.kind, self.home, self.count = name, home, count
         self.server_port, self.port = free_ports(2)
         self.server = Server(self.server_port)
-        self.process = subprocess.Popen([built("relay", home), str(self.server_port), str(self.port), str(count)])
+        self.process = subprocess.Popen([built(name, home), str(self.server_port), str(self.port), *(words or [str(count)])])
 
     def login(self):
         return ""
@@ -63,11 +69,17 @@ def seconds(bouncer, server, clients, piece):
 
 
 def row(piece, found):
-    """What a line took of ours, of the loop, and how these compare."""
-    ours, bare = ([it[at] * 1e6 for it in found] for at in (0, 1))
+    """What a line took of each, and how ours compares with the loop and with the relay that keeps it in two states."""
+    each = [[it * 1e6 for it in of_one] for of_one in zip(*found)]
+    ours, bare, keeping, _ = each
     ratios = [one / other for one, other in zip(ours, bare)]
-    return [piece, f"{statistics.median(ours):.2f} us", f"{statistics.median(bare):.2f} us",
-            f"{statistics.median(ratios):.1f} ({min(ratios):.1f} to {max(ratios):.1f})", 4]
+    times = [f"{statistics.median(it):.2f} us" for it in each]
+    told = f"{statistics.median(ratios):.1f} ({min(ratios):.1f} to {max(ratios):.1f})"
+    return [piece, *times[:2], told, 4, *times[2:], f"{statistics.median(map(operator.truediv, ours, keeping)):.2f}"]
+
+
+HEADS = ["lines at once", "a relayed line", "the same by the loop in C", "ratio, and its range", "goal",
+         "in plain Rust, with two states", "with none", "ours : with two"]
 
 
 def main():
@@ -75,21 +87,20 @@ def main():
     rounds = int(sys.argv[2]) if len(sys.argv) > 2 else 9
     home = tempfile.mkdtemp(prefix="bench-")
     ours, server = begin("bnc", program)
-    loop = Loop(home)
+    loops = [Loop(home), *(Loop(home, name="kept_relay", words=[states]) for states in ("2", "0"))]
     try:
-        theirs = loop.connect()
+        sides = [(loop, loop.server, loop.connect()) for loop in loops]
         clients = Clients(ours, 1)
         clients.settle()
-        rows = []
-        for piece in PIECES:
-            found = [(seconds(ours, server, clients, piece), seconds(loop, loop.server, theirs, piece)) for _ in range(rounds)]
-            rows.append(row(piece, found))
+        sides.insert(0, (ours, server, clients))
+        rows = [row(piece, [[seconds(*side, piece) for side in sides] for _ in range(rounds)]) for piece in PIECES]
         print(name_of_run(program), "\n")
-        print(table(["lines at once", "a relayed line", "the same by the loop in C", "ratio, and its range", "goal"], rows))
+        print(table(HEADS, rows))
     finally:
         ours.stop()
-        loop.process.kill()
-        loop.process.wait()
+        for loop in loops:
+            loop.process.kill()
+            loop.process.wait()
         shutil.rmtree(home, ignore_errors=True)
 
 
