@@ -2,7 +2,7 @@
 use crate::admitted::Admitted;
 use crate::clients::Clients;
 use crate::registrations::{Registration, Registrations};
-use bnc_ports::{Carries, Connection, Event, Port, Reason};
+use bnc_ports::{Carries, Connection, Event, Lobby, Port, Reason, Refusals};
 use client_connection::ToClient;
 use client_places::Attachment;
 use std::net::SocketAddr;
@@ -19,11 +19,13 @@ impl<X: Attachment, C: Connection> Admitted<X, C> {
         }
     }
 
-    // Known from now on by its network, where its session has just registered. It stands under that key.
+    // Known from now on by its network, where its session has just registered, and to the lobby, where it waits no longer. It
+    // stands under that key.
     fn register<P: Carries<ToClient, Connection = C>>(
         &mut self,
         context: &mut Context<P>,
         registrations: &mut Registrations,
+        lobby: &Lobby<X>,
         key: usize,
     ) {
         if self.client.know_nick(context.view.alloc).is_err() {
@@ -57,39 +59,62 @@ impl<X: Attachment, C: Connection> Admitted<X, C> {
             network,
             address,
         });
+        lobby.note_registered(self.client.place());
     }
 }
 
-impl<X: Attachment, C: Connection> Clients<X, C> {
-    // The operator is told of a client that is gone and had not registered, or that there was one more of many.
-    fn tell_refused<P: Port>(
-        &mut self,
-        context: &mut Context<P>,
-        address: Option<SocketAddr>,
-        reason: Reason,
-    ) {
-        if reason == Reason::NoMemory || self.refusals.add() {
-            context.report(&Event::ClientRefused { address, reason });
-        }
+// The operator is told of a client that is gone and had not registered, or that there was one more of many.
+fn tell_refused<P: Port>(
+    refusals: &mut Refusals,
+    context: &mut Context<P>,
+    address: Option<SocketAddr>,
+    reason: Reason,
+) {
+    if reason == Reason::NoMemory || refusals.add() {
+        context.report(&Event::ClientRefused { address, reason });
     }
+}
 
+// The operator is told of a client that is gone: of which network, where it was registered.
+fn tell_gone<P: Port>(
+    refusals: &mut Refusals,
+    context: &mut Context<P>,
+    network: Option<usize>,
+    address: Option<SocketAddr>,
+    reason: Reason,
+) {
+    match context.view.network_at(network) {
+        Some(config) => {
+            let event = Event::ClientOut {
+                account: config.account.as_bytes(),
+                network: config.network.as_bytes(),
+                address,
+                reason,
+            };
+            context.shortage.report(&mut context.port, &event);
+        }
+        None => tell_refused(refusals, context, address, reason),
+    }
+}
+
+// A connection over which no client can be served is closed. The operator is told.
+fn refuse<P: Carries<ToClient>>(
+    refusals: &mut Refusals,
+    context: &mut Context<P>,
+    connection: P::Connection,
+    reason: Reason,
+) {
+    let address = context.port.address(&connection);
+    context.port.close(connection);
+    tell_refused(refusals, context, address, reason);
+}
+
+impl<X: Attachment, C: Connection> Clients<X, C> {
     /// The operator is told once a minute how many more clients were refused than were told one by one.
     pub fn tell_refusals<P: Port>(&mut self, context: &mut Context<P>) {
         if let Some(count) = self.refusals.take_untold(context.view.now) {
             context.port.report(&Event::ClientsRefused { count });
         }
-    }
-
-    // A connection over which no client can be served is closed. The operator is told.
-    fn refuse<P: Carries<ToClient>>(
-        &mut self,
-        context: &mut Context<P>,
-        connection: P::Connection,
-        reason: Reason,
-    ) {
-        let address = context.port.address(&connection);
-        context.port.close(connection);
-        self.tell_refused(context, address, reason);
     }
 
     /// A client came, whose attachment is under a ticket. Where it can't be taken in its connection is closed.
@@ -104,13 +129,13 @@ impl<X: Attachment, C: Connection> Clients<X, C> {
         self.close(context, number, Reason::Closed);
         let attachment = self.lobby.admit(rt, ticket);
         let Some(connection) = context.port.open(number) else {
-            return self.tell_refused(context, None, Reason::Closed);
+            return tell_refused(&mut self.refusals, context, None, Reason::Closed);
         };
         let Some(attachment) = attachment else {
-            return self.refuse(context, connection, Reason::NoPlace);
+            return refuse(&mut self.refusals, context, connection, Reason::NoPlace);
         };
         if let Err(connection) = self.begin(&context.view, connection, attachment, ticket) {
-            return self.refuse(context, connection, Reason::NoMemory);
+            return refuse(&mut self.refusals, context, connection, Reason::NoMemory);
         }
         self.connections.wake(number);
         if context.set_patience(number, PATIENCE).is_err() {
@@ -125,21 +150,12 @@ impl<X: Attachment, C: Connection> Clients<X, C> {
         context: &mut Context<P>,
         number: usize,
     ) {
-        let Clients {
-            connections,
-            registrations,
-            lobby,
-            ..
-        } = self;
-        let Some(key) = connections.key_of(number) else {
+        let Some(key) = self.connections.key_of(number) else {
             return;
         };
-        if let Some(admitted) = connections.get_mut(number) {
+        if let Some(admitted) = self.connections.get_mut(number) {
             if admitted.network.is_none() {
-                admitted.register(context, registrations, key);
-                if admitted.network.is_some() {
-                    lobby.note_registered(admitted.client.place());
-                }
+                admitted.register(context, &mut self.registrations, &self.lobby, key);
             }
         }
     }
@@ -150,13 +166,12 @@ impl<X: Attachment, C: Connection> Clients<X, C> {
         context: &mut Context<P>,
         number: usize,
     ) {
-        if self.release(number) {
-            return;
-        }
-        let Some(admitted) = self.connections.get(number) else {
+        let Some(admitted) = self.connections.get_mut(number) else {
             return;
         };
-        if let Some(reason) = admitted.reason_when_due() {
+        if admitted.release() {
+            self.connections.wake(number);
+        } else if let Some(reason) = admitted.reason_when_due() {
             self.close(context, number, reason);
         }
     }
@@ -188,17 +203,6 @@ impl<X: Attachment, C: Connection> Clients<X, C> {
         context.timers.clear(Timer::Unregistered(number));
         let address = context.port.address(&connection);
         context.port.close(connection);
-        match context.view.network_at(network) {
-            Some(config) => {
-                let event = Event::ClientOut {
-                    account: config.account.as_bytes(),
-                    network: config.network.as_bytes(),
-                    address,
-                    reason,
-                };
-                context.shortage.report(&mut context.port, &event);
-            }
-            None => self.tell_refused(context, address, reason),
-        }
+        tell_gone(&mut self.refusals, context, network, address, reason);
     }
 }

@@ -42,13 +42,12 @@ impl<X: Attachment, C: Connection> Clients<X, C> {
         past: &mut A,
         number: usize,
     ) -> Result<(), Reason> {
-        let Clients {
-            connections,
-            room,
-            ..
-        } = self;
-        match connections.get_mut(number) {
-            Some(admitted) => admitted.client.answer(context.view.alloc, past, room),
+        match self.connections.get_mut(number) {
+            Some(admitted) => {
+                admitted
+                    .client
+                    .answer(context.view.alloc, past, &mut self.room)
+            }
             None => Ok(()),
         }
     }
@@ -62,14 +61,9 @@ impl<X: Attachment, C: Connection> Clients<X, C> {
         target: &[u8],
     ) {
         self.tell_untold(context);
-        let Clients {
-            connections,
-            room,
-            ..
-        } = self;
-        if let Some(mut found) = connections.find(number) {
+        if let Some(mut found) = self.connections.find(number) {
             let client = &mut found.served().client;
-            let delivery = client.tell_marker(context, past, target, room);
+            let delivery = client.tell_marker(context, past, target, &mut self.room);
             note(&mut found, delivery);
         }
     }

@@ -1,7 +1,6 @@
 //! What all sessions of a network are told.
 use crate::admitted::note;
 use crate::clients::Clients;
-use crate::registrations::Registration;
 use crate::untold::tell_each;
 use bnc_ports::{Carries, Connection};
 use client_connection::ToClient;
@@ -23,9 +22,17 @@ impl<X: Attachment, C: Connection> Clients<X, C> {
             return;
         }
         self.tell_untold(context);
-        if !self.untold.add(network, message) {
-            self.tell_live(context, network, message);
+        if self.untold.add(network, message) {
+            return;
         }
+        tell_each(
+            context.view.alloc,
+            &mut self.connections,
+            self.registrations.of(network, 0),
+            &mut context.port,
+            slice::from_ref(message),
+            &mut self.untold.rooms,
+        );
     }
 
     /// The messages that wait are told to the sessions that hear them.
@@ -33,40 +40,11 @@ impl<X: Attachment, C: Connection> Clients<X, C> {
         let Some(network) = self.untold.network() else {
             return;
         };
-        let Clients {
-            connections,
-            registrations,
-            untold,
-            ..
-        } = self;
-        untold.tell(
+        self.untold.tell(
             context.view.alloc,
-            connections,
-            registrations.of(network, 0),
+            &mut self.connections,
+            self.registrations.of(network, 0),
             &mut context.port,
-        );
-    }
-
-    // A message is told to the sessions of the network that hear it.
-    fn tell_live<P: Carries<ToClient, Connection = C>>(
-        &mut self,
-        context: &mut Context<P>,
-        network: usize,
-        message: &Live<'_>,
-    ) {
-        let Clients {
-            connections,
-            registrations,
-            untold,
-            ..
-        } = self;
-        tell_each(
-            context.view.alloc,
-            connections,
-            registrations.of(network, 0),
-            &mut context.port,
-            slice::from_ref(message),
-            &mut untold.rooms,
         );
     }
 
@@ -78,13 +56,8 @@ impl<X: Attachment, C: Connection> Clients<X, C> {
         passed: &Passed<'_>,
     ) {
         self.tell_untold(context);
-        let Clients {
-            connections,
-            registrations,
-            ..
-        } = self;
-        for Registration { key, .. } in registrations.of(network, 0) {
-            if let Some(mut found) = connections.find_at(*key) {
+        for registration in self.registrations.of(network, 0) {
+            if let Some(mut found) = self.connections.find_at(registration.key) {
                 let delivery = found.served().client.take_line(&mut context.port, passed);
                 note(&mut found, delivery);
             }
@@ -101,20 +74,14 @@ impl<X: Attachment, C: Connection> Clients<X, C> {
         is_passed_on: bool,
     ) {
         self.tell_untold(context);
-        let Clients {
-            connections,
-            registrations,
-            room,
-            ..
-        } = self;
         let nick = entry.entry.nick();
-        for Registration { key, .. } in registrations.of(network, 0) {
-            let Some(mut found) = connections.find_at(*key) else {
+        for registration in self.registrations.of(network, 0) {
+            let Some(mut found) = self.connections.find_at(registration.key) else {
                 continue;
             };
             let client = &mut found.served().client;
             if client.knows_another_nick(nick) {
-                let delivery = client.take_nick(context, entry, is_passed_on, room);
+                let delivery = client.take_nick(context, entry, is_passed_on, &mut self.room);
                 note(&mut found, delivery);
             }
         }

@@ -1,7 +1,6 @@
 //! Clients that are turned away. One that gave a wrong account, network or secret is told so a second later, and isn't read
 //! meanwhile: so each secret that somebody tries takes a connection, and a second of its place.
 use crate::admitted::Admitted;
-use crate::clients::Clients;
 use bnc_ports::{Connection, Port, Reason};
 use byte_text::NoMemory;
 use client_connection::ClientStep;
@@ -28,6 +27,15 @@ impl<X: Attachment, C: Connection> Admitted<X, C> {
         matches!(self.turned_away, TurnedAway::Waits)
     }
 
+    /// Where it waited until it may be told that it is turned away, it may be told from now on. False where it didn't wait.
+    pub(crate) fn release(&mut self) -> bool {
+        if !self.is_held() {
+            return false;
+        }
+        self.turned_away = TurnedAway::IsTold;
+        true
+    }
+
     /// Why it is gone, as the operator is told. Of one that is turned away that is so however it goes, but for want of memory.
     pub(crate) fn reason_to_tell(&self, reason: Reason) -> Reason {
         match self.turned_away {
@@ -52,20 +60,5 @@ impl<X: Attachment, C: Connection> Admitted<X, C> {
             Ok(()) => ClientStep::Rest,
             Err(NoMemory) => ClientStep::Over(Reason::NoMemory),
         }
-    }
-}
-
-impl<X: Attachment, C: Connection> Clients<X, C> {
-    /// A client that waited until it may be told that it is turned away is told now. False where it doesn't wait for that.
-    pub(crate) fn release(&mut self, number: usize) -> bool {
-        let Some(mut found) = self.connections.find(number) else {
-            return false;
-        };
-        if !found.served().is_held() {
-            return false;
-        }
-        found.served().turned_away = TurnedAway::IsTold;
-        found.wake();
-        true
     }
 }

@@ -78,13 +78,14 @@ impl<X: Attachment, C: Connection> Clients<X, C> {
         number: usize,
         has_more: bool,
     ) {
-        match self.write_out(context, number) {
-            Pumped::All if !has_more => {}
-            Pumped::All | Pumped::Some => self.connections.wake(number),
-            Pumped::Blocked => {}
-            Pumped::Closed => self.close(context, number, Reason::Closed),
-            Pumped::Overrun => self.close(context, number, Reason::Overrun),
-            Pumped::NoMemory => self.close(context, number, Reason::NoMemory),
-        }
+        let reason = match self.write_out(context, number) {
+            Pumped::All if !has_more => return,
+            Pumped::All | Pumped::Some => return self.connections.wake(number),
+            Pumped::Blocked => return,
+            Pumped::Closed => Reason::Closed,
+            Pumped::Overrun => Reason::Overrun,
+            Pumped::NoMemory => Reason::NoMemory,
+        };
+        self.close(context, number, reason);
     }
 }

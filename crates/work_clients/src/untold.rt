@@ -99,19 +99,15 @@ impl Untold {
         those: &[Registration],
         port: &mut P,
     ) {
-        let Untold {
-            messages,
-            rooms,
-            ..
-        } = self;
-        if let Ok(lent) = lend_all(alloc, messages) {
+        let rooms = &mut self.rooms;
+        if let Ok(lent) = lend_all(alloc, &self.messages) {
             tell_each(alloc, connections, those, port, &lent, rooms);
         } else {
-            for message in messages.iter() {
+            for message in self.messages.iter() {
                 tell_each(alloc, connections, those, port, &[message.lend()], rooms);
             }
         }
-        messages.clear();
+        self.messages.clear();
     }
 }
 
@@ -132,8 +128,8 @@ pub(crate) fn tell_each<X: Attachment, C: Connection, P: Carries<ToClient, Conne
 ) {
     let mut text = HeardText::new(messages, mem::replace(&mut rooms.latest, Vec::new(alloc)));
     let mut other = HeardText::new(messages, mem::replace(&mut rooms.other, Vec::new(alloc)));
-    for Registration { key, .. } in those {
-        if let Some(mut found) = connections.find_at(*key) {
+    for registration in those {
+        if let Some(mut found) = connections.find_at(registration.key) {
             let client = &mut found.served().client;
             if !client.shares_text(&text) {
                 mem::swap(&mut text, &mut other);
