@@ -3,7 +3,7 @@ ghost use Rattle.std.specs.Prelude.{◌≡◌, []};
 
 use crate::peer::Peer;
 use crate::peers::Peers;
-use bnc_ports::{Carries, Connection, Event, Port, Reason};
+use bnc_ports::{Carries, Connection, Event, Reason};
 use peer_connection::ToPeer;
 use worker_io::{Context, NodeView, PATIENCE, Timer};
 
@@ -22,8 +22,10 @@ impl<C: Connection> Peers<C> {
             self.make_way(context);
         }
         let Some(connection) = context.port.open(number) else {
-            self.tell_unopened(context, dialed);
-            return;
+            return match dialed {
+                Some(place) => self.retry(context, place),
+                None => self.tell_refused(context, None, Reason::Unreachable, None),
+            };
         };
         match self.open(&context.view, number, connection, dialed) {
             Ok(()) => {
@@ -48,14 +50,6 @@ impl<C: Connection> Peers<C> {
         self.tell_refused(context, address, Reason::NoMemory, dialed);
         if let Some(place) = dialed {
             self.dial_later(context, place);
-        }
-    }
-
-    // The port doesn't hand out a connection, which was opened to the peer at that place or by another node.
-    fn tell_unopened<P: Port>(&mut self, context: &mut Context<P>, dialed: Option<usize>) {
-        match dialed {
-            Some(place) => self.retry(context, place),
-            None => self.tell_refused(context, None, Reason::Unreachable, None),
         }
     }
 
@@ -102,21 +96,25 @@ impl<C: Connection> Peers<C> {
         context: &mut Context<P>,
         number: usize,
     ) {
-        let Some(peer) = self.connections.get(number) else {
+        let Some(peer) = self.connections.get_mut(number) else {
             return;
         };
         let Some(place) = peer.talk.newcomer() else {
             return;
         };
-        if peer.dialed.is_some() && peer.dialed != Some(place) {
-            self.close(context, number, Reason::UnknownNode);
-            return;
+        if let Some(dialed) = peer.dialed {
+            if dialed != place {
+                return self.close(context, number, Reason::UnknownNode);
+            }
         }
+        peer.note(context.view.now);
         context.timers.clear(Timer::Unregistered(number));
         context.timers.clear(Timer::RetryPeer(place));
         context.timers.clear(Timer::AbsentPeer(place));
-        if let Some(older) = self.settle(number, place, context.view.now) {
-            self.close(context, older, Reason::Replaced);
+        if let Some(record) = self.records.get_mut(place) {
+            if let Some(older) = record.settle(number) {
+                self.close(context, older, Reason::Replaced);
+            }
         }
         self.check_quiet(context, number);
     }

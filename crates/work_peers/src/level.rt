@@ -1,12 +1,11 @@
 //! When this node and a peer are level: the peer has all that this node had, and this node has all that the peer had.
 use crate::peer::Peer;
 use crate::peer_record::PeerRecord;
-use crate::peers::Peers;
 use bnc_ports::{Connection, Event, Port};
 use chat_history::DELTA_LIMIT;
 use gossip_link::{Arrived, Version};
 use peer_session::{Outcome, changes_of};
-use worker_io::{Context, NodeView, Timer};
+use worker_io::{Context, NodeView};
 
 /// A peer that may have more, and sent no packet for so many milliseconds, has no more.
 const LAST: u64 = 10_000;
@@ -82,40 +81,21 @@ impl PeerRecord {
             context.port.report(&Event::PeerLevel { node });
         }
     }
-}
 
-impl<C: Connection> Peers<C> {
-    /// Notes what the peer at that place may still have, by a message that came over that connection and came to that. Once
-    /// the two were level nothing is noted.
-    pub(crate) fn note_supply<P: Port>(
-        &mut self,
-        context: &mut Context<P>,
-        number: usize,
-        place: usize,
+    /// Notes what the peer may still have, by a message that came over that connection and came to that at that moment. When it
+    /// has no more, where no packet comes until then. Once the two were level nothing is noted.
+    pub(crate) fn note_supply<C: Connection>(
+        &self,
+        peer: &mut Peer<C>,
         arrived: &Arrived,
         outcome: Outcome,
-    ) {
-        let now = context.view.now;
-        let Some(supply) = Supply::after(outcome, changes_of(arrived).len(), now) else {
-            return;
-        };
-        if self.is_level(place) {
-            return;
+        now: u64,
+    ) -> Option<u64> {
+        let supply = Supply::after(outcome, changes_of(arrived).len(), now)?;
+        if self.is_level {
+            return None;
         }
-        let Some(peer) = self.connections.get_mut(number) else {
-            return;
-        };
         peer.supply = supply;
-        if let Some(until) = supply.awaited_until() {
-            context.timers.set(Timer::QuietPeer(number), until);
-        }
-    }
-
-    // Whether this node and the peer at that place were level.
-    fn is_level(&self, place: usize) -> bool {
-        match self.records.get(place) {
-            Some(record) => record.is_level,
-            None => false,
-        }
+        supply.awaited_until()
     }
 }

@@ -2,6 +2,8 @@
 ghost use Rattle.std.specs.Prelude.{◌⊎◌, IfOk, OnErr};
 ghost use Rattle.peer_connection.specs.Taking.{IsTakenFromPeer};
 
+use crate::peer::Peer;
+use crate::peer_record::PeerRecord;
 use crate::peers::Peers;
 use bnc_ports::{Carries, Connection, Port, Reason};
 use byte_text::NoMemory;
@@ -10,6 +12,27 @@ use gossip_link::Arrived;
 use peer_connection::ToPeer;
 use peer_session::{Heard, Outcome};
 use worker_io::{Context, Timer};
+
+impl PeerRecord {
+    // Notes what a message, which came over that connection and came to that, says of lives and of what the peer may still
+    // have. When the peer has no more, where no packet comes until then, as far as the message changes that.
+    fn note<P: Port, C: Connection>(
+        &mut self,
+        context: &mut Context<P>,
+        peer: &mut Peer<C>,
+        message: Heard,
+        outcome: Outcome,
+        out: &mut Vec<u8>,
+    ) -> Option<u64> {
+        let mut until = None;
+        if let Heard::Message(_, arrived) = &message {
+            self.note_lives(context, peer, arrived, outcome, out);
+            until = self.note_supply(peer, arrived, outcome, context.view.now);
+        }
+        drop(message);
+        until
+    }
+}
 
 impl<C: Connection> Peers<C> {
     /// The message that came over a connection, where one is to be carried out.
@@ -36,42 +59,22 @@ impl<C: Connection> Peers<C> {
             IsTakenFromPeer T.holds T.may_add taker.old taker.new Outcome.Ignored
             ⊎ IsTakenFromPeer T.holds T.may_add taker.old taker.new Outcome.Taken) }
     {
-        let Peers {
-            connections,
-            records,
-            out,
-            ..
-        } = self;
-        let Some(peer) = connections.get_mut(number) else {
+        let Some(peer) = self.connections.get_mut(number) else {
             return Ok(Outcome::Ignored);
         };
         let Some(place) = peer.talk.place() else {
             return Ok(Outcome::Ignored);
         };
-        let Some(record) = records.get_mut(place) else {
+        let Some(record) = self.records.get_mut(place) else {
             peer.talk.lose(Reason::UnknownNode);
             return Ok(Outcome::Ignored);
         };
         let link = &mut record.link;
-        let (message, outcome) = peer.talk.arrive(&context.view, link, taker, out)?;
-        self.note(context, number, message, outcome);
-        Ok(outcome)
-    }
-
-    // Notes what a message, which came over that connection and came to that, says of lives and of what the peer may still
-    // have.
-    fn note<P: Port>(
-        &mut self,
-        context: &mut Context<P>,
-        number: usize,
-        message: Heard,
-        outcome: Outcome,
-    ) {
-        if let Heard::Message(place, arrived) = &message {
-            self.note_lives(context, number, *place, arrived, outcome);
-            self.note_supply(context, number, *place, arrived, outcome);
+        let (message, outcome) = peer.talk.arrive(&context.view, link, taker, &mut self.out)?;
+        if let Some(until) = record.note(context, peer, message, outcome, &mut self.out) {
+            context.timers.set(Timer::QuietPeer(number), until);
         }
-        drop(message);
+        Ok(outcome)
     }
 
     /// Makes the next packet of what the source holds for the peer of that connection, where one is due. It waits for the
@@ -83,23 +86,17 @@ impl<C: Connection> Peers<C> {
         number: usize,
         source: &mut S,
     ) {
-        let Peers {
-            connections,
-            records,
-            out,
-            ..
-        } = self;
-        let Some(peer) = connections.get_mut(number) else {
+        let Some(peer) = self.connections.get_mut(number) else {
             return;
         };
         let Some(place) = peer.talk.noted() else {
             return;
         };
-        let Some(record) = records.get_mut(place) else {
+        let Some(record) = self.records.get_mut(place) else {
             return;
         };
         peer.talk
-            .send_next(&context.view, &mut record.link, source, out);
+            .send_next(&context.view, &mut record.link, source, &mut self.out);
         record.tell_level(context, peer, place);
         if let Some(at) = peer.talk.deadline() {
             context.timers.set(Timer::UnansweredPacket(number), at);

@@ -65,6 +65,13 @@ impl PeerRecord {
         }
     }
 
+    /// The peer said hello over that connection: the connection over which it did so before.
+    pub(crate) fn settle(&mut self, number: usize) -> Option<usize> {
+        let before = self.number;
+        self.number = Some(number);
+        if before == Some(number) { None } else { before }
+    }
+
     /// Whether packets are made for the life of the peer that the link knows.
     pub(crate) fn is_served(&self) -> bool {
         self.known.is_some_and(|known| known.is_served)

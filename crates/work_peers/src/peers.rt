@@ -60,18 +60,6 @@ impl<C: Connection> Peers<C> {
         self.connections.remove(number)
     }
 
-    /// The peer at that place said hello over that connection, at that moment in milliseconds: the connection over which it did
-    /// so before.
-    pub(crate) fn settle(&mut self, number: usize, place: usize, now: u64) -> Option<usize> {
-        if let Some(peer) = self.connections.get_mut(number) {
-            peer.note(now);
-        }
-        let record = self.records.get_mut(place)?;
-        let before = record.number;
-        record.number = Some(number);
-        if before == Some(number) { None } else { before }
-    }
-
     /// The name of the peer at that place.
     pub(crate) fn name(&self, place: Option<usize>) -> Option<&[u8]> {
         match self.records.get(place?) {

@@ -36,13 +36,7 @@ impl<C: Connection> Peers<C> {
         context: &mut Context<P>,
         number: usize,
     ) {
-        let Peers {
-            connections,
-            records,
-            out,
-            ..
-        } = self;
-        let Some(peer) = connections.get_mut(number) else {
+        let Some(peer) = self.connections.get_mut(number) else {
             return;
         };
         let Some(place) = peer.talk.noted() else {
@@ -52,11 +46,11 @@ impl<C: Connection> Peers<C> {
             self.close(context, number, Reason::Unheard);
             return;
         }
-        peer.talk.repeat_hello(context.view.now, out);
+        peer.talk.repeat_hello(context.view.now, &mut self.out);
         context
             .timers
             .set(Timer::QuietPeer(number), peer.look_at(context.view.now));
-        if let Some(record) = records.get_mut(place) {
+        if let Some(record) = self.records.get_mut(place) {
             record.tell_level(context, peer, place);
         }
         self.connections.wake(number);

@@ -26,17 +26,20 @@ impl<C: Connection> Peers<C> {
     // How many strangers there are, and who of them came first.
     fn strangers(&self) -> (usize, Option<usize>) {
         let mut count: usize = 0;
-        let mut first: Option<(u64, usize)> = None;
+        let mut first = None;
+        let mut least = u64::MAX;
         for (_, entry) in self.connections.iter() {
             let peer = &entry.served;
-            if peer.is_stranger() {
-                count = count.saturating_add(1);
-                if first.is_none_or(|(order, _)| peer.order < order) {
-                    first = Some((peer.order, entry.number));
-                }
+            if !peer.is_stranger() {
+                continue;
+            }
+            count = count.saturating_add(1);
+            if first.is_none() || peer.order < least {
+                first = Some(entry.number);
+                least = peer.order;
             }
         }
-        (count, first.map(|(_, number)| number))
+        (count, first)
     }
 
     /// The operator is told of a connection that ended before a peer said hello over it: with the name of the peer at that

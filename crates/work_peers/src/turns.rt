@@ -65,16 +65,13 @@ impl<C: Connection> Peer<C> {
 
     // Takes in more bytes that come over the connection.
     fn fill<P: Carries<ToPeer, Connection = C>>(&mut self, context: &mut Context<P>) -> PeerStep {
-        let Context {
-            view,
-            port,
-            chunk,
-            feeders,
-            ..
-        } = context;
-        let filled = self.talk.fill(port, chunk.as_mut_slice(), feeders);
+        let filled = self.talk.fill(
+            &mut context.port,
+            context.chunk.as_mut_slice(),
+            &mut context.feeders,
+        );
         if filled == Filled::More {
-            self.heard_at = view.now;
+            self.heard_at = context.view.now;
         }
         step_of_fill(filled)
     }
@@ -88,13 +85,8 @@ impl<C: Connection> Peers<C> {
         context: &mut Context<P>,
         number: usize,
     ) -> PeerStep {
-        let Peers {
-            connections,
-            out,
-            ..
-        } = self;
-        match connections.get_mut(number) {
-            Some(peer) => peer.step(context, out),
+        match self.connections.get_mut(number) {
+            Some(peer) => peer.step(context, &mut self.out),
             None => PeerStep::Rest,
         }
     }
@@ -105,16 +97,16 @@ impl<C: Connection> Peers<C> {
         context: &mut Context<P>,
         number: usize,
     ) {
-        let pumped = match self.connections.get_mut(number) {
-            Some(peer) => peer.talk.pump(&mut context.port),
-            None => return,
+        let Some(peer) = self.connections.get_mut(number) else {
+            return;
         };
-        match pumped {
-            Ok(Pumped::All | Pumped::Blocked) => {}
-            Ok(Pumped::Some) => self.connections.wake(number),
-            Ok(Pumped::Closed | Pumped::Overrun) => self.close(context, number, Reason::Closed),
-            Ok(Pumped::NoMemory) => self.close(context, number, Reason::NoMemory),
-            Err(reason) => self.close(context, number, reason),
-        }
+        let reason = match peer.talk.pump(&mut context.port) {
+            Ok(Pumped::All | Pumped::Blocked) => return,
+            Ok(Pumped::Some) => return self.connections.wake(number),
+            Ok(Pumped::Closed | Pumped::Overrun) => Reason::Closed,
+            Ok(Pumped::NoMemory) => Reason::NoMemory,
+            Err(reason) => reason,
+        };
+        self.close(context, number, reason);
     }
 }
