@@ -1,5 +1,6 @@
 //! What clients are answered.
-ghost use Rattle.std.specs.Prelude.{IfOk, MatchOption};
+ghost use Rattle.std.specs.Prelude.{IfOk, IfSome, MatchOption};
+ghost use Rattle.irc_reply.specs.ToClient as lines;
 ghost use Rattle.client_connection.specs.Question.{IsAnswerTo, IsUnanswerable};
 
 use crate::client::Client;
@@ -49,6 +50,24 @@ fn write_answer<A: Past>(
     }
 }
 
+// Writes what the session would be answered if it asked for the read marker of a target into the room. None where it would be
+// answered nothing, and where there is no memory for the question.
+fn write_marker<A: Past>(
+    session: &Session,
+    alloc: Global,
+    past: &mut A,
+    target: &[u8],
+    room: &mut Vec<u8>,
+) -> Result<Option<Answered>, Reason>
+    ensures { IfOk result (λ answer. IfSome answer (λ answered.
+        IsAnswerTo session.now (lines.marker_question target.now) room.new.items answered)) }
+{
+    let Ok(question) = marker_question(alloc, target) else {
+        return Ok(None);
+    };
+    write_answer(session, alloc, past, question.as_bytes(), room)
+}
+
 impl<X: Attachment, C: Connection> Client<X, C> {
     /// The answer to the client's question waits for it, where a question is next. The caller asked the gate.
     pub fn answer<A: Past>(
@@ -82,11 +101,7 @@ impl<X: Attachment, C: Connection> Client<X, C> {
         target: &[u8],
         room: &mut Vec<u8>,
     ) -> Delivery {
-        let Ok(question) = marker_question(context.view.alloc, target) else {
-            return Delivery::Skipped;
-        };
-        let question = question.as_bytes();
-        match write_answer(&self.session, context.view.alloc, past, question, room) {
+        match write_marker(&self.session, context.view.alloc, past, target, room) {
             Ok(Some(answered)) => {
                 if !self
                     .connection
