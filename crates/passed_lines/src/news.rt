@@ -131,7 +131,10 @@ pub fn is_another_behind<P: Port>(context: &Context<P>) -> bool {
 
 /// Keeps how the session with a network's server stands, where mail says that.
 pub fn keep_entry(view: &mut NodeView, happening: Happening<Mail>) {
-    if let Happening::Mail(Mail::Entry { network, entry, .. }) = happening {
-        view.set_entry(network, entry.entry);
+    match happening {
+        Happening::Mail(Mail::Entry { network, entry, .. }) => {
+            view.set_entry(network, entry.entry);
+        }
+        other => drop(other),
     }
 }

@@ -7,7 +7,7 @@ ghost use Rattle.passed_lines.specs.Passing.{IsPutBySome};
 use crate::live::{Live, LiveMessage};
 use byte_text::NoMemory;
 use chat_change::Change;
-use std::alloc::Global;
+use std::alloc::{AllocError, Global};
 use std::marker::Model;
 
 /// Messages of networks' servers that wait to be put as one list, and to be told then. Contracts see the list of the changes
@@ -72,13 +72,11 @@ impl PutQueue {
     {
         let message = LiveMessage::new(live)?;
         let change = message.to_change()?;
-        if self.changes.push(change).is_err() {
+        self.changes.push(change).map_err(AllocError::from)?;
+        let Ok(()) = self.messages.push(message).map_err(AllocError::from) else {
+            drop(self.changes.pop());
             return Err(NoMemory);
-        }
-        if self.messages.push(message).is_err() {
-            self.changes.pop();
-            return Err(NoMemory);
-        }
+        };
         Ok(())
     }
 

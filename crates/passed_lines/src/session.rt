@@ -68,8 +68,10 @@ impl NetworkSession {
     ) -> Result<NetworkSession, NoMemory>
         ensures { IfOk result (λ s. s ≡ spec.begun config node incarnation first_serial) }
     {
-        let account = SharedLine::new(alloc, config.account.as_bytes())?;
-        let network = SharedLine::new(alloc, config.network.as_bytes())?;
+        let Ok((account, network)) = names_of(alloc, &config) else {
+            drop(config);
+            return Err(NoMemory);
+        };
         Ok(NetworkSession {
             account,
             network,
@@ -236,6 +238,16 @@ impl NetworkSession {
         let network = self.network.try_clone()?;
         Ok((account, network))
     }
+}
+
+// The account and the network of a configuration.
+fn names_of(alloc: Global, config: &Config) -> Result<(SharedLine, SharedLine), NoMemory>
+    ensures account { IfOk result (λ names. names.0 ≡ config.now.account) }
+    ensures network { IfOk result (λ names. names.1 ≡ config.now.network) }
+{
+    let account = SharedLine::new(alloc, config.account.as_bytes())?;
+    let network = SharedLine::new(alloc, config.network.as_bytes())?;
+    Ok((account, network))
 }
 
 // The message that is posted.
