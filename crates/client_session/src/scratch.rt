@@ -30,12 +30,15 @@ impl Scratch {
     /// sent none, and keeps nothing.
     pub(crate) fn recycle(&mut self, list: Vec<Effect>) {
         let mut list = list;
-        if let Some(Effect::Upstream(line)) = list.pop() {
-            let room = line.into_bytes();
-            if room.capacity() <= MOST_KEPT {
-                self.text = Some(room);
+        match list.pop() {
+            Some(Effect::Upstream(line)) => {
+                let room = line.into_bytes();
+                if room.capacity() <= MOST_KEPT {
+                    self.text = Some(room);
+                }
+                self.list = Some(list);
             }
-            self.list = Some(list);
+            other => drop(other),
         }
     }
 

@@ -18,6 +18,7 @@ use irc_caps::Negotiation;
 use irc_line::{Line, LineFault, TagLimit, read_line};
 use std::alloc::Global;
 use std::marker::Model;
+use std::mem;
 use thiserror::Error;
 
 /// Why a step is refused. The session is as it was.
@@ -51,9 +52,10 @@ pub struct Session {
 impl Drop for Session {
     fn drop(self) {
         let Self {
-            stage: _stage,
+            stage,
             scratch: _scratch,
         } = self;
+        drop(stage);
     }
 }
 
@@ -124,7 +126,7 @@ impl Session {
     fn enter(&mut self, stage: Stage)
         ensures { self.new ≡ stage }
     {
-        self.stage = stage;
+        drop(mem::replace(&mut self.stage, stage));
     }
 
     // What a line comes to that reads so.

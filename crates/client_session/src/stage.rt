@@ -7,7 +7,6 @@ use irc_caps::Negotiation;
 use std::alloc::Global;
 
 /// A session that waits for its registration (RFC 2812, section 3.1).
-#[derive(Drop)]
 pub(crate) struct Waiting {
     pub(crate) cluster: Text,
     pub(crate) maximum: u32,
@@ -18,6 +17,20 @@ pub(crate) struct Waiting {
     pub(crate) has_nick: bool,
     // the first parameter of the last USER
     pub(crate) user: Option<Text>,
+}
+
+// Written out, so that this is proved once, and not in each function that lets such a session go.
+impl Drop for Waiting {
+    fn drop(self) {
+        let Self {
+            cluster: _cluster,
+            maximum: _maximum,
+            negotiation: _negotiation,
+            password: _password,
+            has_nick: _has_nick,
+            user: _user,
+        } = self;
+    }
 }
 
 /// How far a session is.
