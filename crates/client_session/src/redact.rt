@@ -40,19 +40,18 @@ fn redact_named(
         facts.now shown target.now id.now (option_copied reason.entry)) }
 {
     let cluster = facts.cluster.as_bytes();
-    if !facts.has_buffer(target) {
-        let text = redact_bad_target(alloc, cluster)?;
-        answer(alloc, text)
+    let refusal = if !facts.has_buffer(target) {
+        redact_bad_target(alloc, cluster)
     } else if !(is_id(id) && shown) {
-        let text = redact_unknown_id(alloc, cluster, target)?;
-        answer(alloc, text)
+        redact_unknown_id(alloc, cluster, target)
     } else if !takes_redact(entry) {
-        let text = redact_forbidden(alloc, cluster, target)?;
-        answer(alloc, text)
+        redact_forbidden(alloc, cluster, target)
     } else {
         let line = redact_line(alloc, target, id, reason)?;
-        one(alloc, Effect::Upstream(line))
-    }
+        return one(alloc, Effect::Upstream(line));
+    };
+    let text = refusal?;
+    answer(alloc, text)
 }
 
 fn redact_of(

@@ -74,15 +74,17 @@ pub(crate) fn nick_refusal(
     ensures { IfOk result (λ refusal. refusal
         ≡ spec.nick_refusal cluster.now nick.now (map (λ p. p.now) parameters.now)) }
 {
-    if parameters.is_empty() {
-        Ok(Some(no_nick_given(alloc, cluster, nick)?))
+    let refusal = if parameters.is_empty() {
+        no_nick_given(alloc, cluster, nick)
     } else if parameters[0].is_empty() {
-        Ok(Some(no_nick_given(alloc, cluster, nick)?))
+        no_nick_given(alloc, cluster, nick)
     } else if !is_target(parameters[0]) {
-        Ok(Some(erroneous_nick(alloc, cluster, nick, parameters[0])?))
+        erroneous_nick(alloc, cluster, nick, parameters[0])
     } else {
-        Ok(None)
-    }
+        return Ok(None);
+    };
+    let text = refusal?;
+    Ok(Some(text))
 }
 
 /// What a line comes to that can't be read.
