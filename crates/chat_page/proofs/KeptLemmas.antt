@@ -1,5 +1,5 @@
 -- The first or the last of a set of buffers, kept while buffers are put into it one by one.
-use Rattle.std.proofs.Common.{◌≡◌, ◌<◌, ◌≤◌, ◌-◌, ℕ, zero, suc, Bool, true, false, List, [], ◌∷◌, ◌++◌, Some, length, take, drop, filter, map, if◌then◌else◌, slice_get, All, cond, min, max, nat_lt, refl, sym, ap, ◌∙◌, subst, append-nil, ⊎_elim, arith}
+use Rattle.std.proofs.Common.{◌≡◌, ◌<◌, ◌≤◌, ◌-◌, ℕ, zero, suc, Bool, true, false, List, [], ◌∷◌, ◌++◌, Some, length, take, drop, filter, map, if◌then◌else◌, slice_get, All, cond, min, max, nat_lt, refl, sym, ap, ◌∙◌, subst, append-nil, ⊎_elim, arith, length-drop}
 use Rattle.std.specs.Prelude.{◌||◌}
 use Rattle.std.specs.declared.cmp.Ordering.{Ordering}
 use Rattle.std.specs.declared.cmp.Ordering.TheVariants.{Less, Equal, Greater}
@@ -12,7 +12,7 @@ use Rattle.std.specs.BTreeSet as tree
 use Rattle.std.specs.BTreeSet.{BTreeSet, insert_key}
 use Rattle.std.proofs.lemmas.Bool.{false≢true, cases_lt, cond-false, false_from_ne_true, and_parts, ltb-true, le-leb}
 use Rattle.std.proofs.lemmas.Bool.Decides.{nat_tests}
-use Rattle.std.proofs.lemmas.List.{take_all, take-take}
+use Rattle.std.proofs.lemmas.List.{take_all, take-take, length-take}
 use Rattle.std.proofs.lemmas.List.Elements.{All-head, All-tail, filter-append}
 use Rattle.std.proofs.lemmas.List.Folds.{list_any-append}
 use Rattle.chat_change.specs.Buffer.{Buffer}
@@ -182,6 +182,12 @@ module _ (forward : Bool) (n : ℕ) where
     by : (b : Bool) → (λ (f : List Listed → List Listed). f (insert_key spot_cmp (f h.0.keys) x) ≡ f (insert_key spot_cmp h.0.keys x)) (λ l. if b then take n l else last n l)
     by true = take_insert spot_cmp n h.0.keys x
     by false = last_insert spot_total n h.0.keys x h.1.1
+
+  pub cut_fits : (xs : List Listed) (kept : BTreeSet Listed) → IsCutOf xs kept → length kept.keys ≤ n
+  cut_fits xs kept h = subst (λ l. length l ≤ n) (sym h.2) (by forward) where
+    by : (b : Bool) → length (if b then take n h.0.keys else last n h.0.keys) ≤ n
+    by true = omega (arith, length-take n h.0.keys)
+    by false = omega (arith, length-drop (length h.0.keys - n) h.0.keys)
 
   -- the same where those of a list that pass are put in
   pub cut_passing : (p : Listed → Bool) (xs : List Listed) (x : Listed) (old kept : BTreeSet Listed) → p x ≡ true → IsCutOf (filter p xs) old → kept.keys ≡ cut (insert_key spot_cmp old.keys x) → IsCutOf (filter p (xs ++ x ∷ [])) kept
