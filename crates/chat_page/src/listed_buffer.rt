@@ -1,5 +1,5 @@
 //! Lists of buffers.
-ghost use Rattle.std.specs.Prelude.{◌≡◌, ◌≤◌, IfOk, OnOk, length, take, if◌then◌else◌};
+ghost use Rattle.std.specs.Prelude.{◌≡◌, ◌≤◌, ◌-◌, IsTrue, IfOk, OnOk, length, take, if◌then◌else◌};
 ghost use Rattle.std.specs.Iterator.{at_most};
 ghost use Rattle.std.specs.BTreeSet.{btree_set_len, insert_key};
 ghost use Rattle.std.specs.Map.Iter.{TakesFirst};
@@ -52,57 +52,45 @@ fn lies_between(one: Moment, other: Moment, buffer: &ListedBuffer<'_>) -> bool
     low < buffer.at().ms() && buffer.at().ms() < high
 }
 
-/// Adds a buffer to at most `n` others and keeps the first `n`. A buffer behind `n` others costs one comparison.
-fn keep_first<'a>(
-    kept: &mut BTreeSet<ListedBuffer<'a>>,
-    n: usize,
-    buffer: ListedBuffer<'a>,
-) -> Result<(), AllocError>
-    requires { btree_set_len kept.old ≤ n }
-    ensures { OnOk result (kept.new.keys
-        ≡ take n (insert_key spot_cmp kept.old.keys buffer.entry)) }
+/// Whether a buffer comes behind those that are kept, or before them where the last are kept. It does where none is kept.
+fn comes_past(
+    kept: &BTreeSet<ListedBuffer<'_>>,
+    forward: bool,
+    buffer: &ListedBuffer<'_>,
+) -> bool
+    ensures { IsTrue result → (
+        let all = insert_key spot_cmp kept.now.keys buffer.now in
+        let n = btree_set_len kept.now in
+        (if forward then take n all else last n all) ≡ kept.now.keys) }
 {
-    if kept.len() >= n {
-        let Some(end) = kept.last() else {
-            return Ok(());
-        };
-        if buffer.cmp(end).is_ge() {
-            return Ok(());
+    if forward {
+        match kept.last() {
+            Some(end) => buffer.cmp(end).is_ge(),
+            None => true,
+        }
+    } else {
+        match kept.first() {
+            Some(end) => buffer.cmp(end).is_le(),
+            None => true,
         }
     }
-    kept.insert(buffer)?;
-    if kept.len() > n {
-        kept.pop_last();
-    }
-    Ok(())
 }
 
-/// Adds a buffer to at most `n` others and keeps the last `n`. A buffer before `n` others costs one comparison.
-fn keep_last<'a>(
-    kept: &mut BTreeSet<ListedBuffer<'a>>,
-    n: usize,
-    buffer: ListedBuffer<'a>,
-) -> Result<(), AllocError>
-    requires { btree_set_len kept.old ≤ n }
-    ensures { OnOk result (kept.new.keys
-        ≡ last n (insert_key spot_cmp kept.old.keys buffer.entry)) }
+/// Lets the last buffer go, or the first one where the last are kept.
+fn let_go_of_end(kept: &mut BTreeSet<ListedBuffer<'_>>, forward: bool)
+    ensures {
+        let n = btree_set_len kept.old - 1 in
+        kept.new.keys ≡ (if forward then take n kept.old.keys else last n kept.old.keys) }
 {
-    if kept.len() >= n {
-        let Some(end) = kept.first() else {
-            return Ok(());
-        };
-        if buffer.cmp(end).is_le() {
-            return Ok(());
-        }
-    }
-    kept.insert(buffer)?;
-    if kept.len() > n {
+    if forward {
+        kept.pop_last();
+    } else {
         kept.pop_first();
     }
-    Ok(())
 }
 
-/// Adds a buffer to at most `n` others and keeps the first `n`, or the last `n` where it is not forward.
+/// Adds a buffer to at most `n` others and keeps the first `n`, or the last `n` where it is not forward. A buffer that
+/// comes past `n` others costs one comparison.
 fn keep<'a>(
     kept: &mut BTreeSet<ListedBuffer<'a>>,
     forward: bool,
@@ -114,11 +102,14 @@ fn keep<'a>(
         let all = insert_key spot_cmp kept.old.keys buffer.entry in
         kept.new.keys ≡ (if forward then take n all else last n all)) }
 {
-    if forward {
-        keep_first(kept, n, buffer)
-    } else {
-        keep_last(kept, n, buffer)
+    if kept.len() >= n && comes_past(kept, forward, &buffer) {
+        return Ok(());
     }
+    kept.insert(buffer)?;
+    if kept.len() > n {
+        let_go_of_end(kept, forward);
+    }
+    Ok(())
 }
 
 /// The first `n` of the buffers of a scope whose latest visible records lie strictly between two moments, and the last `n`
