@@ -26,6 +26,10 @@ use Rattle.chat_past.proofs.CallerLemmas.{Listed, spot_exact, set_is}
 
 -- ---- the last of a list
 
+no_items : {A : Type 0} (xs : List A) → length xs ≡ 0 → xs ≡ []
+no_items [] e = refl
+no_items (x ∷ xs) e = absurd (omega arith)
+
 module _ {A : Type 0} (n : ℕ) where
   last_all : (xs : List A) → length xs ≤ n → last n xs ≡ xs
   last_all xs h = let e : length xs - n ≡ 0 = omega arith in ap (λ k. drop k xs) e
@@ -172,6 +176,13 @@ module _ (forward : Bool) (n : ℕ) where
   -- the set has the first n, or the last n, of the set that a list makes
   abbrev pub IsCutOf : List Listed → BTreeSet Listed → Type 0
   IsCutOf xs kept = (all : BTreeSet Listed) × tree.IsFromIterResult spot_cmp xs all × (kept.keys ≡ cut all.keys)
+
+  pub cut_none : (kept : BTreeSet Listed) → length kept.keys ≡ 0 → IsCutOf [] kept
+  unfolding IsStrictlySortedBy
+  cut_none kept e = (record { keys = [] }, (λ q. refl, tt), by forward) where
+    by : (b : Bool) → kept.keys ≡ (if b then take n [] else last n [])
+    by true = no_items kept.keys e ∙ sym (take_all n [] (omega arith))
+    by false = no_items kept.keys e ∙ sym (last_all n [] (omega arith))
 
   pub cut_more : (xs : List Listed) (x : Listed) (old kept : BTreeSet Listed) → IsCutOf xs old → kept.keys ≡ cut (insert_key spot_cmp old.keys x) → IsCutOf (xs ++ x ∷ []) kept
   cut_more xs x old kept h e = (

@@ -1,5 +1,6 @@
 mod LastLemmas
 mod CutLemmas
+mod WalkLemmas
 mod PlaceLemmas
 mod AnswerLemmas
 mod KnownLemmas

@@ -53,11 +53,7 @@ fn lies_between(one: Moment, other: Moment, buffer: &ListedBuffer<'_>) -> bool
 }
 
 /// Whether a buffer comes behind those that are kept, or before them where the last are kept. It does where none is kept.
-fn comes_past(
-    kept: &BTreeSet<ListedBuffer<'_>>,
-    forward: bool,
-    buffer: &ListedBuffer<'_>,
-) -> bool
+fn comes_past(kept: &BTreeSet<ListedBuffer<'_>>, forward: bool, buffer: &ListedBuffer<'_>) -> bool
     ensures { IsTrue result → (
         let all = insert_key spot_cmp kept.now.keys buffer.now in
         let n = btree_set_len kept.now in
@@ -78,8 +74,7 @@ fn comes_past(
 
 /// Lets the last buffer go, or the first one where the last are kept.
 fn let_go_of_end(kept: &mut BTreeSet<ListedBuffer<'_>>, forward: bool)
-    ensures {
-        let n = btree_set_len kept.old - 1 in
+    ensures { let n = btree_set_len kept.old - 1 in
         kept.new.keys ≡ (if forward then take n kept.old.keys else last n kept.old.keys) }
 {
     if forward {

@@ -3,11 +3,14 @@ use Rattle.std.proofs.lemmas.Iterator.Consumers.{YieldsList-at, YieldsList-from_
 use Rattle.chat_history.specs.Latest.{latest_in}
 use Rattle.chat_state.specs.LatestSince.{latest_since_in}
 use Rattle.chat_past.specs.Page.{listed, lies_between}
-use Rattle.chat_page.proofs.KeptLemmas.{IsCutOf, cut_is, cut_fits, cut_passing, cut_other, least_is, between_since}
+use Rattle.chat_page.proofs.KeptLemmas.{IsCutOf, cut_is, cut_none, cut_fits, cut_passing, cut_other, least_is, between_since}
 use Rattle.chat_page.proofs.listed_buffer.found_between.Goals as goal
 
 pub keep-requires : goal.keep-requires
 keep-requires c = cut_fits (nat_lt c.ms.result c.ms-2.result) c.args.n _ c.loop-buffer.found c.loop-buffer.invariant
+
+pub loop-buffer-init : goal.loop-buffer-init
+loop-buffer-init c = cut_none (nat_lt c.ms.result c.ms-2.result) c.args.n c.new-found.result c.new-found.ensures.len
 
 pub loop-buffer-preserved-in-Continue-1 : goal.loop-buffer-preserved-in-Continue-1
 loop-buffer-preserved-in-Continue-1 c =
