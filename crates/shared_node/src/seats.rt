@@ -44,13 +44,13 @@ impl<J: Naming, R: Wait + Drop> WritingHalf<J, R> {
         ensures passes { IfOk result (λ v. v.items ≡ newcomers passes) }
         ensures fault { IfErr result (λ e. e ≢ NodeFault.BadCount) }
     {
-        let mut seated = Vec::new(alloc);
+        let Ok(mut seated) = Vec::with_capacity(alloc, passes) else {
+            return Err(NodeFault::NoMemory);
+        };
         for number in 0..passes {
             let share = all.split_off(1, 0);
             let pass = self.seat(number as u64, list, share)?;
-            if seated.push(pass).is_err() {
-                return Err(NodeFault::NoMemory);
-            }
+            seated.push_reserved(pass);
         }
         Ok(seated)
     }
