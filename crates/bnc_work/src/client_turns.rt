@@ -1,150 +1,182 @@
 //! The turns of clients.
 use crate::marker_turns::{ask_gate, tell_mark_of};
-use crate::work_port::WorkPort;
-use crate::worker::Worker;
-use bnc_ports::Reason;
+use crate::publisher::Publisher;
+use crate::server_turns::do_said;
+use crate::work_port::{PortClients, PortServers, WorkPort};
+use bnc_ports::{Carries, Connection, Port, Reason};
 use chat_change::Change;
 use client_places::Attachment;
-use passed_lines::mail_said;
+use passed_lines::{Mail, mail_said};
 use shared_node::PutFault;
-use work_clients::{ClientEffect, ClientPut, ClientStep};
-use worker_io::WorkEnd;
+use work_clients::{ClientEffect, ClientPut, ClientStep, Clients, ToClient};
+use worker_io::{Context, WorkEnd};
 use worker_node::{Node, publish_later, put_of_client};
 
 /// So many steps a client has before the others have their turn.
 const STEPS: usize = 64;
 
-impl<N: Node, X: Attachment, P: WorkPort> Worker<N, X, P> {
-    /// Messages that came are told, and those clients that have something to do by now have a turn each.
-    pub(crate) fn serve_clients(&mut self) -> Result<(), WorkEnd> {
-        self.clients.tell_untold(&mut self.context);
-        for _ in 0..self.clients.connections.busy_count() {
-            if let Some(number) = self.clients.connections.next_busy() {
-                self.serve_client(number)?;
+/// Messages that came are told, and those clients that have something to do by now have a turn each.
+pub(crate) fn serve_clients<N: Node, X: Attachment, P: WorkPort>(
+    publisher: &mut Publisher<N>,
+    context: &mut Context<P>,
+    clients: &mut PortClients<X, P>,
+    servers: &mut PortServers<P>,
+) -> Result<(), WorkEnd> {
+    clients.tell_untold(context);
+    for _ in 0..clients.connections.busy_count() {
+        if let Some(number) = clients.connections.next_busy() {
+            serve_client(publisher, context, clients, servers, number)?;
+        }
+    }
+    Ok(())
+}
+
+// The turn of one client.
+fn serve_client<N: Node, X: Attachment, P: WorkPort>(
+    publisher: &mut Publisher<N>,
+    context: &mut Context<P>,
+    clients: &mut PortClients<X, P>,
+    servers: &mut PortServers<P>,
+    number: usize,
+) -> Result<(), WorkEnd> {
+    let mut has_more = true;
+    for _ in 0..STEPS {
+        match clients.step(context, publisher.node.pass(), number) {
+            ClientStep::Do => do_client(publisher, context, clients, servers, number)?,
+            ClientStep::Again => {}
+            ClientStep::End(reason) => clients.end(context, number, reason),
+            ClientStep::Wait => break,
+            ClientStep::Rest => {
+                has_more = false;
+                break;
+            }
+            ClientStep::Over(reason) => {
+                clients.close(context, number, reason);
+                return Ok(());
             }
         }
-        Ok(())
     }
+    clients.finish(context, number, has_more);
+    Ok(())
+}
 
-    // The turn of one client.
-    fn serve_client(&mut self, number: usize) -> Result<(), WorkEnd> {
-        for _ in 0..STEPS {
-            match self
-                .clients
-                .step(&mut self.context, self.node.pass(), number)
-            {
-                ClientStep::Do => self.do_client(number)?,
-                ClientStep::Again => {}
-                ClientStep::End(reason) => self.clients.end(&mut self.context, number, reason),
-                ClientStep::Wait => break,
-                ClientStep::Rest => {
-                    self.clients.finish(&mut self.context, number, false);
-                    return Ok(());
-                }
-                ClientStep::Over(reason) => {
-                    self.clients.close(&mut self.context, number, reason);
-                    return Ok(());
-                }
-            }
-        }
-        self.clients.finish(&mut self.context, number, true);
-        Ok(())
-    }
-
-    // Does what a line of a client comes to, in its order. Where something of it is refused the client is closed, and nothing is
-    // left of it.
-    fn do_client(&mut self, number: usize) -> Result<(), WorkEnd> {
-        self.clients.note_registration(&mut self.context, number);
-        for _ in 0..usize::MAX {
-            match self.clients.next_effect(self.context.view.alloc, number) {
-                Ok(Some(effect)) => self.do_client_effect(number, effect)?,
-                Ok(None) => return Ok(()),
-                Err(reason) => self.clients.close(&mut self.context, number, reason),
-            }
-        }
-        Ok(())
-    }
-
-    fn do_client_effect(&mut self, number: usize, effect: ClientEffect) -> Result<(), WorkEnd> {
-        match effect {
-            ClientEffect::Ask => {
-                ask_gate(&self.node, &self.context.view)?;
-                if let Err(reason) = self.clients.answer(&self.context, self.node.pass(), number) {
-                    self.clients.close(&mut self.context, number, reason);
-                }
-                Ok(())
-            }
-            ClientEffect::Put(put) => self.put_for(number, put),
-            ClientEffect::Upstream => {
-                let done = self.hand_up(number);
-                self.clients.line_done(number);
+// Does what a line of a client comes to, in its order. Where something of it is refused the client is closed, and nothing is
+// left of it.
+fn do_client<N: Node, X: Attachment, P: WorkPort>(
+    publisher: &mut Publisher<N>,
+    context: &mut Context<P>,
+    clients: &mut PortClients<X, P>,
+    servers: &mut PortServers<P>,
+    number: usize,
+) -> Result<(), WorkEnd> {
+    clients.note_registration(context, number);
+    for _ in 0..usize::MAX {
+        let done = match clients.next_effect(context.view.alloc, number) {
+            Ok(Some(ClientEffect::Ask)) => answer(&mut publisher.node, context, clients, number),
+            Ok(Some(ClientEffect::Put(put))) => put_for(publisher, context, clients, number, put),
+            Ok(Some(ClientEffect::Upstream)) => {
+                let done = hand_up(publisher, context, clients, servers, number);
+                clients.line_done(number);
                 done
             }
-            ClientEffect::Close => {
-                self.clients.end(&mut self.context, number, Reason::Ended);
+            Ok(Some(ClientEffect::Close)) => {
+                clients.end(context, number, Reason::Ended);
                 Ok(())
             }
-        }
-    }
-
-    // Puts a client's marker, and tells the other sessions. Where it waits to be published, nobody can be told yet, and the
-    // client can't be answered.
-    fn put_for(&mut self, number: usize, put: ClientPut) -> Result<(), WorkEnd> {
-        match put_of_client(&mut self.node, &self.context.view, put) {
-            Ok(change) => {
-                let done = self.tell_put(number, &change);
-                drop(change);
-                done
-            }
-            Err(fault) => {
-                if fault == PutFault::Waiting {
-                    publish_later(&mut self.context);
-                }
-                self.clients
-                    .close(&mut self.context, number, Reason::NoMemory);
+            Ok(None) => return Ok(()),
+            Err(reason) => {
+                clients.close(context, number, reason);
                 Ok(())
             }
-        }
-    }
-
-    // Peers are to have what a client put, and the other sessions are told.
-    fn tell_put(&mut self, number: usize, change: &Change) -> Result<(), WorkEnd> {
-        let Worker {
-            node,
-            context,
-            clients,
-            has_published,
-            ..
-        } = self;
-        *has_published = true;
-        match change {
-            Change::Mark { buffer, .. } => {
-                tell_mark_of(node, context, clients, buffer, Some(number))
-            }
-            _ => Ok(()),
-        }
-    }
-
-    // Hands a client's line to its network's server, or to the worker that serves the network.
-    fn hand_up(&mut self, number: usize) -> Result<(), WorkEnd> {
-        let Worker {
-            context,
-            clients,
-            servers,
-            ..
-        } = self;
-        let (Some(network), Some(said)) = (clients.network(number), clients.line_for_server(number))
-        else {
-            return Ok(());
         };
-        let worker = context.view.server_of(network);
-        if worker == context.view.worker {
-            let step = servers.say(context, network, &said);
-            return self.do_said(step);
-        }
-        if mail_said(context, worker, network, &said).is_err() {
-            clients.close(context, number, Reason::NoMemory);
-        }
-        Ok(())
+        done?;
     }
+    Ok(())
+}
+
+// Answers what a client asks, where the gate lets the answer out.
+fn answer<N: Node, X: Attachment, C: Connection, P: Carries<ToClient, Connection = C>>(
+    node: &mut N,
+    context: &mut Context<P>,
+    clients: &mut Clients<X, C>,
+    number: usize,
+) -> Result<(), WorkEnd> {
+    ask_gate(node, &context.view)?;
+    if let Err(reason) = clients.answer(context, node.pass(), number) {
+        clients.close(context, number, reason);
+    }
+    Ok(())
+}
+
+// Puts a client's marker, and tells the other sessions. Where it waits to be published, nobody can be told yet, and the
+// client can't be answered.
+fn put_for<
+    N: Node,
+    X: Attachment,
+    C: Connection,
+    P: Port<Mail = Mail> + Carries<ToClient, Connection = C>,
+>(
+    publisher: &mut Publisher<N>,
+    context: &mut Context<P>,
+    clients: &mut Clients<X, C>,
+    number: usize,
+    put: ClientPut,
+) -> Result<(), WorkEnd> {
+    match put_of_client(&mut publisher.node, &context.view, put) {
+        Ok(change) => {
+            publisher.has_published = true;
+            let done = tell_put(&mut publisher.node, context, clients, number, &change);
+            drop(change);
+            done
+        }
+        Err(fault) => {
+            if fault == PutFault::Waiting {
+                publish_later(context);
+            }
+            clients.close(context, number, Reason::NoMemory);
+            Ok(())
+        }
+    }
+}
+
+// The other sessions are told what a client put.
+fn tell_put<
+    N: Node,
+    X: Attachment,
+    C: Connection,
+    P: Port<Mail = Mail> + Carries<ToClient, Connection = C>,
+>(
+    node: &mut N,
+    context: &mut Context<P>,
+    clients: &mut Clients<X, C>,
+    number: usize,
+    change: &Change,
+) -> Result<(), WorkEnd> {
+    match change {
+        Change::Mark { buffer, .. } => tell_mark_of(node, context, clients, buffer, Some(number)),
+        _ => Ok(()),
+    }
+}
+
+// Hands a client's line to its network's server, or to the worker that serves the network.
+fn hand_up<N: Node, X: Attachment, P: WorkPort>(
+    publisher: &mut Publisher<N>,
+    context: &mut Context<P>,
+    clients: &mut PortClients<X, P>,
+    servers: &mut PortServers<P>,
+    number: usize,
+) -> Result<(), WorkEnd> {
+    let (Some(network), Some(said)) = (clients.network(number), clients.line_for_server(number))
+    else {
+        return Ok(());
+    };
+    let worker = context.view.server_of(network);
+    if worker == context.view.worker {
+        let step = servers.say(context, network, &said);
+        return do_said(publisher, context, clients, servers, step);
+    }
+    if mail_said(context, worker, network, &said).is_err() {
+        clients.close(context, number, Reason::NoMemory);
+    }
+    Ok(())
 }

@@ -10,6 +10,7 @@
 mod client_turns;
 mod marker_turns;
 mod peer_turns;
+mod publisher;
 mod server_turns;
 mod standings;
 mod starting;

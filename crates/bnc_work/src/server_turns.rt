@@ -1,228 +1,297 @@
 //! The turns of networks' servers.
 use crate::marker_turns::tell_mark_to_all;
+use crate::publisher::Publisher;
 use crate::standings::spread;
-use crate::work_port::WorkPort;
-use crate::worker::Worker;
+use crate::work_port::{PortClients, PortServers, WorkPort};
 use bnc_ports::{Carries, Connection, Port, Reason};
 use byte_text::NoMemory;
 use client_places::Attachment;
 use passed_lines::{
-    Deed, Live, Mail, News, ServerEffects, ServerPut, is_another_behind, mail_line, mail_others,
+    Deed, Live, Mail, News, Passed, PutQueue, ServerEffects, ServerPut, is_another_behind,
+    mail_line, mail_others,
 };
-use shared_node::PutFault;
 use work_clients::{Clients, ToClient};
-use work_servers::{SaidStep, ServerStep};
+use work_servers::{SaidStep, ServerStep, Servers, Standing, ToServer};
 use worker_io::{Context, WorkEnd};
-use worker_node::{Node, count_put, publish_later, put_of_server, put_of_servers};
+use worker_node::{Node, put_of_server};
 
 /// So many lines of a server are taken before the others have their turn: about as many as one read brings, so that what
 /// they come to is written to each client at once.
 const STEPS: usize = 128;
 
-impl<N: Node, X: Attachment, P: WorkPort> Worker<N, X, P> {
-    /// The turn of one server. While another worker is behind with its mail, none of its lines is taken. Its messages are put
-    /// as one list: at the end of the turn, or before anything else that a line comes to is done.
-    pub(crate) fn serve_server(&mut self, number: usize) -> Result<(), WorkEnd> {
-        let steps = if is_another_behind(&self.context) {
-            0
-        } else {
-            STEPS
-        };
-        let mut has_more = true;
-        for _ in 0..steps {
-            match self.servers.step(&mut self.context, number) {
-                ServerStep::Do(effects) => self.do_step(number, effects)?,
-                ServerStep::Again => {}
-                ServerStep::Rest => {
-                    has_more = false;
-                    break;
-                }
-                ServerStep::Over(reason) => {
-                    self.put_queued(number);
-                    self.close_server(number, reason);
-                    return Ok(());
-                }
+/// The turn of one server. While another worker is behind with its mail, none of its lines is taken. Its messages are put
+/// as one list: at the end of the turn, or before anything else that a line comes to is done.
+pub(crate) fn serve_server<N: Node, X: Attachment, P: WorkPort>(
+    publisher: &mut Publisher<N>,
+    context: &mut Context<P>,
+    clients: &mut PortClients<X, P>,
+    servers: &mut PortServers<P>,
+    number: usize,
+) -> Result<(), WorkEnd> {
+    let steps = if is_another_behind(context) { 0 } else { STEPS };
+    let mut has_more = true;
+    let mut over = None;
+    for _ in 0..steps {
+        match servers.step(context, number) {
+            ServerStep::Do(effects) => {
+                do_step(publisher, context, clients, servers, number, effects)?;
+            }
+            ServerStep::Again => {}
+            ServerStep::Rest => {
+                has_more = false;
+                break;
+            }
+            ServerStep::Over(reason) => {
+                over = Some(reason);
+                break;
             }
         }
-        self.put_queued(number);
-        if has_more {
-            self.servers.connections.wake(number);
-        }
-        let standing = self.servers.finish(&mut self.context, number);
-        spread(&mut self.context, &mut self.clients, standing, false);
-        Ok(())
     }
+    put_queued(publisher, context, clients, servers, number);
+    let standing = end_turn(context, servers, number, over, has_more);
+    spread(context, clients, standing, false);
+    Ok(())
+}
 
-    // What a line of a server comes to: a message waits behind those of the lines before it, and anything else is done.
-    fn do_step(&mut self, number: usize, effects: ServerEffects) -> Result<(), WorkEnd> {
-        if self.queue_message(number, &effects) {
-            self.servers.recycle(number, effects);
-            return Ok(());
-        }
-        if self.put_queued(number) {
-            return self.do_server(number, effects);
-        }
-        drop(effects);
-        Ok(())
+// Writes what waits for a server, which has another turn where it has more, or closes the connection where that is over.
+fn end_turn<S: Connection, P: Port + Carries<ToServer, Connection = S>>(
+    context: &mut Context<P>,
+    servers: &mut Servers<S>,
+    number: usize,
+    over: Option<Reason>,
+    has_more: bool,
+) -> Option<Standing> {
+    if let Some(reason) = over {
+        return servers.close(context, number, reason);
     }
+    if has_more {
+        servers.connections.wake(number);
+    }
+    servers.finish(context, number)
+}
 
-    // The message that a line comes to waits behind the others. It will be told by how the session stands at this moment. False
-    // where the line comes to anything else too, or for want of memory: nothing waits then.
-    fn queue_message(&mut self, number: usize, effects: &ServerEffects) -> bool {
-        let Some(put) = effects.only_put() else {
-            return false;
-        };
-        if !self.servers.is_settled(number) {
-            return false;
-        }
-        match self.servers.live(number, &put) {
-            Some(live) => self.queue.add(&live).is_ok(),
-            None => false,
+// What a line of a server comes to: a message waits behind those of the lines before it, and anything else is done.
+fn do_step<N: Node, X: Attachment, P: WorkPort>(
+    publisher: &mut Publisher<N>,
+    context: &mut Context<P>,
+    clients: &mut PortClients<X, P>,
+    servers: &mut PortServers<P>,
+    number: usize,
+    effects: ServerEffects,
+) -> Result<(), WorkEnd> {
+    if queue_message(&mut publisher.queue, servers, number, &effects) {
+        servers.recycle(number, effects);
+        return Ok(());
+    }
+    if put_queued(publisher, context, clients, servers, number) {
+        return do_server(publisher, context, clients, servers, number, effects);
+    }
+    drop(effects);
+    Ok(())
+}
+
+// The message that a line comes to waits behind the others. It will be told by how the session stands at this moment. False
+// where the line comes to anything else too, or for want of memory: nothing waits then.
+fn queue_message<S: Connection>(
+    queue: &mut PutQueue,
+    servers: &mut Servers<S>,
+    number: usize,
+    effects: &ServerEffects,
+) -> bool {
+    let Some(put) = effects.only_put() else {
+        return false;
+    };
+    if !servers.is_settled(number) {
+        return false;
+    }
+    match servers.live(number, &put) {
+        Some(live) => queue.add(&live).is_ok(),
+        None => false,
+    }
+}
+
+// Puts the messages that wait, as one list, and tells them. False where the node refuses some: these are told to nobody, and the
+// connection is closed.
+fn put_queued<N: Node, X: Attachment, P: WorkPort>(
+    publisher: &mut Publisher<N>,
+    context: &mut Context<P>,
+    clients: &mut PortClients<X, P>,
+    servers: &mut PortServers<P>,
+    number: usize,
+) -> bool {
+    let count = publisher.queue.len();
+    if count == 0 {
+        return true;
+    }
+    let taken = publisher.put_queue(context);
+    if let Some(network) = servers.network(number) {
+        tell_queued(context, clients, network, &publisher.queue, taken);
+    }
+    publisher.queue.clear();
+    if taken < count {
+        close_server(context, clients, servers, number, Reason::NoMemory);
+        return false;
+    }
+    true
+}
+
+// Tells so many of the messages of a network that wait, the first ones.
+fn tell_queued<
+    X: Attachment,
+    C: Connection,
+    P: Port<Mail = Mail> + Carries<ToClient, Connection = C>,
+>(
+    context: &mut Context<P>,
+    clients: &mut Clients<X, C>,
+    network: usize,
+    queue: &PutQueue,
+    count: usize,
+) {
+    for place in 0..count {
+        if let Some(live) = queue.message(place) {
+            tell_live(context, clients, network, live);
         }
     }
+}
 
-    // Puts the messages that wait, as one list, and tells them. False where the node refuses some: these are told to nobody, and the
-    // connection is closed.
-    fn put_queued(&mut self, number: usize) -> bool {
-        let count = self.queue.len();
-        if count == 0 {
+// Closes the connection with a server. All workers learn that the network is without one.
+fn close_server<
+    X: Attachment,
+    C: Connection,
+    S: Connection,
+    P: Port<Mail = Mail> + Carries<ToClient, Connection = C> + Carries<ToServer, Connection = S>,
+>(
+    context: &mut Context<P>,
+    clients: &mut Clients<X, C>,
+    servers: &mut Servers<S>,
+    number: usize,
+    reason: Reason,
+) {
+    let standing = servers.close(context, number, reason);
+    spread(context, clients, standing, false);
+}
+
+/// Does what a client's line comes to at the network's server.
+pub(crate) fn do_said<N: Node, X: Attachment, P: WorkPort>(
+    publisher: &mut Publisher<N>,
+    context: &mut Context<P>,
+    clients: &mut PortClients<X, P>,
+    servers: &mut PortServers<P>,
+    step: Option<SaidStep>,
+) -> Result<(), WorkEnd> {
+    let Some(SaidStep { number, effects }) = step else {
+        return Ok(());
+    };
+    match effects {
+        Ok(effects) => {
+            do_server(publisher, context, clients, servers, number, effects)?;
+            clients.tell_untold(context);
+        }
+        Err(NoMemory) => close_server(context, clients, servers, number, Reason::NoMemory),
+    }
+    Ok(())
+}
+
+/// Does what a line of a server, or for it, comes to. Where the node refuses a change, the rest is left and the
+/// connection is closed: nobody is told what the node doesn't have. All workers' sessions of the network are told the read
+/// marker of a channel that was joined by the line.
+pub(crate) fn do_server<N: Node, X: Attachment, P: WorkPort>(
+    publisher: &mut Publisher<N>,
+    context: &mut Context<P>,
+    clients: &mut PortClients<X, P>,
+    servers: &mut PortServers<P>,
+    number: usize,
+    effects: ServerEffects,
+) -> Result<(), WorkEnd> {
+    let standing = servers.note_entry(context, number);
+    spread(context, clients, standing, effects.has_passed_on());
+    if do_effects(publisher, context, clients, servers, number, &effects) {
+        servers.recycle(number, effects);
+        return tell_joined(&mut publisher.node, context, clients, servers, number);
+    }
+    drop(effects);
+    close_server(context, clients, servers, number, Reason::NoMemory);
+    Ok(())
+}
+
+// All workers' sessions of the network are told the read marker of a channel that was joined.
+fn tell_joined<
+    N: Node,
+    X: Attachment,
+    C: Connection,
+    S: Connection,
+    P: Port<Mail = Mail> + Carries<ToClient, Connection = C>,
+>(
+    node: &mut N,
+    context: &mut Context<P>,
+    clients: &mut Clients<X, C>,
+    servers: &mut Servers<S>,
+    number: usize,
+) -> Result<(), WorkEnd> {
+    let Some(network) = servers.network(number) else {
+        return Ok(());
+    };
+    let Some(channel) = servers.take_joined(number) else {
+        return Ok(());
+    };
+    tell_mark_to_all(node, context, clients, network, channel.as_bytes(), None)
+}
+
+// Does these in their order. False where the node refuses a change: the rest is left then.
+fn do_effects<N: Node, X: Attachment, P: WorkPort>(
+    publisher: &mut Publisher<N>,
+    context: &mut Context<P>,
+    clients: &mut PortClients<X, P>,
+    servers: &mut PortServers<P>,
+    number: usize,
+    effects: &ServerEffects,
+) -> bool {
+    for place in 0..usize::MAX {
+        let Some(deed) = effects.at(place) else {
             return true;
-        }
-        let done = put_of_servers(&mut self.node, &self.context.view, &self.queue);
-        let taken = self.note_put(done, count);
-        self.tell_queued(number, taken);
-        self.queue.clear();
-        if taken < count {
-            self.close_server(number, Reason::NoMemory);
-            return false;
-        }
-        true
-    }
-
-    // Tells so many of the messages that wait, the first ones.
-    fn tell_queued(&mut self, number: usize, count: usize) {
-        let Worker {
-            context,
-            clients,
-            servers,
-            queue,
-            ..
-        } = self;
-        let Some(network) = servers.network(number) else {
-            return;
         };
-        for place in 0..count {
-            if let Some(live) = queue.message(place) {
-                tell_live(context, clients, network, live);
-            }
-        }
-    }
-
-    fn close_server(&mut self, number: usize, reason: Reason) {
-        let standing = self.servers.close(&mut self.context, number, reason);
-        spread(&mut self.context, &mut self.clients, standing, false);
-    }
-
-    /// Does what a client's line comes to at the network's server.
-    pub(crate) fn do_said(&mut self, step: Option<SaidStep>) -> Result<(), WorkEnd> {
-        let Some(SaidStep { number, effects }) = step else {
-            return Ok(());
-        };
-        match effects {
-            Ok(effects) => {
-                self.do_server(number, effects)?;
-                self.clients.tell_untold(&mut self.context);
-            }
-            Err(NoMemory) => self.close_server(number, Reason::NoMemory),
-        }
-        Ok(())
-    }
-
-    /// Does what a line of a server, or for it, comes to. Where the node refuses a change, the rest is left and the
-    /// connection is closed: nobody is told what the node doesn't have. All workers' sessions of the network are told the read
-    /// marker of a channel that was joined by the line.
-    pub(crate) fn do_server(
-        &mut self,
-        number: usize,
-        effects: ServerEffects,
-    ) -> Result<(), WorkEnd> {
-        let standing = self.servers.note_entry(&mut self.context, number);
-        let is_passed_on = effects.has_passed_on();
-        spread(&mut self.context, &mut self.clients, standing, is_passed_on);
-        if !self.do_server_effects(number, &effects) {
-            drop(effects);
-            self.close_server(number, Reason::NoMemory);
-            return Ok(());
-        }
-        self.servers.recycle(number, effects);
-        let Worker {
-            node,
-            context,
-            clients,
-            servers,
-            ..
-        } = self;
-        let Some(network) = servers.network(number) else {
-            return Ok(());
-        };
-        let Some(channel) = servers.take_joined(number) else {
-            return Ok(());
-        };
-        let done = tell_mark_to_all(node, context, clients, network, channel.as_bytes(), None);
-        drop(channel);
-        done
-    }
-
-    // Does these in their order. False where the node refuses a change: the rest is left then.
-    fn do_server_effects(&mut self, number: usize, effects: &ServerEffects) -> bool {
-        for place in 0..usize::MAX {
-            let Some(deed) = effects.at(place) else {
-                return true;
-            };
-            match deed {
-                Deed::Sent => {}
-                Deed::Put(put) => {
-                    if !self.put_from(number, &put) {
-                        return false;
-                    }
+        match deed {
+            Deed::Sent => {}
+            Deed::Put(put) => {
+                if !put_from(publisher, context, clients, servers, number, &put) {
+                    return false;
                 }
-                Deed::PassOn(passed) => {
-                    if let Some(network) = self.servers.network(number) {
-                        mail_line(&mut self.context, network, &passed);
-                        self.clients.pass_on(&mut self.context, network, &passed);
-                    }
-                }
-                Deed::Close => self.servers.end(number, Reason::Ended),
             }
+            Deed::PassOn(passed) => {
+                if let Some(network) = servers.network(number) {
+                    pass_on(context, clients, network, &passed);
+                }
+            }
+            Deed::Close => servers.end(number, Reason::Ended),
         }
-        true
     }
+    true
+}
 
-    // Puts what a server's line came to, and says whether the node has it. A message is told in the turn in which it comes, also
-    // where it waits to be published.
-    fn put_from(&mut self, number: usize, put: &ServerPut<'_>) -> bool {
-        let done = put_of_server(&mut self.node, &self.context.view, put);
-        if self.note_put(done, 1) == 0 {
-            return false;
-        }
-        let (network, live) = (self.servers.network(number), self.servers.live(number, put));
-        if let (Some(network), Some(live)) = (network, live) {
-            tell_live(&mut self.context, &mut self.clients, network, live);
-        }
-        true
+// Puts what a server's line came to, and says whether the node has it. A message is told in the turn in which it comes, also
+// where it waits to be published.
+fn put_from<
+    N: Node,
+    X: Attachment,
+    C: Connection,
+    S: Connection,
+    P: Port<Mail = Mail> + Carries<ToClient, Connection = C>,
+>(
+    publisher: &mut Publisher<N>,
+    context: &mut Context<P>,
+    clients: &mut Clients<X, C>,
+    servers: &Servers<S>,
+    number: usize,
+    put: &ServerPut<'_>,
+) -> bool {
+    let done = put_of_server(&mut publisher.node, &context.view, put);
+    if publisher.note_put(context, done, 1) == 0 {
+        return false;
     }
-
-    // How many of the changes that were put, the first ones, the node has now. Peers are to have what is published; what waits for
-    // that is tried again later.
-    fn note_put(&mut self, done: Result<(), PutFault>, all: usize) -> usize {
-        let count = count_put(done, all);
-        if done.is_ok() {
-            self.has_published = true;
-        } else if count > 0 {
-            publish_later(&mut self.context);
-        }
-        count
+    if let (Some(network), Some(live)) = (servers.network(number), servers.live(number, put)) {
+        tell_live(context, clients, network, live);
     }
+    true
 }
 
 // A message that the node has is told to the sessions that hear it: those of other workers by mail, and those of this one at the
@@ -234,4 +303,15 @@ fn tell_live<
 >(context: &mut Context<P>, clients: &mut Clients<X, C>, network: usize, live: Live<'_>) {
     clients.tell_message(context, network, &live);
     mail_others(context, &News::Live { network, live });
+}
+
+// A line is passed on to all workers' sessions of the network.
+fn pass_on<X: Attachment, C: Connection, P: Port<Mail = Mail> + Carries<ToClient, Connection = C>>(
+    context: &mut Context<P>,
+    clients: &mut Clients<X, C>,
+    network: usize,
+    passed: &Passed<'_>,
+) {
+    mail_line(context, network, passed);
+    clients.pass_on(context, network, passed);
 }

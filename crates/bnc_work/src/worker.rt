@@ -1,20 +1,24 @@
 //! One worker: what comes, and who has something to do.
+use crate::client_turns::serve_clients;
 use crate::marker_turns::tell_mark;
+use crate::peer_turns::serve_peers;
+use crate::publisher::Publisher;
+use crate::server_turns::{do_said, do_server, serve_server};
 use crate::standings::{spread, tell_entry};
-use crate::work_port::WorkPort;
+use crate::work_port::{PortClients, PortPeers, PortServers, WorkPort};
 use bnc_ports::{Carries, Connection, Dial, Gate, Happening, Port};
 use byte_text::NoMemory;
 use chat_change::Moment;
 use client_places::Attachment;
 use node_terms::NodeName;
-use passed_lines::{Mail, PutQueue, is_another_behind, keep_entry};
+use passed_lines::{Mail, is_another_behind, keep_entry};
 use shared_node::{Naming, NodeTaker, Pass, SharedNode};
 use std::sync::Wait;
-use work_clients::{Clients, ToClient};
+use work_clients::Clients;
 use work_peers::{Peers, ToPeer};
-use work_servers::{Servers, ToServer};
-use worker_io::{Beginning, ClockWatch, Context, NodeView, Timer, WorkEnd, WorkerConfig, clock};
-use worker_node::{GatedNode, Node, publish_now, put_floors};
+use work_servers::Servers;
+use worker_io::{Beginning, Context, NodeView, Timer, WorkEnd, WorkerConfig, clock};
+use worker_node::{GatedNode, Node};
 
 /// A worker looks after its timers at least so often, in milliseconds.
 const LONGEST: u64 = 60_000;
@@ -27,22 +31,6 @@ const TIMERS: usize = 64;
 
 /// A worker whose servers wait for one that is behind looks again after so many milliseconds.
 const PAUSE: u64 = 1;
-
-/// One worker.
-#[derive(Drop)]
-pub(crate) struct Worker<N: Node, X: Attachment, P: WorkPort> {
-    pub(crate) node: N,
-    pub(crate) context: Context<P>,
-    // looks at the clocks before floors are put
-    pub(crate) watch: ClockWatch,
-    pub(crate) clients: Clients<X, <P as Carries<ToClient>>::Connection>,
-    pub(crate) servers: Servers<<P as Carries<ToServer>>::Connection>,
-    // messages of the server whose turn it is; between turns none
-    pub(crate) queue: PutQueue,
-    pub(crate) peers: Peers<<P as Carries<ToPeer>>::Connection>,
-    // whether something was put that the peers are to have
-    pub(crate) has_published: bool,
-}
 
 /// Serves the connections of the port as worker `worker` of those that the port counts, until the gate shuts or the port
 /// ends or fails. Where there is no memory to begin, or the clocks aren't read, that is a failure too.
@@ -106,12 +94,7 @@ fn serve<W: Wait + AllocGlobal, N: Node, X: Attachment, P: WorkPort>(
     port: P,
 ) -> Result<WorkEnd, NoMemory> {
     match Beginning::new(rt.alloc(), number, port.workers(), time, config) {
-        Ok(beginning) => {
-            let mut worker = Worker::new(node, beginning, port)?;
-            let end = worker.run(rt);
-            drop(worker);
-            Ok(end)
-        }
+        Ok(beginning) => begin(rt, node, beginning, port),
         Err(NoMemory) => {
             drop(node);
             drop(port);
@@ -120,18 +103,62 @@ fn serve<W: Wait + AllocGlobal, N: Node, X: Attachment, P: WorkPort>(
     }
 }
 
-// What happens next, for which the port may wait so long. The clocks are read then.
+// Serves from that beginning on, at which there is no connection.
+fn begin<W: Wait, N: Node, X: Attachment, P: WorkPort>(
+    rt: &W,
+    node: N,
+    Beginning { view, lobby, peers }: Beginning<X>,
+    port: P,
+) -> Result<WorkEnd, NoMemory> {
+    let count = peers.len();
+    let mut context = match Context::new(view, port, count) {
+        Ok(context) => context,
+        Err(NoMemory) => {
+            drop(node);
+            drop(lobby);
+            drop(peers);
+            return Err(NoMemory);
+        }
+    };
+    let Ok((mut servers, mut peers)) = tables_of(&context.view, peers) else {
+        drop(node);
+        drop(lobby);
+        drop(context);
+        return Err(NoMemory);
+    };
+    let mut publisher = Publisher::new(node, &context.view);
+    let mut clients = Clients::new(context.view.alloc, lobby);
+    let end = run(
+        rt,
+        &mut publisher,
+        &mut context,
+        &mut clients,
+        &mut servers,
+        &mut peers,
+    );
+    drop(publisher);
+    drop(context);
+    drop(clients);
+    drop(servers);
+    drop(peers);
+    Ok(end)
+}
+
+// What happens next, for which the port may wait so long. The clocks are read then. None where nothing happens.
 fn next_happening<P: Port>(
     context: &mut Context<P>,
     patience: u64,
-) -> Result<Happening<P::Mail>, WorkEnd> {
+) -> Result<Option<Happening<P::Mail>>, WorkEnd> {
     let Ok(happening) = context.port.next(patience) else {
         return Err(WorkEnd::Failed);
     };
-    if context.read_clock() {
-        Ok(happening)
-    } else {
-        Err(WorkEnd::Failed)
+    if !context.read_clock() {
+        return Err(WorkEnd::Failed);
+    }
+    match happening {
+        Happening::Nothing => Ok(None),
+        Happening::Ended => Err(WorkEnd::Ended),
+        happening => Ok(Some(happening)),
     }
 }
 
@@ -160,234 +187,201 @@ fn tables_of<S: Connection, E: Connection>(
     Ok((servers, peers))
 }
 
-impl<N: Node, X: Attachment, P: WorkPort> Worker<N, X, P> {
-    // A worker that begins with that, without a connection.
-    fn new(
-        node: N,
-        Beginning { view, lobby, peers }: Beginning<X>,
-        port: P,
-    ) -> Result<Worker<N, X, P>, NoMemory> {
-        let count = peers.len();
-        let context = match Context::new(view, port, count) {
-            Ok(context) => context,
-            Err(NoMemory) => {
-                drop(node);
-                drop(lobby);
-                drop(peers);
-                return Err(NoMemory);
-            }
+// Connects to the servers of this worker's networks, and works until the gate shuts, or the port ends or fails. The first
+// worker connects to peers too, and has the floors put.
+fn run<W: Wait, N: Node, X: Attachment, P: WorkPort>(
+    rt: &W,
+    publisher: &mut Publisher<N>,
+    context: &mut Context<P>,
+    clients: &mut PortClients<X, P>,
+    servers: &mut PortServers<P>,
+    peers: &mut PortPeers<P>,
+) -> WorkEnd {
+    servers.dial_all(context);
+    if context.view.worker == 0 {
+        context.set_timer(Timer::Floors, 0);
+        peers.dial_all(context);
+    }
+    for _ in rt.forever() {
+        if let Err(end) = turn(publisher, context, clients, servers, peers) {
+            return end;
+        }
+    }
+    unreachable!()
+}
+
+// What happened, what is due, and the turns of one server, and of each client and each peer that has something to do. So a
+// client or a peer waits for one turn of a server, however many lines that has.
+fn turn<N: Node, X: Attachment, P: WorkPort>(
+    publisher: &mut Publisher<N>,
+    context: &mut Context<P>,
+    clients: &mut PortClients<X, P>,
+    servers: &mut PortServers<P>,
+    peers: &mut PortPeers<P>,
+) -> Result<(), WorkEnd> {
+    take_happenings(publisher, context, clients, servers, peers)?;
+    look_after_timers(publisher, context, clients, servers, peers);
+    clients.tell_refusals(context);
+    peers.tell_refusals(context);
+    context.begin_turn();
+    if let Some(number) = servers.connections.next_busy() {
+        serve_server(publisher, context, clients, servers, number)?;
+    }
+    serve_clients(publisher, context, clients, servers)?;
+    serve_peers(publisher, context, clients, peers)
+}
+
+// What happened, as far as it is there at once. What mail brings is kept once it is told.
+fn take_happenings<N: Node, X: Attachment, P: WorkPort>(
+    publisher: &mut Publisher<N>,
+    context: &mut Context<P>,
+    clients: &mut PortClients<X, P>,
+    servers: &mut PortServers<P>,
+    peers: &mut PortPeers<P>,
+) -> Result<(), WorkEnd> {
+    let is_busy = publisher.has_published
+        || clients.connections.is_busy()
+        || peers.connections.is_busy();
+    let mut patience = if is_busy {
+        0
+    } else {
+        patience(context, servers)
+    };
+    for _ in 0..HAPPENINGS {
+        let Some(happening) = next_happening(context, patience)? else {
+            return Ok(());
         };
-        match tables_of(&context.view, peers) {
-            Ok((servers, peers)) => {
-                let watch = ClockWatch::new(context.view.clocks());
-                let clients = Clients::new(context.view.alloc, lobby);
-                let queue = PutQueue::new(context.view.alloc);
-                Ok(Worker {
-                    node,
-                    context,
-                    watch,
-                    clients,
-                    servers,
-                    queue,
-                    peers,
-                    has_published: false,
-                })
-            }
-            Err(NoMemory) => {
-                drop(node);
-                drop(lobby);
-                drop(context);
-                Err(NoMemory)
-            }
-        }
+        let done = act_on(publisher, context, clients, servers, peers, &happening);
+        keep_entry(&mut context.view, happening);
+        done?;
+        patience = 0;
     }
+    Ok(())
+}
 
-    // Connects to the servers of this worker's networks, and works until the gate shuts, or the port ends or fails. The first
-    // worker connects to peers too, and has the floors put.
-    fn run<W: Wait>(&mut self, rt: &W) -> WorkEnd {
-        self.servers.dial_all(&mut self.context);
-        if self.context.view.worker == 0 {
-            self.context.set_timer(Timer::Floors, 0);
-            self.peers.dial_all(&mut self.context);
-        }
-        for _ in rt.forever() {
-            if let Err(end) = self.turn() {
-                return end;
-            }
-        }
-        unreachable!()
+// How long the port may wait, where neither a client nor a peer has something to do.
+fn patience<S: Connection, P: Port>(context: &Context<P>, servers: &Servers<S>) -> u64 {
+    if servers.connections.is_busy() {
+        return if is_another_behind(context) { PAUSE } else { 0 };
     }
-
-    // How long the port may wait.
-    fn patience(&self) -> u64 {
-        if self.has_published
-            || self.clients.connections.is_busy()
-            || self.peers.connections.is_busy()
-        {
-            return 0;
-        }
-        if self.servers.connections.is_busy() {
-            return if is_another_behind(&self.context) {
-                PAUSE
-            } else {
-                0
-            };
-        }
-        match self.context.timers.next() {
-            Some(at) => at.saturating_sub(self.context.view.now).min(LONGEST),
-            None => LONGEST,
-        }
+    match context.timers.next() {
+        Some(at) => at.saturating_sub(context.view.now).min(LONGEST),
+        None => LONGEST,
     }
+}
 
-    // What happened, what is due, and the turns of one server, and of each client and each peer that has something to do. So a
-    // client or a peer waits for one turn of a server, however many lines that has.
-    fn turn(&mut self) -> Result<(), WorkEnd> {
-        self.take_happenings()?;
-        self.look_after_timers();
-        self.clients.tell_refusals(&mut self.context);
-        self.peers.tell_refusals(&mut self.context);
-        self.context.begin_turn();
-        if let Some(number) = self.servers.connections.next_busy() {
-            self.serve_server(number)?;
+// Does what comes of it.
+fn act_on<N: Node, X: Attachment, P: WorkPort>(
+    publisher: &mut Publisher<N>,
+    context: &mut Context<P>,
+    clients: &mut PortClients<X, P>,
+    servers: &mut PortServers<P>,
+    peers: &mut PortPeers<P>,
+    happening: &Happening<Mail>,
+) -> Result<(), WorkEnd> {
+    match happening {
+        Happening::Client { number, ticket } => {
+            clients.admit(&publisher.node, context, *number, *ticket);
         }
-        self.serve_clients()?;
-        self.serve_peers()
-    }
-
-    // What happened, as far as it is there at once. What mail brings is kept once it is told.
-    fn take_happenings(&mut self) -> Result<(), WorkEnd> {
-        let mut patience = self.patience();
-        for _ in 0..HAPPENINGS {
-            let happening = next_happening(&mut self.context, patience)?;
-            let done = self.act_on(&happening);
-            keep_entry(&mut self.context.view, happening);
-            if !done? {
-                return Ok(());
-            }
-            patience = 0;
-        }
-        Ok(())
-    }
-
-    // Does what comes of it. False where nothing happened.
-    fn act_on(&mut self, happening: &Happening<Mail>) -> Result<bool, WorkEnd> {
-        match happening {
-            Happening::Client { number, ticket } => {
-                self.clients
-                    .admit(&self.node, &mut self.context, *number, *ticket);
-            }
-            Happening::Leave { ticket } => self.clients.give_way(&mut self.context, *ticket),
-            Happening::Peer { number } => self.peers.begin(&mut self.context, *number, None),
-            Happening::Opened { number, what } => self.opened(*number, *what)?,
-            Happening::Refused { number, what } => {
-                refused(
-                    &mut self.context,
-                    &mut self.servers,
-                    &mut self.peers,
-                    *number,
-                    *what,
-                );
-            }
-            Happening::Ready {
-                number,
-                readable,
-                writable,
-            } => {
-                let _ = self.clients.connections.mark(*number, *readable, *writable)
-                    || self.servers.connections.mark(*number, *readable, *writable)
-                    || self.peers.connections.mark(*number, *readable, *writable);
-            }
-            Happening::Mail(mail) => self.read_mail(mail)?,
-            Happening::Nothing => return Ok(false),
-            Happening::Ended => return Err(WorkEnd::Ended),
-        }
-        Ok(true)
-    }
-
-    // A connection that was dialed is there.
-    fn opened(&mut self, number: usize, what: Dial) -> Result<(), WorkEnd> {
-        match what {
+        Happening::Leave { ticket } => clients.give_way(context, *ticket),
+        Happening::Peer { number } => peers.begin(context, *number, None),
+        Happening::Opened { number, what } => match what {
             Dial::Network(network) => {
-                match self.servers.begin(&mut self.context, number, network) {
-                    Some(effects) => self.do_server(number, effects),
-                    None => Ok(()),
+                if let Some(effects) = servers.begin(context, *number, *network) {
+                    return do_server(publisher, context, clients, servers, *number, effects);
                 }
             }
-            Dial::Peer(place) => {
-                self.peers.begin(&mut self.context, number, Some(place));
-                Ok(())
-            }
+            Dial::Peer(place) => peers.begin(context, *number, Some(*place)),
+        },
+        Happening::Refused { number, what } => refused(context, servers, peers, *number, *what),
+        Happening::Ready {
+            number,
+            readable,
+            writable,
+        } => {
+            let _ = clients.connections.mark(*number, *readable, *writable)
+                || servers.connections.mark(*number, *readable, *writable)
+                || peers.connections.mark(*number, *readable, *writable);
         }
+        Happening::Mail(mail) => return read_mail(publisher, context, clients, servers, mail),
+        Happening::Nothing | Happening::Ended => {}
     }
+    Ok(())
+}
 
-    // Does what another worker tells.
-    fn read_mail(&mut self, mail: &Mail) -> Result<(), WorkEnd> {
-        let Worker {
-            node,
-            context,
-            clients,
-            servers,
-            has_published,
-            ..
-        } = self;
-        match mail {
-            Mail::Entry {
-                network,
-                entry,
-                is_passed_on,
-            } => tell_entry(context, clients, *network, entry, *is_passed_on),
-            Mail::Live { network, live } => clients.tell_message(context, *network, &live.lend()),
-            Mail::Relay { network, line } => clients.pass_on(context, *network, &line.lend()),
-            Mail::Say { network, said } => {
-                let step = servers.say(context, *network, &said.lend());
-                return self.do_said(step);
-            }
-            Mail::Marked { network, target } => {
-                return tell_mark(node, context, clients, *network, target.as_bytes(), None);
-            }
-            Mail::Published => *has_published = true,
+// Does what another worker tells.
+fn read_mail<N: Node, X: Attachment, P: WorkPort>(
+    publisher: &mut Publisher<N>,
+    context: &mut Context<P>,
+    clients: &mut PortClients<X, P>,
+    servers: &mut PortServers<P>,
+    mail: &Mail,
+) -> Result<(), WorkEnd> {
+    match mail {
+        Mail::Entry {
+            network,
+            entry,
+            is_passed_on,
+        } => tell_entry(context, clients, *network, entry, *is_passed_on),
+        Mail::Live { network, live } => clients.tell_message(context, *network, &live.lend()),
+        Mail::Relay { network, line } => clients.pass_on(context, *network, &line.lend()),
+        Mail::Say { network, said } => {
+            let step = servers.say(context, *network, &said.lend());
+            return do_said(publisher, context, clients, servers, step);
         }
-        Ok(())
-    }
-
-    // What is due now.
-    fn look_after_timers(&mut self) {
-        for _ in 0..TIMERS {
-            let Some(timer) = self.context.timers.take_due(self.context.view.now) else {
-                return;
-            };
-            self.look_after(timer);
+        Mail::Marked { network, target } => {
+            let node = &mut publisher.node;
+            return tell_mark(node, context, clients, *network, target.as_bytes(), None);
         }
+        Mail::Published => publisher.has_published = true,
     }
+    Ok(())
+}
 
-    fn look_after(&mut self, timer: Timer) {
+// What is due now.
+fn look_after_timers<N: Node, X: Attachment, P: WorkPort>(
+    publisher: &mut Publisher<N>,
+    context: &mut Context<P>,
+    clients: &mut PortClients<X, P>,
+    servers: &mut PortServers<P>,
+    peers: &mut PortPeers<P>,
+) {
+    for _ in 0..TIMERS {
+        let Some(timer) = context.timers.take_due(context.view.now) else {
+            return;
+        };
         match timer {
-            Timer::RetryNetwork(network) => self.servers.dial(&mut self.context, network),
+            Timer::RetryNetwork(network) => servers.dial(context, network),
             Timer::QuietUpstream(number) => {
-                let standing = self.servers.check_quiet(&mut self.context, number);
-                spread(&mut self.context, &mut self.clients, standing, false);
+                let standing = servers.check_quiet(context, number);
+                spread(context, clients, standing, false);
             }
             Timer::Unregistered(number) => {
-                self.clients.check_registered(&mut self.context, number);
-                self.peers.check_greeted(&mut self.context, number);
+                clients.check_registered(context, number);
+                peers.check_greeted(context, number);
             }
-            Timer::RetryPeer(place) => self.peers.dial(&mut self.context, place),
-            Timer::UnansweredPacket(number) => {
-                self.peers
-                    .check_answered(&mut self.context, number, self.node.pass());
-            }
-            Timer::QuietPeer(number) => self.peers.check_quiet(&mut self.context, number),
-            Timer::AbsentPeer(place) => self.peers.check_absent(&mut self.context, place),
-            Timer::Floors => {
-                self.has_published |= put_floors(
-                    &mut self.node,
-                    &mut self.context,
-                    &mut self.watch,
-                );
-            }
-            Timer::Publish => {
-                self.has_published |= publish_now(&mut self.node, &mut self.context);
-            }
+            Timer::RetryPeer(_)
+            | Timer::UnansweredPacket(_)
+            | Timer::QuietPeer(_)
+            | Timer::AbsentPeer(_) => look_after_peer(&mut publisher.node, context, peers, timer),
+            Timer::Floors => publisher.put_floors(context),
+            Timer::Publish => publisher.publish(context),
         }
+    }
+}
+
+// What is due of a peer.
+fn look_after_peer<N: Node, E: Connection, P: Carries<ToPeer, Connection = E>>(
+    node: &mut N,
+    context: &mut Context<P>,
+    peers: &mut Peers<E>,
+    timer: Timer,
+) {
+    match timer {
+        Timer::RetryPeer(place) => peers.dial(context, place),
+        Timer::UnansweredPacket(number) => peers.check_answered(context, number, node.pass()),
+        Timer::QuietPeer(number) => peers.check_quiet(context, number),
+        Timer::AbsentPeer(place) => peers.check_absent(context, place),
+        _ => {}
     }
 }
