@@ -144,21 +144,18 @@ fn begin<W: Wait, N: Node, X: Attachment, P: WorkPort>(
     Ok(end)
 }
 
-// What happens next, for which the port may wait so long. The clocks are read then. None where nothing happens.
+// What happens next, for which the port may wait so long. The clocks are read then.
 fn next_happening<P: Port>(
     context: &mut Context<P>,
     patience: u64,
-) -> Result<Option<Happening<P::Mail>>, WorkEnd> {
+) -> Result<Happening<P::Mail>, WorkEnd> {
     let Ok(happening) = context.port.next(patience) else {
         return Err(WorkEnd::Failed);
     };
-    if !context.read_clock() {
-        return Err(WorkEnd::Failed);
-    }
-    match happening {
-        Happening::Nothing => Ok(None),
-        Happening::Ended => Err(WorkEnd::Ended),
-        happening => Ok(Some(happening)),
+    if context.read_clock() {
+        Ok(happening)
+    } else {
+        Err(WorkEnd::Failed)
     }
 }
 
@@ -248,12 +245,12 @@ fn take_happenings<N: Node, X: Attachment, P: WorkPort>(
         patience(context, servers)
     };
     for _ in 0..HAPPENINGS {
-        let Some(happening) = next_happening(context, patience)? else {
-            return Ok(());
-        };
+        let happening = next_happening(context, patience)?;
         let done = act_on(publisher, context, clients, servers, peers, &happening);
         keep_entry(&mut context.view, happening);
-        done?;
+        if !done? {
+            return Ok(());
+        }
         patience = 0;
     }
     Ok(())
@@ -270,7 +267,7 @@ fn patience<S: Connection, P: Port>(context: &Context<P>, servers: &Servers<S>) 
     }
 }
 
-// Does what comes of it.
+// Does what comes of it. False where nothing happened.
 fn act_on<N: Node, X: Attachment, P: WorkPort>(
     publisher: &mut Publisher<N>,
     context: &mut Context<P>,
@@ -278,7 +275,7 @@ fn act_on<N: Node, X: Attachment, P: WorkPort>(
     servers: &mut PortServers<P>,
     peers: &mut PortPeers<P>,
     happening: &Happening<Mail>,
-) -> Result<(), WorkEnd> {
+) -> Result<bool, WorkEnd> {
     match happening {
         Happening::Client { number, ticket } => {
             clients.admit(&publisher.node, context, *number, *ticket);
@@ -287,9 +284,7 @@ fn act_on<N: Node, X: Attachment, P: WorkPort>(
         Happening::Peer { number } => peers.begin(context, *number, None),
         Happening::Opened { number, what } => match what {
             Dial::Network(network) => {
-                if let Some(effects) = servers.begin(context, *number, *network) {
-                    return do_server(publisher, context, clients, servers, *number, effects);
-                }
+                begin_server(publisher, context, clients, servers, *number, *network)?;
             }
             Dial::Peer(place) => peers.begin(context, *number, Some(*place)),
         },
@@ -303,10 +298,26 @@ fn act_on<N: Node, X: Attachment, P: WorkPort>(
                 || servers.connections.mark(*number, *readable, *writable)
                 || peers.connections.mark(*number, *readable, *writable);
         }
-        Happening::Mail(mail) => return read_mail(publisher, context, clients, servers, mail),
-        Happening::Nothing | Happening::Ended => {}
+        Happening::Mail(mail) => read_mail(publisher, context, clients, servers, mail)?,
+        Happening::Nothing => return Ok(false),
+        Happening::Ended => return Err(WorkEnd::Ended),
     }
-    Ok(())
+    Ok(true)
+}
+
+// A connection with a network's server that was dialed is there.
+fn begin_server<N: Node, X: Attachment, P: WorkPort>(
+    publisher: &mut Publisher<N>,
+    context: &mut Context<P>,
+    clients: &mut PortClients<X, P>,
+    servers: &mut PortServers<P>,
+    number: usize,
+    network: usize,
+) -> Result<(), WorkEnd> {
+    match servers.begin(context, number, network) {
+        Some(effects) => do_server(publisher, context, clients, servers, number, effects),
+        None => Ok(()),
+    }
 }
 
 // Does what another worker tells.
