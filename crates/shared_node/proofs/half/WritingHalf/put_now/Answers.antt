@@ -1,5 +1,5 @@
-use Rattle.std.proofs.Common.{◌≡◌, ℕ, ◌+◌, ◌-◌, ◌<◌, ◌≤◌, List, [], ◌++◌, length, take, refl, sym, ap, ◌∙◌, arith}
-use Rattle.std.proofs.lemmas.List.{length-append, length-map, length-take-le}
+use Rattle.std.proofs.Common.{append_assoc, ◌≡◌, ℕ, ◌+◌, ◌-◌, ◌<◌, ◌≤◌, List, [], ◌++◌, length, take, refl, sym, ap, ◌∙◌, arith}
+use Rattle.std.proofs.lemmas.List.{take_all, length-append, length-map, length-take-le}
 use Rattle.chat_change.specs.declared.change.Change.{Change}
 use Rattle.change_log.specs.declared.entry.Entry.{Entry}
 use Rattle.change_log.specs.Lists.{entry, under}
@@ -39,6 +39,17 @@ total_published old new is =
     let all : total new ≡ length (all_put old) + 0 = ap total is in
     let parts = length-append old.published old.waiting in
     omega arith
+
+-- where all changes wait behind the log that was
+all_wait : (old log new : LogValue) (by by' n : ℕ) (changes : List Change) → log ≡ old → by ≡ by' → length changes ≤ n → new.published ≡ log.published → new.waiting ≡ log.waiting ++ under by (take n changes)
+    → (new.published ≡ old.published) × (new.waiting ≡ old.waiting ++ under by' changes)
+all_wait old log new by by' n changes view same all published waiting =
+    (published ∙ ap (λ l. l.published) view, waiting ∙ (λ i. (view i).waiting ++ under (same i) (take_all n changes all i)))
+
+all_published : (old waits new : LogValue) (by : ℕ) (changes : List Change) → (waits.published ≡ old.published) × (waits.waiting ≡ old.waiting ++ under by changes) → new ≡ log_value (all_put waits) []
+    → new ≡ log_value (all_put old ++ under by changes) []
+all_published old waits new by changes h is =
+    is ∙ ap (λ l. log_value l []) ((λ i. h.0 i ++ h.1 i) ∙ sym (append_assoc old.published old.waiting (under by changes)))
 
 -- a pass counts as many changes more as the log has
 count_more : (count count' n all all' before : ℕ) → count' ≡ count + n → all' ≡ all + n → all ≡ before → count' + before ≡ count + all'
@@ -109,3 +120,24 @@ returns-clause-count g c =
     let more = total_more c.self.inside.log c.add_all-appended.new.self c.pass.inside.number c.add_all-appended.result c.args.changes.now added.some added.published added.waiting in
     let shown = total_published c.add_all-appended.new.self c.publish.new.self c.if-not-publish.ensures in
     count_more _ _ c.add_all-appended.result _ _ _ (ap (λ p. p.count) c.pass-2.view_is ∙ c.count_put.ensures.count) (shown ∙ more) (ap total c.self.view_is)
+
+pub returns-then-appended-changes-clause-refused : goal.returns-then-appended-changes-clause-refused
+returns-then-appended-changes-clause-refused g c =
+    let added = c.add_all-appended.ensures in
+    let view = c.self.view_is in
+    let number = ap (λ p. p.number) c.pass.view_is in (
+      (added.some, added.published ∙ ap (λ l. l.published) view, added.waiting ∙ (λ i. (view i).waiting ++ under (number i) (take c.add_all-appended.result c.args.changes.now))),
+      c.count_put.ensures.seen.0,
+    )
+
+pub returns-then-not-publish-clause-refused : goal.returns-then-not-publish-clause-refused
+returns-then-not-publish-clause-refused g c =
+    let added = c.add_all-appended.ensures in
+    let wait = all_wait c.args.self.now c.self.inside.log c.add_all-appended.new.self _ c.args.pass.now.number c.add_all-appended.result c.args.changes.now c.self.view_is (ap (λ p. p.number) c.pass.view_is) c.if-appended-changes.false added.published added.waiting in
+    ((ap (λ l. l.published) c.if-not-publish.ensures ∙ wait.0, ap (λ l. l.waiting) c.if-not-publish.ensures ∙ wait.1), c.count_put.ensures.seen.0)
+
+pub returns-clause-published : goal.returns-clause-published
+returns-clause-published g c =
+    let added = c.add_all-appended.ensures in
+    let wait = all_wait c.args.self.now c.self.inside.log c.add_all-appended.new.self _ c.args.pass.now.number c.add_all-appended.result c.args.changes.now c.self.view_is (ap (λ p. p.number) c.pass.view_is) c.if-appended-changes.false added.published added.waiting in
+    all_published c.args.self.now c.add_all-appended.new.self c.publish.new.self c.args.pass.now.number c.args.changes.now wait c.if-not-publish.ensures
