@@ -30,7 +30,7 @@ PARTS = (
     ("it is told to the client", (r"\bwork_clients::\S*::tell_message\b", r"\bwork_clients::\S*::tell_untold\b")),
 )
 # (what calls `turn` may stand within its own caller)
-ALL = r"\bbnc_work::worker::(serve|try_work|Worker::turn)\b"
+ALL = r"\bbnc_work::worker::(serve|try_work|begin|run|turn)\b"
 
 
 def instructions(of, log):
