@@ -150,6 +150,14 @@ class Trio:
                 if session:
                     session.say("PING :still")
 
+    def settle(self, at):
+        """Waits until a node has taken all that its server said, so that whoever registers then isn't told of it as it comes."""
+        session = self.sessions[at]
+        session.say("PING :settled")
+        while session.line("PONG") != "PONG :settled":
+            # (other PINGs were said before)
+            continue
+
     def is_level(self, at):
         """Whether a node shows all that was said, each message once."""
         client = self.nodes[at].client(f"a client of {NAMES[at]}")
@@ -161,6 +169,7 @@ class Trio:
 
     def wait_until_level(self, at):
         """As an operator does who restarts nodes one at a time."""
+        self.settle(at)
         end = time.monotonic() + 20
         while not self.is_level(at):
             self.go_on()
