@@ -94,7 +94,7 @@ def main():
         clients.settle()
         sides.insert(0, (ours, server, clients))
         rows = [row(piece, [[seconds(*side, piece) for side in sides] for _ in range(rounds)]) for piece in PIECES]
-        print(name_of_run(program), "\n")
+        print(f"{name_of_run(program)} Medians of {rounds} rounds.\n")
         print(table(HEADS, rows))
     finally:
         ours.stop()
