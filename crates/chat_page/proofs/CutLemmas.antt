@@ -110,7 +110,7 @@ and_turned false false = refl
 -- ---- a sorted list turned round
 
 module _ {A : Type 0} where
-  pub all_push : (P : A → Type 0) (xs : List A) (y : A) → AllByRecursion P xs → P y → AllByRecursion P (xs ++ y ∷ [])
+  all_push : (P : A → Type 0) (xs : List A) (y : A) → AllByRecursion P xs → P y → AllByRecursion P (xs ++ y ∷ [])
   all_push P [] y h p = (p, tt)
   all_push P (x ∷ xs) y h p = (h.0, all_push P xs y h.1 p)
 

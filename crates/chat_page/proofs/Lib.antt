@@ -1,6 +1,5 @@
 mod LastLemmas
 mod CutLemmas
-mod WalkLemmas
 mod PlaceLemmas
 mod AnswerLemmas
 mod KnownLemmas

@@ -38,38 +38,11 @@ pub(crate) fn first_between<'a>(
 {
     // Without it the prover doesn't find the types that a cut may hold.
     let _held: (Option<Moment>, Option<&Spot>) = (None, None);
-    let mut page = Vec::new(alloc);
-    for post in state.up(buffer, copy_of(low)) {
-        if page.len() >= n || is_after(high, post) {
-            return Ok(page);
-        }
-        page.push(post)?;
-    }
-    Ok(page)
-}
-
-/// The last `n` of the records above the one cut and below the other, the last first.
-fn falling_between<'a>(
-    alloc: Global,
-    state: &'a State,
-    buffer: &Buffer,
-    low: &Cut<'_>,
-    high: &Cut<'_>,
-    n: usize,
-) -> Result<Vec<&'a Record>, AllocError>
-    ensures { IfOk result (λ page. map (λ r. r.now) page.items
-        ≡ take n (reverse (between_cuts low.now high.now (records_in state.now.history buffer.now)))) }
-{
-    // Without it the prover doesn't find the types that a cut may hold.
-    let _held: (Option<Moment>, Option<&Spot>) = (None, None);
-    let mut page = Vec::new(alloc);
-    for post in state.down(buffer, copy_of(high)) {
-        if page.len() >= n || !is_after(low, post) {
-            return Ok(page);
-        }
-        page.push(post)?;
-    }
-    Ok(page)
+    state
+        .up(buffer, copy_of(low))
+        .take_while(|post| !is_after(high, post))
+        .take(n)
+        .collect(alloc)
 }
 
 /// The last `n` of the records above the one cut and below the other.
@@ -84,7 +57,13 @@ pub(crate) fn last_between<'a>(
     ensures { IfOk result (λ page. map (λ r. r.now) page.items
         ≡ last n (between_cuts low.now high.now (records_in state.now.history buffer.now))) }
 {
-    let mut page = falling_between(alloc, state, buffer, low, high, n)?;
+    // Without it the prover doesn't find the types that a cut may hold.
+    let _held: (Option<Moment>, Option<&Spot>) = (None, None);
+    let mut page: Vec<&'a Record> = state
+        .down(buffer, copy_of(high))
+        .take_while(|post| is_after(low, post))
+        .take(n)
+        .collect(alloc)?;
     page.reverse();
     Ok(page)
 }
