@@ -23,8 +23,8 @@ pub(crate) fn serve_clients<N: Node, X: Attachment, P: WorkPort>(
     servers: &mut PortServers<P>,
 ) -> Result<(), WorkEnd> {
     clients.tell_untold(context);
-    for _ in 0..clients.connections.busy_count() {
-        if let Some(number) = clients.connections.next_busy() {
+    for _ in 0..clients.busy_count() {
+        if let Some(number) = clients.next_busy() {
             serve_client(publisher, context, clients, servers, number)?;
         }
     }

@@ -28,8 +28,8 @@ pub(crate) fn serve_peers<N: Node, X: Attachment, P: WorkPort>(
             let _ = context.port.send_mail(0, Mail::Published);
         }
     }
-    for _ in 0..peers.connections.busy_count() {
-        if let Some(number) = peers.connections.next_busy() {
+    for _ in 0..peers.busy_count() {
+        if let Some(number) = peers.next_busy() {
             serve_peer(publisher, context, clients, peers, number)?;
         }
     }
@@ -59,10 +59,7 @@ fn serve_peer<N: Node, X: Attachment, P: WorkPort>(
             }
         }
     }
-    if has_more {
-        peers.connections.wake(number);
-    }
-    peers.finish(context, number);
+    peers.finish(context, number, has_more);
     Ok(())
 }
 

@@ -61,13 +61,10 @@ fn end_turn<S: Connection, P: Port + Carries<ToServer, Connection = S>>(
     over: Option<Reason>,
     has_more: bool,
 ) -> Option<Standing> {
-    if let Some(reason) = over {
-        return servers.close(context, number, reason);
+    match over {
+        Some(reason) => servers.close(context, number, reason),
+        None => servers.finish(context, number, has_more),
     }
-    if has_more {
-        servers.connections.wake(number);
-    }
-    servers.finish(context, number)
 }
 
 // What a line of a server comes to: a message waits behind those of the lines before it, and anything else is done.

@@ -221,7 +221,7 @@ fn turn<N: Node, X: Attachment, P: WorkPort>(
     clients.tell_refusals(context);
     peers.tell_refusals(context);
     context.begin_turn();
-    if let Some(number) = servers.connections.next_busy() {
+    if let Some(number) = servers.next_busy() {
         serve_server(publisher, context, clients, servers, number)?;
     }
     serve_clients(publisher, context, clients, servers)?;
@@ -236,9 +236,8 @@ fn take_happenings<N: Node, X: Attachment, P: WorkPort>(
     servers: &mut PortServers<P>,
     peers: &mut PortPeers<P>,
 ) -> Result<(), WorkEnd> {
-    let is_busy = publisher.has_published
-        || clients.connections.is_busy()
-        || peers.connections.is_busy();
+    let is_busy =
+        publisher.has_published || clients.busy_count() > 0 || peers.busy_count() > 0;
     let mut patience = if is_busy {
         0
     } else {
@@ -258,7 +257,7 @@ fn take_happenings<N: Node, X: Attachment, P: WorkPort>(
 
 // How long the port may wait, where neither a client nor a peer has something to do.
 fn patience<S: Connection, P: Port>(context: &Context<P>, servers: &Servers<S>) -> u64 {
-    if servers.connections.is_busy() {
+    if servers.busy_count() > 0 {
         return if is_another_behind(context) { PAUSE } else { 0 };
     }
     match context.timers.next() {
@@ -294,9 +293,9 @@ fn act_on<N: Node, X: Attachment, P: WorkPort>(
             readable,
             writable,
         } => {
-            let _ = clients.connections.mark(*number, *readable, *writable)
-                || servers.connections.mark(*number, *readable, *writable)
-                || peers.connections.mark(*number, *readable, *writable);
+            let _ = clients.mark(*number, *readable, *writable)
+                || servers.mark(*number, *readable, *writable)
+                || peers.mark(*number, *readable, *writable);
         }
         Happening::Mail(mail) => read_mail(publisher, context, clients, servers, mail)?,
         Happening::Nothing => return Ok(false),

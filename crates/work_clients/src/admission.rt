@@ -19,14 +19,12 @@ impl<X: Attachment, C: Connection> Admitted<X, C> {
         }
     }
 
-    // Known from now on by its network, where its session has just registered, and to the lobby, where it waits no longer. It
-    // stands under that key.
+    // Known from now on by its network, where its session has just registered, and to the lobby, where it waits no longer.
     fn register<P: Carries<ToClient, Connection = C>>(
         &mut self,
         context: &mut Context<P>,
         registrations: &mut Registrations,
         lobby: &Lobby<X>,
-        key: usize,
     ) {
         if self.client.know_nick(context.view.alloc).is_err() {
             self.closing = Closing::AtOnce(Reason::NoMemory);
@@ -43,7 +41,6 @@ impl<X: Attachment, C: Connection> Admitted<X, C> {
         let registration = Registration {
             network: place,
             number: self.client.number(),
-            key,
         };
         let Ok(()) = registrations.enter(registration) else {
             self.closing = Closing::AtOnce(Reason::NoMemory);
@@ -150,12 +147,9 @@ impl<X: Attachment, C: Connection> Clients<X, C> {
         context: &mut Context<P>,
         number: usize,
     ) {
-        let Some(key) = self.connections.key_of(number) else {
-            return;
-        };
         if let Some(admitted) = self.connections.get_mut(number) {
             if admitted.network.is_none() {
-                admitted.register(context, &mut self.registrations, &self.lobby, key);
+                admitted.register(context, &mut self.registrations, &self.lobby);
             }
         }
     }

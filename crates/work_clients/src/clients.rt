@@ -12,7 +12,7 @@ use worker_io::{Connections, NodeView};
 
 /// A worker's clients, by the numbers of their connections. They come in by its lobby.
 pub struct Clients<X: Attachment, C: Connection> {
-    pub connections: Connections<Admitted<X, C>>,
+    pub(crate) connections: Connections<Admitted<X, C>>,
     // those among them that are registered
     pub(crate) registrations: Registrations,
     pub(crate) lobby: Lobby<X>,
@@ -77,14 +77,9 @@ impl<X: Attachment, C: Connection> Clients<X, C> {
 
     // The client isn't there any more.
     pub(crate) fn remove(&mut self, number: usize) -> Option<Admitted<X, C>> {
-        let key = self.connections.key_of(number)?;
         let admitted = self.connections.remove(number)?;
         if let Some(network) = admitted.network {
-            self.registrations.leave(Registration {
-                network,
-                number,
-                key,
-            });
+            self.registrations.leave(Registration { network, number });
         }
         Some(admitted)
     }

@@ -19,10 +19,10 @@ impl<X: Attachment, C: Connection> Clients<X, C> {
 
     // The connection of the client that came under the ticket, if it isn't registered.
     fn unregistered(&self, ticket: u64) -> Option<usize> {
-        for (_, entry) in self.connections.iter() {
+        for (number, entry) in self.connections.iter() {
             let admitted = &entry.served;
             if admitted.ticket == ticket && admitted.network.is_none() {
-                return Some(entry.number);
+                return Some(*number);
             }
         }
         None

@@ -2,18 +2,15 @@
 use byte_text::NoMemory;
 use std::alloc::Global;
 
-/// A client, by the number of its connection and by its key among the worker's, is registered with a network, by its place
-/// among those of the node.
+/// A client, by the number of its connection, is registered with a network, by its place among those of the node.
 #[derive(Clone, Copy, PartialEq, Eq, PartialOrd, Ord)]
 pub(crate) struct Registration {
     pub(crate) network: usize,
     pub(crate) number: usize,
-    pub(crate) key: usize,
 }
 
 /// The registrations of a worker's clients, in order: those of a network stand together, in the order of their connections.
-/// So what a network's clients are told costs nothing for the clients of other networks, and they are gone through without a
-/// search.
+/// So what a network's clients are told costs nothing for the clients of other networks.
 #[derive(Drop)]
 pub(crate) struct Registrations {
     all: Vec<Registration>,
@@ -58,12 +55,10 @@ impl Registrations {
         let first = Registration {
             network,
             number: from,
-            key: 0,
         };
         let last = Registration {
             network,
             number: usize::MAX,
-            key: usize::MAX,
         };
         let Some(rest) = self.all.get(place_of(&self.all, &first)..) else {
             return &[];

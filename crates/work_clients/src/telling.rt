@@ -57,7 +57,7 @@ impl<X: Attachment, C: Connection> Clients<X, C> {
     ) {
         self.tell_untold(context);
         for registration in self.registrations.of(network, 0) {
-            if let Some(mut found) = self.connections.find_at(registration.key) {
+            if let Some(mut found) = self.connections.find(registration.number) {
                 let delivery = found.served().client.take_line(&mut context.port, passed);
                 note(&mut found, delivery);
             }
@@ -76,7 +76,7 @@ impl<X: Attachment, C: Connection> Clients<X, C> {
         self.tell_untold(context);
         let nick = entry.entry.nick();
         for registration in self.registrations.of(network, 0) {
-            let Some(mut found) = self.connections.find_at(registration.key) else {
+            let Some(mut found) = self.connections.find(registration.number) else {
                 continue;
             };
             let client = &mut found.served().client;

@@ -47,6 +47,21 @@ impl<X: Attachment, C: Connection> Admitted<X, C> {
 }
 
 impl<X: Attachment, C: Connection> Clients<X, C> {
+    /// What the port tells of a connection. False where it isn't a client's.
+    pub fn mark(&mut self, number: usize, readable: bool, writable: bool) -> bool {
+        self.connections.mark(number, readable, writable)
+    }
+
+    /// How many clients have something to do.
+    pub fn busy_count(&self) -> usize {
+        self.connections.busy_count()
+    }
+
+    /// The client that has had something to do for longest, whose turn it is.
+    pub fn next_busy(&mut self) -> Option<usize> {
+        self.connections.next_busy()
+    }
+
     /// What a client is to do next. Its next line is read where nothing of the one before waits.
     pub fn step<K: Peek, P: Carries<ToClient, Connection = C>>(
         &mut self,

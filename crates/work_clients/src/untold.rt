@@ -2,7 +2,6 @@
 use crate::admitted::{Admitted, note};
 use crate::registrations::Registration;
 use bnc_ports::{Carries, Connection};
-use byte_text::NoMemory;
 use client_connection::{HeardText, ToClient};
 use client_places::Attachment;
 use passed_lines::{Live, LiveMessage};
@@ -129,7 +128,7 @@ pub(crate) fn tell_each<X: Attachment, C: Connection, P: Carries<ToClient, Conne
     let mut text = HeardText::new(messages, mem::replace(&mut rooms.latest, Vec::new(alloc)));
     let mut other = HeardText::new(messages, mem::replace(&mut rooms.other, Vec::new(alloc)));
     for registration in those {
-        if let Some(mut found) = connections.find_at(registration.key) {
+        if let Some(mut found) = connections.find(registration.number) {
             let client = &mut found.served().client;
             if !client.shares_text(&text) {
                 mem::swap(&mut text, &mut other);

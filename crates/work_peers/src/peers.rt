@@ -9,7 +9,7 @@ use worker_io::Connections;
 
 /// A worker's peers, by the numbers of their connections. Places are those of the peers in the node's terms, from 0.
 pub struct Peers<C: Connection> {
-    pub connections: Connections<Peer<C>>,
+    pub(crate) connections: Connections<Peer<C>>,
     /// How many connections came so far.
     pub(crate) begun: u64,
     /// In the order of the node's terms.

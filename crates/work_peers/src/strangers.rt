@@ -28,14 +28,14 @@ impl<C: Connection> Peers<C> {
         let mut count: usize = 0;
         let mut first = None;
         let mut least = u64::MAX;
-        for (_, entry) in self.connections.iter() {
+        for (number, entry) in self.connections.iter() {
             let peer = &entry.served;
             if !peer.is_stranger() {
                 continue;
             }
             count = count.saturating_add(1);
             if first.is_none() || peer.order < least {
-                first = Some(entry.number);
+                first = Some(*number);
                 least = peer.order;
             }
         }

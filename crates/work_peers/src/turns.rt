@@ -78,6 +78,21 @@ impl<C: Connection> Peer<C> {
 }
 
 impl<C: Connection> Peers<C> {
+    /// What the port tells of a connection. False where it isn't a peer's.
+    pub fn mark(&mut self, number: usize, readable: bool, writable: bool) -> bool {
+        self.connections.mark(number, readable, writable)
+    }
+
+    /// How many peers have something to do.
+    pub fn busy_count(&self) -> usize {
+        self.connections.busy_count()
+    }
+
+    /// The peer that has had something to do for longest, whose turn it is.
+    pub fn next_busy(&mut self) -> Option<usize> {
+        self.connections.next_busy()
+    }
+
     /// Takes the next line that came over a connection, or more bytes for it. What is to be sent because of the line waits
     /// for the peer. Nothing is heard before the message that came is carried out.
     pub fn step<P: Carries<ToPeer, Connection = C>>(
@@ -91,12 +106,17 @@ impl<C: Connection> Peers<C> {
         }
     }
 
-    /// Sends what waits for the peer, by one write. The connection is closed where it can't be, and where it is lost.
+    /// Sends what waits for the peer, by one write. Further messages of it may be there already. The connection is closed where
+    /// nothing can be sent, and where it is lost.
     pub fn finish<P: Carries<ToPeer, Connection = C>>(
         &mut self,
         context: &mut Context<P>,
         number: usize,
+        has_more: bool,
     ) {
+        if has_more {
+            self.connections.wake(number);
+        }
         let Some(peer) = self.connections.get_mut(number) else {
             return;
         };

@@ -23,7 +23,7 @@ struct NetworkLine {
 
 /// A worker's servers, by the numbers of their connections.
 pub struct Servers<C: Connection> {
-    pub connections: Connections<Server<C>>,
+    pub(crate) connections: Connections<Server<C>>,
     // of all networks; those of other workers stay empty
     networks: Vec<NetworkLine>,
     // the room for a line for which there is no memory

@@ -48,6 +48,21 @@ fn say_often<C: Connection>(
 }
 
 impl<C: Connection> Servers<C> {
+    /// What the port tells of a connection. False where it isn't a server's.
+    pub fn mark(&mut self, number: usize, readable: bool, writable: bool) -> bool {
+        self.connections.mark(number, readable, writable)
+    }
+
+    /// How many servers have something to do.
+    pub fn busy_count(&self) -> usize {
+        self.connections.busy_count()
+    }
+
+    /// The server that has had something to do for longest, whose turn it is.
+    pub fn next_busy(&mut self) -> Option<usize> {
+        self.connections.next_busy()
+    }
+
     /// What the server's next line comes to, or more bytes of it. A server whose connection is to be closed has no next line. One
     /// for which there is no memory is tried again at the server's later turns. While it waits, no other server has a next line.
     pub fn step<P: Port + Carries<ToServer, Connection = C>>(
@@ -82,12 +97,17 @@ impl<C: Connection> Servers<C> {
         }
     }
 
-    /// Writes what waits for the server, by one write, and closes the connection where that is due.
+    /// Writes what waits for the server, by one write, and closes the connection where that is due. Further lines of the server
+    /// may be there already.
     pub fn finish<P: Port + Carries<ToServer, Connection = C>>(
         &mut self,
         context: &mut Context<P>,
         number: usize,
+        has_more: bool,
     ) -> Option<Standing> {
+        if has_more {
+            self.connections.wake(number);
+        }
         let server = self.connections.get_mut(number)?;
         let pumped = match server.dialogue.pump(&mut context.port) {
             Ok(pumped) => pumped,

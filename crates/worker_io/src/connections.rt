@@ -1,6 +1,6 @@
 //! The connections of one kind that a worker has, and whose turn it is.
-use slab::{Iter, Slab};
 use std::alloc::Global;
+use std::collections::btree_map::Iter;
 use std::collections::{BTreeMap, VecDeque};
 
 /// What a worker has of one connection.
@@ -13,23 +13,14 @@ pub trait Served: Drop {
 #[derive(Drop)]
 pub struct ConnectionEntry<T: Served> {
     pub served: T,
-    pub number: usize,
     // whether it stands in the queue
     is_queued: bool,
-}
-
-impl<T: Served> ConnectionEntry<T> {
-    // Stands in the queue, once.
-    fn enter(&mut self, busy: &mut VecDeque<usize>) {
-        if !self.is_queued && busy.push_back(self.number).is_ok() {
-            self.is_queued = true;
-        }
-    }
 }
 
 /// A connection that was found in the table.
 #[derive(Drop)]
 pub struct Found<'a, T: Served> {
+    number: usize,
     entry: &'a mut ConnectionEntry<T>,
     busy: &'a mut VecDeque<usize>,
 }
@@ -40,20 +31,19 @@ impl<'a, T: Served> Found<'a, T> {
         &mut self.entry.served
     }
 
-    /// It has something to do.
+    /// It has something to do. It stands in the queue, once.
     pub fn wake(&mut self) {
-        self.entry.enter(self.busy);
+        if !self.entry.is_queued && self.busy.push_back(self.number).is_ok() {
+            self.entry.is_queued = true;
+        }
     }
 }
 
-/// A worker's connections of one kind, each under its number, and under a key by which it is found without a search. Those that
-/// have something to do stand in a queue, each once, in which each has its room from the beginning.
+/// A worker's connections of one kind, each under its number. Those that have something to do stand in a queue, each once, in
+/// which each has its room from the beginning.
 #[derive(Drop)]
 pub struct Connections<T: Served> {
-    // a key serves another connection once its own is gone
-    entries: Slab<ConnectionEntry<T>>,
-    // their keys, by their numbers
-    keys: BTreeMap<usize, usize>,
+    entries: BTreeMap<usize, ConnectionEntry<T>>,
     // by their numbers, those that have something to do
     busy: VecDeque<usize>,
 }
@@ -62,55 +52,39 @@ impl<T: Served> Connections<T> {
     /// No connections. It takes no memory.
     pub fn new(alloc: Global) -> Connections<T> {
         Connections {
-            entries: Slab::new(alloc),
-            keys: BTreeMap::new(alloc),
+            entries: BTreeMap::new(alloc),
             busy: VecDeque::new(alloc),
         }
     }
 
     /// Takes a connection in, whose number no other has. For want of memory nothing changes, and it comes back.
     pub fn insert(&mut self, number: usize, served: T) -> Result<(), T> {
-        let Connections {
-            entries,
-            keys,
-            busy,
-        } = self;
-        let count = entries.len().saturating_add(1);
-        if busy.reserve(count).is_err() || entries.reserve(1).is_err() {
+        let count = self.entries.len().saturating_add(1);
+        if self.busy.reserve(count).is_err() {
             return Err(served);
         }
-        let Ok(before) = keys.insert(number, entries.vacant_key()) else {
-            return Err(served);
-        };
-        entries.insert_reserved(ConnectionEntry {
+        let entry = ConnectionEntry {
             served,
-            number,
             is_queued: false,
-        });
-        if let Some(key) = before {
-            drop(entries.try_remove(key));
+        };
+        match self.entries.insert(number, entry) {
+            Ok(_) => Ok(()),
+            Err(refused) => Err(refused.value.1.served),
         }
-        Ok(())
     }
 
     /// Takes a connection out, of the queue too.
     pub fn remove(&mut self, number: usize) -> Option<T> {
-        let key = self.keys.remove(&number)?;
-        let entry = self.entries.try_remove(key)?;
+        let entry = self.entries.remove(&number)?;
         if entry.is_queued {
             self.busy.retain(|other| *other != number);
         }
         Some(entry.served)
     }
 
-    /// The key of the connection of that number.
-    pub fn key_of(&self, number: usize) -> Option<usize> {
-        self.keys.get(&number).copied()
-    }
-
     /// The connection of that number.
     pub fn get(&self, number: usize) -> Option<&T> {
-        match self.entries.get(self.key_of(number)?) {
+        match self.entries.get(&number) {
             Some(entry) => Some(&entry.served),
             None => None,
         }
@@ -118,8 +92,7 @@ impl<T: Served> Connections<T> {
 
     /// The connection of that number, to be changed.
     pub fn get_mut(&mut self, number: usize) -> Option<&mut T> {
-        let key = self.key_of(number)?;
-        match self.entries.get_mut(key) {
+        match self.entries.get_mut(&number) {
             Some(entry) => Some(&mut entry.served),
             None => None,
         }
@@ -127,27 +100,25 @@ impl<T: Served> Connections<T> {
 
     /// The connection of that number, which may be woken.
     pub fn find(&mut self, number: usize) -> Option<Found<'_, T>> {
-        let key = self.key_of(number)?;
-        self.find_at(key)
-    }
-
-    /// The connection under that key, which may be woken.
-    pub fn find_at(&mut self, key: usize) -> Option<Found<'_, T>> {
-        let Connections { entries, busy, .. } = self;
-        match entries.get_mut(key) {
-            Some(entry) => Some(Found { entry, busy }),
+        let Connections { entries, busy } = self;
+        match entries.get_mut(&number) {
+            Some(entry) => Some(Found {
+                number,
+                entry,
+                busy,
+            }),
             None => None,
         }
     }
 
-    /// All of them, in no order, each with its key.
-    pub fn iter(&self) -> Iter<'_, ConnectionEntry<T>> {
+    /// All of them, in the order of their numbers.
+    pub fn iter(&self) -> Iter<'_, usize, ConnectionEntry<T>> {
         self.entries.iter()
     }
 
     /// The first number of a connection from that one on.
     pub fn first_from(&self, from: usize) -> Option<usize> {
-        match self.keys.range(from..).next() {
+        match self.entries.range(from..).next() {
             Some((number, _)) => Some(*number),
             None => None,
         }
@@ -172,11 +143,6 @@ impl<T: Served> Connections<T> {
         }
     }
 
-    /// Whether a connection has something to do.
-    pub fn is_busy(&self) -> bool {
-        !self.busy.is_empty()
-    }
-
     /// How many connections have something to do.
     pub fn busy_count(&self) -> usize {
         self.busy.len()
@@ -185,8 +151,7 @@ impl<T: Served> Connections<T> {
     /// The connection that has had something to do for longest. It leaves the queue.
     pub fn next_busy(&mut self) -> Option<usize> {
         let number = self.busy.pop_front()?;
-        let key = self.key_of(number)?;
-        if let Some(entry) = self.entries.get_mut(key) {
+        if let Some(entry) = self.entries.get_mut(&number) {
             entry.is_queued = false;
         }
         Some(number)
