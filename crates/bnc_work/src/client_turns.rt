@@ -1,16 +1,14 @@
 //! The turns of clients.
 use crate::marker_turns::{ask_gate, tell_mark_of};
-use crate::publisher::Publisher;
 use crate::server_turns::do_said;
 use crate::work_port::{PortClients, PortServers, WorkPort};
 use bnc_ports::{Carries, Connection, Port, Reason};
 use chat_change::Change;
 use client_places::Attachment;
 use passed_lines::{Mail, mail_said};
-use shared_node::PutFault;
 use work_clients::{ClientEffect, ClientPut, ClientStep, Clients, ToClient};
 use worker_io::{Context, WorkEnd};
-use worker_node::{Node, publish_later, put_of_client};
+use worker_node::{Node, Publisher};
 
 /// So many steps a client has before the others have their turn.
 const STEPS: usize = 64;
@@ -41,7 +39,7 @@ fn serve_client<N: Node, X: Attachment, P: WorkPort>(
 ) -> Result<(), WorkEnd> {
     let mut has_more = true;
     for _ in 0..STEPS {
-        match clients.step(context, publisher.node.pass(), number) {
+        match clients.step(context, publisher.node.reader(), number) {
             ClientStep::Do => do_client(publisher, context, clients, servers, number)?,
             ClientStep::Again => {}
             ClientStep::End(reason) => clients.end(context, number, reason),
@@ -102,7 +100,7 @@ fn answer<N: Node, X: Attachment, C: Connection, P: Carries<ToClient, Connection
     number: usize,
 ) -> Result<(), WorkEnd> {
     ask_gate(node, &context.view)?;
-    if let Err(reason) = clients.answer(context, node.pass(), number) {
+    if let Err(reason) = clients.answer(context, node.reader(), number) {
         clients.close(context, number, reason);
     }
     Ok(())
@@ -122,21 +120,15 @@ fn put_for<
     number: usize,
     put: ClientPut,
 ) -> Result<(), WorkEnd> {
-    match put_of_client(&mut publisher.node, &context.view, put) {
-        Ok(change) => {
-            publisher.has_published = true;
-            let done = tell_put(&mut publisher.node, context, clients, number, &change);
-            drop(change);
-            done
-        }
-        Err(fault) => {
-            if fault == PutFault::Waiting {
-                publish_later(context);
-            }
-            clients.close(context, number, Reason::NoMemory);
-            Ok(())
-        }
-    }
+    let (is_published, change) = publisher.put_of_client(context, put);
+    let done = if is_published {
+        tell_put(&mut publisher.node, context, clients, number, &change)
+    } else {
+        clients.close(context, number, Reason::NoMemory);
+        Ok(())
+    };
+    drop(change);
+    done
 }
 
 // The other sessions are told what a client put.

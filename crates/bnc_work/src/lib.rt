@@ -8,9 +8,9 @@
 #![tactic(auto)]
 
 mod client_turns;
+mod gated_node;
 mod marker_turns;
 mod peer_turns;
-mod publisher;
 mod server_turns;
 mod standings;
 mod starting;

@@ -36,7 +36,7 @@ pub(crate) fn tell_mark<
             return Ok(());
         };
         ask_gate(node, &context.view)?;
-        clients.tell_marker(context, node.pass(), number, target);
+        clients.tell_marker(context, node.reader(), number, target);
         let Some(next) = number.checked_add(1) else {
             return Ok(());
         };

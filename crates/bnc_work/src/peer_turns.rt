@@ -1,33 +1,23 @@
 //! The turns of peers.
 use crate::marker_turns::tell_risen;
-use crate::publisher::Publisher;
 use crate::work_port::{PortClients, PortPeers, WorkPort};
 use client_places::Attachment;
-use passed_lines::Mail;
 use peer_session::changes_of;
 use work_peers::PeerStep;
 use worker_io::{Context, WorkEnd};
-use worker_node::{Node, marks_ahead, take_into};
+use worker_node::{Node, Publisher, marks_ahead};
 
 /// So many lines of a peer are taken before the others have their turn.
 const STEPS: usize = 64;
 
-/// Each peer is to have what was put in this turn: the first worker has them, and learns it by one mail from another. Those
-/// peers that have something to do by now have a turn each.
+/// Each peer is to have what was put in this turn. Those peers that have something to do by now have a turn each.
 pub(crate) fn serve_peers<N: Node, X: Attachment, P: WorkPort>(
     publisher: &mut Publisher<N>,
     context: &mut Context<P>,
     clients: &mut PortClients<X, P>,
     peers: &mut PortPeers<P>,
 ) -> Result<(), WorkEnd> {
-    if publisher.has_published {
-        publisher.has_published = false;
-        if context.view.worker == 0 {
-            peers.publish(context, publisher.node.pass());
-        } else {
-            let _ = context.port.send_mail(0, Mail::Published);
-        }
-    }
+    publisher.tell_peers(context, peers);
     for _ in 0..peers.busy_count() {
         if let Some(number) = peers.next_busy() {
             serve_peer(publisher, context, clients, peers, number)?;
@@ -76,9 +66,7 @@ fn take_message<N: Node, X: Attachment, P: WorkPort>(
         Some(arrived) => marks_ahead(&mut publisher.node, context.view.alloc, changes_of(arrived)),
         None => Vec::new(context.view.alloc),
     };
-    let is_taken = take_into(&mut publisher.node, context, peers, number);
-    let done = if is_taken {
-        publisher.has_published = true;
+    let done = if publisher.take(context, peers, number) {
         tell_risen(&mut publisher.node, context, clients, &marks)
     } else {
         Ok(())

@@ -1,6 +1,5 @@
 //! The turns of networks' servers.
 use crate::marker_turns::tell_mark_to_all;
-use crate::publisher::Publisher;
 use crate::standings::spread;
 use crate::work_port::{PortClients, PortServers, WorkPort};
 use bnc_ports::{Carries, Connection, Port, Reason};
@@ -11,9 +10,9 @@ use passed_lines::{
     mail_line, mail_others,
 };
 use work_clients::{Clients, ToClient};
-use work_servers::{SaidStep, ServerStep, Servers, Standing, ToServer};
+use work_servers::{SaidStep, ServerStep, Servers, ToServer};
 use worker_io::{Context, WorkEnd};
-use worker_node::{Node, put_of_server};
+use worker_node::{Node, Publisher};
 
 /// So many lines of a server are taken before the others have their turn: about as many as one read brings, so that what
 /// they come to is written to each client at once.
@@ -48,23 +47,9 @@ pub(crate) fn serve_server<N: Node, X: Attachment, P: WorkPort>(
         }
     }
     put_queued(publisher, context, clients, servers, number);
-    let standing = end_turn(context, servers, number, over, has_more);
+    let standing = servers.end_turn(context, number, over, has_more);
     spread(context, clients, standing, false);
     Ok(())
-}
-
-// Writes what waits for a server, which has another turn where it has more, or closes the connection where that is over.
-fn end_turn<S: Connection, P: Port + Carries<ToServer, Connection = S>>(
-    context: &mut Context<P>,
-    servers: &mut Servers<S>,
-    number: usize,
-    over: Option<Reason>,
-    has_more: bool,
-) -> Option<Standing> {
-    match over {
-        Some(reason) => servers.close(context, number, reason),
-        None => servers.finish(context, number, has_more),
-    }
 }
 
 // What a line of a server comes to: a message waits behind those of the lines before it, and anything else is done.
@@ -76,7 +61,7 @@ fn do_step<N: Node, X: Attachment, P: WorkPort>(
     number: usize,
     effects: ServerEffects,
 ) -> Result<(), WorkEnd> {
-    if queue_message(&mut publisher.queue, servers, number, &effects) {
+    if servers.queue_message(&mut publisher.queue, number, &effects) {
         servers.recycle(number, effects);
         return Ok(());
     }
@@ -85,26 +70,6 @@ fn do_step<N: Node, X: Attachment, P: WorkPort>(
     }
     drop(effects);
     Ok(())
-}
-
-// The message that a line comes to waits behind the others. It will be told by how the session stands at this moment. False
-// where the line comes to anything else too, or for want of memory: nothing waits then.
-fn queue_message<S: Connection>(
-    queue: &mut PutQueue,
-    servers: &mut Servers<S>,
-    number: usize,
-    effects: &ServerEffects,
-) -> bool {
-    let Some(put) = effects.only_put() else {
-        return false;
-    };
-    if !servers.is_settled(number) {
-        return false;
-    }
-    match servers.live(number, &put) {
-        Some(live) => queue.add(&live).is_ok(),
-        None => false,
-    }
 }
 
 // Puts the messages that wait, as one list, and tells them. False where the node refuses some: these are told to nobody, and the
@@ -281,8 +246,7 @@ fn put_from<
     number: usize,
     put: &ServerPut<'_>,
 ) -> bool {
-    let done = put_of_server(&mut publisher.node, &context.view, put);
-    if publisher.note_put(context, done, 1) == 0 {
+    if !publisher.put_of_server(context, put) {
         return false;
     }
     if let (Some(network), Some(live)) = (servers.network(number), servers.live(number, put)) {

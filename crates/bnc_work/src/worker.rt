@@ -1,12 +1,12 @@
 //! One worker: what comes, and who has something to do.
 use crate::client_turns::serve_clients;
+use crate::gated_node::GatedNode;
 use crate::marker_turns::tell_mark;
 use crate::peer_turns::serve_peers;
-use crate::publisher::Publisher;
 use crate::server_turns::{do_said, do_server, serve_server};
 use crate::standings::{spread, tell_entry};
 use crate::work_port::{PortClients, PortPeers, PortServers, WorkPort};
-use bnc_ports::{Carries, Connection, Dial, Gate, Happening, Port};
+use bnc_ports::{Connection, Dial, Gate, Happening, Port};
 use byte_text::NoMemory;
 use chat_change::Moment;
 use client_places::Attachment;
@@ -15,10 +15,10 @@ use passed_lines::{Mail, is_another_behind, keep_entry};
 use shared_node::{Naming, NodeTaker, Pass, SharedNode};
 use std::sync::Wait;
 use work_clients::Clients;
-use work_peers::{Peers, ToPeer};
+use work_peers::Peers;
 use work_servers::Servers;
 use worker_io::{Beginning, Context, NodeView, Timer, WorkEnd, WorkerConfig, clock};
-use worker_node::{GatedNode, Node};
+use worker_node::{Node, Publisher};
 
 /// A worker looks after its timers at least so often, in milliseconds.
 const LONGEST: u64 = 60_000;
@@ -236,8 +236,7 @@ fn take_happenings<N: Node, X: Attachment, P: WorkPort>(
     servers: &mut PortServers<P>,
     peers: &mut PortPeers<P>,
 ) -> Result<(), WorkEnd> {
-    let is_busy =
-        publisher.has_published || clients.busy_count() > 0 || peers.busy_count() > 0;
+    let is_busy = publisher.has_published || clients.busy_count() > 0 || peers.busy_count() > 0;
     let mut patience = if is_busy {
         0
     } else {
@@ -373,25 +372,9 @@ fn look_after_timers<N: Node, X: Attachment, P: WorkPort>(
             Timer::RetryPeer(_)
             | Timer::UnansweredPacket(_)
             | Timer::QuietPeer(_)
-            | Timer::AbsentPeer(_) => look_after_peer(&mut publisher.node, context, peers, timer),
+            | Timer::AbsentPeer(_) => peers.look_after(context, publisher.node.reader(), timer),
             Timer::Floors => publisher.put_floors(context),
             Timer::Publish => publisher.publish(context),
         }
-    }
-}
-
-// What is due of a peer.
-fn look_after_peer<N: Node, E: Connection, P: Carries<ToPeer, Connection = E>>(
-    node: &mut N,
-    context: &mut Context<P>,
-    peers: &mut Peers<E>,
-    timer: Timer,
-) {
-    match timer {
-        Timer::RetryPeer(place) => peers.dial(context, place),
-        Timer::UnansweredPacket(number) => peers.check_answered(context, number, node.pass()),
-        Timer::QuietPeer(number) => peers.check_quiet(context, number),
-        Timer::AbsentPeer(place) => peers.check_absent(context, place),
-        _ => {}
     }
 }

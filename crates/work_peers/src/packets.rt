@@ -123,7 +123,7 @@ impl<C: Connection> Peers<C> {
     }
 
     /// A packet waited long enough for its acknowledgement: it is made again, or the connection is closed.
-    pub fn check_answered<P: Carries<ToPeer, Connection = C>, S: Source>(
+    pub(crate) fn check_answered<P: Carries<ToPeer, Connection = C>, S: Source>(
         &mut self,
         context: &mut Context<P>,
         number: usize,

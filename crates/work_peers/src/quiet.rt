@@ -2,6 +2,7 @@
 use crate::peer::Peer;
 use crate::peers::Peers;
 use bnc_ports::{Carries, Connection, Event, Port, Reason};
+use chat_history::Source;
 use peer_connection::ToPeer;
 use worker_io::{Context, Timer};
 
@@ -28,10 +29,26 @@ impl<C: Connection> Peer<C> {
 }
 
 impl<C: Connection> Peers<C> {
+    /// What is due of a peer by a timer. Packets are made of what the source holds.
+    pub fn look_after<P: Carries<ToPeer, Connection = C>, S: Source>(
+        &mut self,
+        context: &mut Context<P>,
+        source: &mut S,
+        timer: Timer,
+    ) {
+        match timer {
+            Timer::RetryPeer(place) => self.dial(context, place),
+            Timer::UnansweredPacket(number) => self.check_answered(context, number, source),
+            Timer::QuietPeer(number) => self.check_quiet(context, number),
+            Timer::AbsentPeer(place) => self.check_absent(context, place),
+            _ => {}
+        }
+    }
+
     /// Looks at a connection that is greeted: where nothing came over it for five minutes it is closed, and where the peer was
     /// owed nothing for 60 seconds the own hello waits for it again. Where no packet came for ten seconds, the two may be level.
     /// It is looked at again once one of these is due.
-    pub fn check_quiet<P: Carries<ToPeer, Connection = C>>(
+    pub(crate) fn check_quiet<P: Carries<ToPeer, Connection = C>>(
         &mut self,
         context: &mut Context<P>,
         number: usize,
@@ -65,7 +82,7 @@ impl<C: Connection> Peers<C> {
     }
 
     /// Tells the operator of the peer at that place, where this node is to open a connection with it and there is none.
-    pub fn check_absent<P: Port>(&self, context: &mut Context<P>, place: usize) {
+    pub(crate) fn check_absent<P: Port>(&self, context: &mut Context<P>, place: usize) {
         if !self.is_wanted(place) {
             return;
         }

@@ -3,7 +3,7 @@ use crate::kept_line::LineRoom;
 use crate::server::Server;
 use bnc_ports::{Connection, Reason};
 use byte_text::{NoMemory, Text};
-use passed_lines::{Live, ServerPut};
+use passed_lines::{Live, PutQueue, ServerEffects, ServerPut};
 use std::alloc::Global;
 use worker_io::Connections;
 
@@ -109,9 +109,29 @@ impl<C: Connection> Servers<C> {
         self.connections.get(number)?.dialogue.session().live(put)
     }
 
-    /// Whether the last line that was taken changed nothing that others are told: the session over that connection stands as all
-    /// workers know it, and joined no channel.
-    pub fn is_settled(&mut self, number: usize) -> bool {
+    /// The message that a line comes to waits behind the others. It will be told by how the session over that connection stands at
+    /// this moment. False where the line comes to anything else too, or for want of memory: nothing waits then.
+    pub fn queue_message(
+        &mut self,
+        queue: &mut PutQueue,
+        number: usize,
+        effects: &ServerEffects,
+    ) -> bool {
+        let Some(put) = effects.only_put() else {
+            return false;
+        };
+        if !self.is_settled(number) {
+            return false;
+        }
+        match self.live(number, &put) {
+            Some(live) => queue.add(&live).is_ok(),
+            None => false,
+        }
+    }
+
+    // Whether the last line that was taken changed nothing that others are told: the session over that connection stands as all
+    // workers know it, and joined no channel.
+    fn is_settled(&mut self, number: usize) -> bool {
         match self.connections.get_mut(number) {
             Some(server) => server.joined.is_none() && !server.has_changed(),
             None => false,

@@ -4,7 +4,7 @@ use crate::kind::ToServer;
 use crate::server::ServerStep;
 use crate::servers::Servers;
 use crate::standing::Standing;
-use bnc_ports::{Carries, Connection, Event, Port};
+use bnc_ports::{Carries, Connection, Event, Port, Reason};
 use byte_text::NoMemory;
 use passed_lines::{Said, SayFault, ServerEffects};
 use work_lines::Pumped;
@@ -97,9 +97,23 @@ impl<C: Connection> Servers<C> {
         }
     }
 
-    /// Writes what waits for the server, by one write, and closes the connection where that is due. Further lines of the server
-    /// may be there already.
-    pub fn finish<P: Port + Carries<ToServer, Connection = C>>(
+    /// The turn of a server ends. Where its connection is over, that is closed. Else what waits for it is written.
+    pub fn end_turn<P: Port + Carries<ToServer, Connection = C>>(
+        &mut self,
+        context: &mut Context<P>,
+        number: usize,
+        over: Option<Reason>,
+        has_more: bool,
+    ) -> Option<Standing> {
+        match over {
+            Some(reason) => self.close(context, number, reason),
+            None => self.finish(context, number, has_more),
+        }
+    }
+
+    // Writes what waits for the server, by one write, and closes the connection where that is due. Further lines of the server
+    // may be there already.
+    fn finish<P: Port + Carries<ToServer, Connection = C>>(
         &mut self,
         context: &mut Context<P>,
         number: usize,

@@ -1,2 +1,1 @@
 pub mod PuttingLemmas
-pub mod TakingLemmas

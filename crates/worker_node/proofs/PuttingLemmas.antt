@@ -1,13 +1,11 @@
 -- What is put is put by right.
-use Rattle.std.proofs.Common.{◌≡◌, ℕ, List, [], ◌∷◌, sym, subst, Result, Ok, Err, IfOk}
+use Rattle.std.proofs.Common.{◌≡◌, ℕ, List, [], ◌∷◌, sym, subst}
 use Rattle.std.proofs.Math.Logic.{∥∥₁_map}
 use Rattle.std.specs.List.{AllByRecursion}
 use Rattle.chat_change.specs.declared.change.Change.{Change}
-use Rattle.chat_history.specs.History.{norm}
-use Rattle.chat_history.specs.Retention as retention
 use Rattle.passed_lines.specs.Passing.{IsPutBy, IsPutBySome}
 use Rattle.client_connection.specs.Marking.{IsMarkedBy}
-use Rattle.worker_node.specs.Putting.{MayBePut, OfClient, OfServers, Floors}
+use Rattle.worker_node.specs.Putting.{MayBePut, OfClient, OfServers}
 
 -- by a client
 pub by_client : {now days : ℕ} {change : Change} {changes : List Change} → changes ≡ change ∷ [] → ∥ IsMarkedBy change ∥₁ → ∥ MayBePut now days changes ∥₁
@@ -20,12 +18,3 @@ by_server {now} {days} {change} {changes} account network is put = ∣ subst (Ma
 -- by several
 pub by_servers : {now days : ℕ} {queue changes : List Change} → changes ≡ queue → AllByRecursion (λ change. ∥ IsPutBySome change ∥₁) queue → ∥ MayBePut now days changes ∥₁
 by_servers {now} {days} {queue} is put = ∣ subst (MayBePut now days) (sym is) (OfServers queue put) ∣₁
-
--- floors that are due
-pub as_due : {now days : ℕ} {floors : List Change} (changes : List Change) → floors ≡ retention.due_floors (norm changes) now days → ∥ MayBePut now days floors ∥₁
-as_due {now} {days} {floors} changes is = ∣ subst (MayBePut now days) (sym is) (Floors changes) ∣₁
-
--- floors that are due, or none where they couldn't be read
-pub due_or_not : {X E : Type 0} (now days : ℕ) (result : Result X E) (items : X → List Change) (changes : List Change) → IfOk result (λ (x : X). items x ≡ retention.due_floors (norm changes) now days) → IfOk result (λ (x : X). ∥ MayBePut now days (items x) ∥₁)
-due_or_not now days (Ok x) items changes is = as_due changes is
-due_or_not now days (Err fault) items changes is = tt

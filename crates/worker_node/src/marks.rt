@@ -32,9 +32,9 @@ fn has_buffer(marks: &[MarkAhead], buffer: &Buffer) -> bool {
 
 // The node's marker of a buffer, in milliseconds. None also where the node can't be read.
 fn mark_now<N: Node>(node: &mut N, buffer: &Buffer) -> Option<u64> {
-    match node.pass().marker(buffer) {
-        Ok(Some(mark)) => Some(mark.ms()),
-        Ok(None) | Err(_) => None,
+    match node.marker(buffer) {
+        Some(mark) => Some(mark.ms()),
+        None => None,
     }
 }
 

@@ -1,18 +1,34 @@
 //! What a worker asks of its node.
-ghost use Rattle.std.specs.Prelude.{◌≡◌, ◌⊎◌, List, ℕ, IfOk, OnErr};
+ghost use Rattle.std.specs.Prelude.{◌⊎◌, List, ℕ, IfOk, OnErr};
 ghost use Rattle.chat_change.specs.declared.change.Change.{Change as Piece};
-ghost use Rattle.change_log.specs.Lists.{changes_in};
 ghost use Rattle.peer_connection.specs.Taking.{IsTakenFromPeer};
 ghost use Rattle.worker_node.specs.Putting.{MayBePut};
 
-use bnc_ports::{Connection, Gate, Port};
+use bnc_ports::{Connection, Port};
 use byte_text::NoMemory;
-use chat_change::Change;
+use chat_change::{Buffer, Change, Moment};
+use chat_history::{DeltaFault, Peek, Source};
+use chat_past::Past;
 use peer_session::Outcome;
-use shared_node::{Naming, NodeTaker, Pass, PutFault};
 use std::sync::Wait;
 use work_peers::Peers;
 use worker_io::{Context, NodeView};
+
+/// What a put came to.
+#[derive(Clone, Copy)]
+pub struct PutOutcome {
+    /// How many of the changes, the first ones, the node has now, also where they only wait to be published.
+    pub count: usize,
+    /// Whether all that was put by now is published.
+    pub is_published: bool,
+}
+
+impl PutOutcome {
+    /// Whether some of the changes wait to be published.
+    pub fn is_waiting(self) -> bool {
+        !self.is_published && self.count > 0
+    }
+}
 
 /// A worker's way into its node. It may wait. What comes into the node by it is put by right, or was sent by a peer that had
 /// greeted: there is no other call that brings changes.
@@ -23,14 +39,22 @@ pub trait Node: Wait + Drop {
     /// What others may give it meanwhile.
     ghost may_add: { Self → List Piece → Type 0 };
 
-    /// The name of the node.
-    type Name: Naming;
+    /// What the worker reads by.
+    type Reader: Past + Peek + Source;
 
     /// What the worker reads by.
-    fn pass(&mut self) -> &mut Pass<Self::Name>;
+    fn reader(&mut self) -> &mut Self::Reader;
 
-    /// Puts changes that may be put at the view's moment ([`NodeTaker::put`]).
-    fn put(&mut self, view: &NodeView, changes: &[Change]) -> Result<(), PutFault>
+    /// The read marker of a buffer. None also where the node can't be read.
+    fn marker(&mut self, buffer: &Buffer) -> Option<Moment>;
+
+    /// The floors that are due at the view's moment.
+    fn due_floors(&mut self, view: &NodeView) -> Result<Vec<Change>, DeltaFault>
+        ensures { IfOk result (λ floors.
+            ∥ MayBePut view.entry.now.moment view.entry.now.retain_days floors.items ∥₁) };
+
+    /// Puts changes that may be put at the view's moment, and publishes them with all that waits.
+    fn put(&mut self, view: &NodeView, changes: &[Change]) -> PutOutcome
         requires { ∥ MayBePut view.now.moment view.now.retain_days changes.now ∥₁ };
 
     /// Takes what a peer sent over that connection, once the two have greeted each other ([`Peers::arrive`]).
@@ -46,45 +70,4 @@ pub trait Node: Wait + Drop {
 
     /// Whether the worker may answer.
     fn may_answer(&self, worker: usize) -> bool;
-}
-
-/// A node that many workers share, and the gate that is asked before each of their answers.
-#[derive(Drop)]
-pub struct GatedNode<'a, J: Naming, R: Wait + Drop, W: Wait, G: Gate> {
-    pub taker: NodeTaker<'a, J, R, W>,
-    pub gate: &'a G,
-}
-
-impl<'a, J: Naming, R: Wait + Drop, W: Wait, G: Gate> Wait for GatedNode<'a, J, R, W, G> {}
-
-impl<'a, J: Naming, R: Wait + Drop, W: Wait, G: Gate> Node for GatedNode<'a, J, R, W, G> {
-    ghost holds = { λ n start list. (start ≡ 0) × (list ≡ changes_in n.taker.pass.list) };
-
-    ghost may_add = { λ _ _. Unit {0} };
-
-    type Name = J;
-
-    fn pass(&mut self) -> &mut Pass<J> {
-        &mut self.taker.pass
-    }
-
-    fn put(&mut self, _view: &NodeView, changes: &[Change]) -> Result<(), PutFault> {
-        match self.taker.put(changes) {
-            Ok(_receipt) => Ok(()),
-            Err(fault) => Err(fault),
-        }
-    }
-
-    fn take<C: Connection, P: Port>(
-        &mut self,
-        peers: &mut Peers<C>,
-        context: &mut Context<P>,
-        number: usize,
-    ) -> Result<Outcome, NoMemory> {
-        peers.arrive(context, number, &mut self.taker)
-    }
-
-    fn may_answer(&self, worker: usize) -> bool {
-        self.gate.before_answer(worker)
-    }
 }

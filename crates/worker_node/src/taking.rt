@@ -8,7 +8,7 @@ use work_peers::{Peers, ToPeer};
 use worker_io::Context;
 
 /// Takes the message that came over a connection with a peer. True where the node has something new by it.
-pub fn take_into<N: Node, C: Connection, P: Carries<ToPeer, Connection = C>>(
+pub(crate) fn take_into<N: Node, C: Connection, P: Carries<ToPeer, Connection = C>>(
     node: &mut N,
     context: &mut Context<P>,
     peers: &mut Peers<C>,
@@ -21,7 +21,7 @@ pub fn take_into<N: Node, C: Connection, P: Carries<ToPeer, Connection = C>>(
             publish_later(context);
             return true;
         }
-        Ok(Outcome::Known | Outcome::Ignored) => peers.advance(context, number, node.pass()),
+        Ok(Outcome::Known | Outcome::Ignored) => peers.advance(context, number, node.reader()),
         Err(NoMemory) => peers.close(context, number, Reason::NoMemory),
     }
     false

@@ -1,6 +1,6 @@
 use Rattle.std.proofs.Common.{ap}
-use Rattle.worker_node.proofs.TakingLemmas.{ok_taken, err_taken}
-use Rattle.worker_node.proofs.node.GatedNodeNode.take.Goals as goal
+use Rattle.bnc_work.proofs.TakingLemmas.{ok_taken, err_taken}
+use Rattle.bnc_work.proofs.gated_node.GatedNodeNode.take.Goals as goal
 
 pub returns-clause-taken : goal.returns-clause-taken
 returns-clause-taken g c =

@@ -1,0 +1,2 @@
+pub mod FloorsLemmas
+pub mod TakingLemmas
