@@ -12,8 +12,8 @@ use irc_time::{Moment, write_time};
 use mio::event::Event as Readiness;
 use mio::net::TcpStream;
 use mio::{Events, Interest, Poll, Token, Waker};
-use slab::Slab;
 use std::alloc::AllocError;
+use std::collections::BTreeMap;
 use std::io::Eprint;
 use std::net::{Net, SocketAddr};
 use std::sync::{Arc, Wait};
@@ -76,7 +76,9 @@ pub struct SocketPort<R: Wait + Drop, M: Drop> {
     deliveries: Receiver<Delivery<M>>,
     newcomers: Receiver<Newcomer>,
     mailboxes: Vec<Mailbox<M>>,
-    sockets: Slab<Socket>,
+    sockets: BTreeMap<usize, Socket>,
+    // The number of the next socket. No two have the same one, so what was meant for a socket that is gone reaches no other.
+    number: usize,
     addresses: Addresses,
 }
 
@@ -96,6 +98,7 @@ impl<R: Wait + Drop, M: Drop> Drop for SocketPort<R, M> {
             newcomers: _,
             mailboxes: _,
             sockets: _,
+            number: _,
             addresses: _,
         } = self;
     }
@@ -122,7 +125,7 @@ impl<R: Net + Wait + Clock + Eprint + AllocGlobal + Drop, M: Drop> SocketPort<R,
         addresses: Addresses,
     ) -> Result<SocketPort<R, M>, AllocError> {
         let events = Events::with_capacity(rt.alloc(), EVENTS)?;
-        let sockets = Slab::new(rt.alloc());
+        let sockets = BTreeMap::new(rt.alloc());
         Ok(SocketPort {
             rt,
             poll,
@@ -136,6 +139,7 @@ impl<R: Net + Wait + Clock + Eprint + AllocGlobal + Drop, M: Drop> SocketPort<R,
             newcomers,
             mailboxes,
             sockets,
+            number: 0,
             addresses,
         })
     }
@@ -144,14 +148,16 @@ impl<R: Net + Wait + Clock + Eprint + AllocGlobal + Drop, M: Drop> SocketPort<R,
     fn add(&mut self, stream: TcpStream, address: SocketAddr, stage: Stage) -> Option<usize> {
         // Without it small lines wait for one another.
         let _ = stream.set_nodelay(true);
-        let Ok(number) = self.sockets.insert(Socket {
+        let number = self.number;
+        self.number = number.checked_add(1)?;
+        let socket = Socket {
             stream,
             address,
             stage,
-        })
-        else {
-            return None;
         };
+        if self.sockets.insert(number, socket).is_err() {
+            return None;
+        }
         if self.register(number) {
             return Some(number);
         }
@@ -160,7 +166,7 @@ impl<R: Net + Wait + Clock + Eprint + AllocGlobal + Drop, M: Drop> SocketPort<R,
     }
 
     fn register(&mut self, number: usize) -> bool {
-        let Some(socket) = self.sockets.get_mut(number) else {
+        let Some(socket) = self.sockets.get_mut(&number) else {
             return false;
         };
         let interests = Interest::READABLE | Interest::WRITABLE;
@@ -172,7 +178,7 @@ impl<R: Net + Wait + Clock + Eprint + AllocGlobal + Drop, M: Drop> SocketPort<R,
 
     // A stream that is dropped is closed, and leaves the poll.
     fn close_socket(&mut self, number: usize) {
-        drop(self.sockets.try_remove(number));
+        drop(self.sockets.remove(&number));
     }
 
     // What another worker handed in next.
@@ -264,13 +270,13 @@ impl<R: Net + Wait + Clock + Eprint + AllocGlobal + Drop, M: Drop> SocketPort<R,
         }
     }
 
-    // An event may be an old one, of a socket that is gone or whose number another one has now. None where it says nothing.
+    // An event may be an old one, of a socket that is gone. None where it says nothing.
     fn read_event(&mut self, event: &Readiness) -> Option<Happening<M>> {
         if event.token() == WAKER {
             return None;
         }
         let number = event.token().0;
-        let kept = self.sockets.get_mut(number)?;
+        let kept = self.sockets.get_mut(&number)?;
         if let Stage::Connecting(what) = kept.stage {
             return self.read_outcome(number, what);
         }
@@ -282,7 +288,7 @@ impl<R: Net + Wait + Clock + Eprint + AllocGlobal + Drop, M: Drop> SocketPort<R,
     }
 
     fn read_outcome(&mut self, number: usize, what: Dial) -> Option<Happening<M>> {
-        let kept = self.sockets.get_mut(number)?;
+        let kept = self.sockets.get_mut(&number)?;
         match kept.outcome() {
             Outcome::Pending => None,
             Outcome::Connected => {
@@ -334,7 +340,7 @@ impl<R: Net + Wait + Clock + Eprint + AllocGlobal + Drop, M: Drop> Port for Sock
 
     // What a worker opened is closed by its own value alone.
     fn give_up(&mut self, number: usize) {
-        match self.sockets.get(number) {
+        match self.sockets.get(&number) {
             Some(kept) if kept.stage != Stage::Open => self.close_socket(number),
             _ => {}
         }
@@ -393,7 +399,7 @@ impl<K: Kind, R: Net + Wait + Clock + Eprint + AllocGlobal + Drop, M: Drop> Carr
     type Connection = SocketConnection;
 
     fn open(&mut self, number: usize) -> Option<SocketConnection> {
-        let kept = self.sockets.get_mut(number)?;
+        let kept = self.sockets.get_mut(&number)?;
         if kept.open() {
             Some(SocketConnection::new(number))
         } else {
@@ -406,7 +412,7 @@ impl<K: Kind, R: Net + Wait + Clock + Eprint + AllocGlobal + Drop, M: Drop> Carr
         connection: &mut SocketConnection,
         buffer: &mut [u8],
     ) -> Result<usize, Halt> {
-        let Some(number) = self.sockets.get_mut(connection.number()) else {
+        let Some(number) = self.sockets.get_mut(&connection.number()) else {
             return Err(Halt::Closed);
         };
         let count = number.receive(buffer)?;
@@ -415,7 +421,7 @@ impl<K: Kind, R: Net + Wait + Clock + Eprint + AllocGlobal + Drop, M: Drop> Carr
     }
 
     fn send(&mut self, connection: &mut SocketConnection, bytes: &[u8]) -> Result<usize, Halt> {
-        let Some(number) = self.sockets.get_mut(connection.number()) else {
+        let Some(number) = self.sockets.get_mut(&connection.number()) else {
             return Err(Halt::Closed);
         };
         let count = number.send(bytes)?;
@@ -428,7 +434,7 @@ impl<K: Kind, R: Net + Wait + Clock + Eprint + AllocGlobal + Drop, M: Drop> Carr
     }
 
     fn address(&self, connection: &SocketConnection) -> Option<SocketAddr> {
-        match self.sockets.get(connection.number()) {
+        match self.sockets.get(&connection.number()) {
             Some(number) => Some(number.address),
             None => None,
         }
