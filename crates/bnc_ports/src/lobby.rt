@@ -3,8 +3,7 @@ ghost use Rattle.std.specs.Prelude.{◌≡◌, [], IfSome};
 
 use crate::waiting::Waiting;
 use client_places::{Attachment, Boxed};
-use crossbeam_channel::Receiver;
-use std::sync::Wait;
+use rtrb::Consumer;
 
 /// A client's attachment on its way to a worker. Tickets rise.
 #[derive(Drop)]
@@ -16,13 +15,13 @@ pub struct Arrival<X = Boxed> {
 /// The attachments that are on their way to a worker.
 #[derive(Drop)]
 pub struct Lobby<X = Boxed> {
-    arrivals: Receiver<Arrival<X>>,
+    arrivals: Consumer<Arrival<X>>,
     waiting: Waiting,
 }
 
 impl<X: Attachment> Lobby<X> {
-    /// A lobby at the end of that channel, for clients that wait to be registered.
-    pub fn new(arrivals: Receiver<Arrival<X>>, waiting: Waiting) -> Lobby<X> {
+    /// A lobby at the end of that ring, for clients that wait to be registered.
+    pub fn new(arrivals: Consumer<Arrival<X>>, waiting: Waiting) -> Lobby<X> {
         Lobby { arrivals, waiting }
     }
 
@@ -33,11 +32,11 @@ impl<X: Attachment> Lobby<X> {
 
     /// The attachment of that ticket. Those of lower tickets are dropped: their connections never came. None where it isn't
     /// there; one to which something is owed already is dropped too.
-    pub fn admit<R: Wait>(&mut self, rt: &R, ticket: u64) -> Option<X>
+    pub fn admit(&mut self, ticket: u64) -> Option<X>
         ensures { IfSome result (λ attachment. (X.state attachment).owed ≡ []) }
     {
         for _ in 0..usize::MAX {
-            let Ok(arrival) = self.arrivals.try_recv(rt) else {
+            let Ok(arrival) = self.arrivals.pop() else {
                 return None;
             };
             if arrival.ticket == ticket {

@@ -4,6 +4,7 @@ use client_places::{Attachment, Boxed};
 use crossbeam_channel::{SendError, Sender};
 use mio::Waker;
 use mio::net::TcpStream;
+use rtrb::Producer;
 use std::alloc::AllocError;
 use std::net::SocketAddr;
 use std::sync::{Arc, Wait};
@@ -90,17 +91,18 @@ impl<M: Drop> Mailbox<M> {
 pub struct WorkerIntake<M, X = Boxed> {
     mailbox: Mailbox<M>,
     newcomers: Sender<Newcomer>,
-    arrivals: Sender<Arrival<X>>,
+    // with room for as many as there are places
+    arrivals: Producer<Arrival<X>>,
     ticket: u64,
 }
 
 impl<M: Drop, X: Attachment> WorkerIntake<M, X> {
-    /// An intake of the worker of that mailbox, whose port is at the other end of the one channel, and its lobby at that of the
-    /// other.
+    /// An intake of the worker of that mailbox, whose port is at the other end of the channel, and its lobby at that of the ring.
+    /// The ring has room for an arrival from each place.
     pub fn new(
         mailbox: Mailbox<M>,
         newcomers: Sender<Newcomer>,
-        arrivals: Sender<Arrival<X>>,
+        arrivals: Producer<Arrival<X>>,
     ) -> WorkerIntake<M, X> {
         WorkerIntake {
             mailbox,
@@ -117,6 +119,17 @@ impl<M: Drop, X: Attachment> WorkerIntake<M, X> {
         Ok(())
     }
 
+    // Sends an attachment to the lobby. One that isn't taken is dropped.
+    fn send(&mut self, arrival: Arrival<X>) -> Result<(), PortFault> {
+        if self.arrivals.is_abandoned() {
+            return Err(PortFault);
+        }
+        match self.arrivals.push(arrival) {
+            Ok(()) => Ok(()),
+            Err(_) => Err(PortFault),
+        }
+    }
+
     /// Hands a client in: its attachment first, and then its stream. Its ticket is answered.
     pub fn hand_client<R: Wait>(
         &mut self,
@@ -127,7 +140,7 @@ impl<M: Drop, X: Attachment> WorkerIntake<M, X> {
     ) -> Result<u64, PortFault> {
         self.ticket = self.ticket.wrapping_add(1);
         let ticket = self.ticket;
-        sent(self.arrivals.send(rt, Arrival { ticket, attachment }))?;
+        self.send(Arrival { ticket, attachment })?;
         self.hand(
             rt,
             Newcomer::Client {

@@ -276,7 +276,7 @@ fn act_on<N: Node, X: Attachment, P: WorkPort>(
 ) -> Result<bool, WorkEnd> {
     match happening {
         Happening::Client { number, ticket } => {
-            clients.admit(&publisher.node, context, *number, *ticket);
+            clients.admit(context, *number, *ticket);
         }
         Happening::Leave { ticket } => clients.give_way(context, *ticket),
         Happening::Peer { number } => peers.begin(context, *number, None),

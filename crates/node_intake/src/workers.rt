@@ -10,6 +10,7 @@ use crossbeam_channel::{Receiver, Sender, unbounded};
 use mio::Poll;
 use node_config::{Config, Network, Peer};
 use passed_lines::Mail;
+use rtrb::{Producer, RingBuffer};
 use std::alloc::{AllocError, Global};
 use std::io::Eprint;
 use std::net::{Net, SocketAddr};
@@ -146,13 +147,14 @@ fn port_of<R: Net + Wait + Clock + Eprint + AllocGlobal + Copy + Drop>(
     SocketPort::new(*rt, poll, deliveries, newcomers, mailboxes, addresses)
 }
 
-// A lobby for a worker's clients, and where their attachments are sent.
+// A lobby for a worker's clients, of whom there are as many as places at most, and where their attachments are sent.
 fn lobby_of<X: Attachment>(
     alloc: Global,
     places: &ClientPlaces,
-) -> Result<(Sender<Arrival<X>>, Lobby<X>), ServeFault> {
+    count: usize,
+) -> Result<(Producer<Arrival<X>>, Lobby<X>), ServeFault> {
     let waiting = places.share_waiting()?;
-    let (sender, arrivals) = unbounded(alloc)?;
+    let (sender, arrivals) = RingBuffer::new(alloc, count)?;
     Ok((sender, Lobby::new(arrivals, waiting)))
 }
 
@@ -207,7 +209,7 @@ impl<R: Net + Wait + Clock + Eprint + AllocGlobal + Copy + Drop, X: Attachment> 
             mailbox,
             entrance,
         } = setup;
-        let lobby = self.add_intake(rt.alloc(), mailbox, entrance)?;
+        let lobby = self.add_intake(rt.alloc(), mailbox, entrance, config.limits.places)?;
         let port = port_of(rt, addresses, mailboxes, inbox)?;
         let worker_config = worker_config_of(rt.alloc(), config, incarnation, lobby)?;
         self.beginnings
@@ -216,14 +218,15 @@ impl<R: Net + Wait + Clock + Eprint + AllocGlobal + Copy + Drop, X: Attachment> 
         Ok(())
     }
 
-    // Adds an intake to a worker. It answers the lobby where the clients that come in by it arrive.
+    // Adds an intake to a worker, for so many clients at most. It answers the lobby where those that come in by it arrive.
     fn add_intake(
         &mut self,
         alloc: Global,
         mailbox: Mailbox<Mail>,
         entrance: Sender<Newcomer>,
+        count: usize,
     ) -> Result<Lobby<X>, ServeFault> {
-        let (arrivals, lobby) = lobby_of(alloc, &self.places)?;
+        let (arrivals, lobby) = lobby_of(alloc, &self.places, count)?;
         let intake = WorkerIntake::new(mailbox, entrance, arrivals);
         self.intakes.push(intake).map_err(AllocError::from)?;
         Ok(lobby)

@@ -5,6 +5,7 @@ use bnc_sockets::{Addresses, Delivery, Mailbox, Newcomer, SocketPort, WorkerInta
 use client_places::RingClient;
 use crossbeam_channel::{Receiver, Sender, unbounded};
 use mio::Poll;
+use rtrb::RingBuffer;
 use std::net::SocketAddr;
 
 /// What the two workers tell each other: a number.
@@ -94,8 +95,9 @@ pub(crate) fn two_ports<R: Machine>(rt: &R, peer: SocketAddr) -> TwoPorts<R> {
         copies,
         peer,
     );
-    let (sender, _) = unbounded(rt.alloc()).expect(rt, "memory");
-    let intake = WorkerIntake::new(other.mailbox, other.entrance, sender);
+    // no client comes in by it
+    let (arrivals, _) = RingBuffer::new(rt.alloc(), 1).expect(rt, "memory");
+    let intake = WorkerIntake::new(other.mailbox, other.entrance, arrivals);
     TwoPorts {
         first,
         second,

@@ -1,30 +1,27 @@
 //! Where the clients of a port of memory come in.
 use bnc_ports::{Arrival, Lobby, Waiting};
 use client_places::{Clerk, Places, RingClient, Stand};
-use crossbeam_channel::Sender;
+use rtrb::{Producer, RingBuffer};
 use std::alloc::Global;
-use std::sync::Wait;
 
 /// Where clients come in.
 #[derive(Drop)]
-pub struct Entrance<R: Wait + Drop> {
-    rt: R,
+pub struct Entrance {
     clerk: Clerk,
-    arrivals: Sender<Arrival<RingClient>>,
+    arrivals: Producer<Arrival<RingClient>>,
     /// Where they wait, until the worker begins.
     pub lobby: Option<Lobby<RingClient>>,
     // of the last client that came
     ticket: u64,
 }
 
-impl<R: Wait + Drop> Entrance<R> {
+impl Entrance {
     /// An entrance with so many places. None is want of memory.
-    pub fn new(rt: R, alloc: Global, places: usize) -> Option<Entrance<R>> {
+    pub fn new(alloc: Global, places: usize) -> Option<Entrance> {
         let clerk = Places::new(alloc, places).ok()?;
         let waiting = Waiting::new(alloc, places).ok()?;
-        let (arrivals, coming) = crossbeam_channel::unbounded(alloc).ok()?;
+        let (arrivals, coming) = RingBuffer::new(alloc, places).ok()?;
         Some(Entrance {
-            rt,
             clerk,
             arrivals,
             lobby: Some(Lobby::new(coming, waiting)),
@@ -43,7 +40,7 @@ impl<R: Wait + Drop> Entrance<R> {
             ticket: self.ticket.saturating_add(1),
             attachment: RingClient::new(alloc, stand, bound).ok()?,
         };
-        self.arrivals.send(&self.rt, arrival).ok()
+        self.arrivals.push(arrival).ok()
     }
 
     /// The next ticket, which is taken.

@@ -15,7 +15,7 @@ use std::thread::Threads;
 use std::time::Clock;
 
 /// A worker that is to begin: its pass, what it begins with, and its port.
-type Job<'a, J, R> = (Pass<J>, WorkerConfig<RingClient>, &'a mut MemoryPort<R>);
+type Job<'a, J> = (Pass<J>, WorkerConfig<RingClient>, &'a mut MemoryPort);
 
 // Puts so many posts.
 fn put_posts<J: Naming, R: Wait + Drop>(
@@ -31,12 +31,12 @@ fn put_posts<J: Naming, R: Wait + Drop>(
 }
 
 // A worker for each port.
-fn jobs<'a, J: Naming, R: Wait + Drop>(
+fn jobs<'a, J: Naming>(
     alloc: Global,
     passes: Vec<Pass<J>>,
     setting: Setting<'_>,
-    ports: &'a mut [MemoryPort<R>],
-) -> Option<Vec<Job<'a, J, R>>> {
+    ports: &'a mut [MemoryPort],
+) -> Option<Vec<Job<'a, J>>> {
     let mut all = Vec::new(alloc);
     for (pass, port) in passes.into_iter().zip(ports.iter_mut()) {
         let worker_config = worker_config_of(alloc, setting, &mut port.entrance.lobby)?;
@@ -50,7 +50,7 @@ fn run<J, R>(
     rt: &R,
     name: Unnamed,
     setting: Setting<'_>,
-    ports: &mut [MemoryPort<R>],
+    ports: &mut [MemoryPort],
 ) -> Option<Vec<WorkEnd>>
 where
     J: Naming + Send + Sync,
@@ -74,7 +74,7 @@ fn run_one<J: Naming, R>(
     rt: &R,
     worker: usize,
     node: &SharedNode<J, &R>,
-    all: Vec<Job<'_, J, R>>,
+    all: Vec<Job<'_, J>>,
     gate: &Latch<R>,
 ) -> Option<Vec<WorkEnd>>
 where
@@ -91,7 +91,7 @@ where
 fn run_all<J, R>(
     rt: &R,
     node: &SharedNode<J, &R>,
-    all: Vec<Job<'_, J, R>>,
+    all: Vec<Job<'_, J>>,
     gate: &Latch<R>,
 ) -> Option<Vec<WorkEnd>>
 where
@@ -112,20 +112,16 @@ fn name_of(end: WorkEnd) -> &'static str {
 }
 
 // Tells what came of the last act and how the work ended, and appends all that the port told.
-fn tell_end<R: Wait + Drop>(
-    port: &mut MemoryPort<R>,
-    end: WorkEnd,
-    told: &mut Vec<u8>,
-) -> Result<(), AllocError> {
+fn tell_end(port: &mut MemoryPort, end: WorkEnd, told: &mut Vec<u8>) -> Result<(), AllocError> {
     port.tell_lines()?;
     port.tell(name_of(end))?;
     told.extend_from_slice(port.told())
 }
 
 // What a script came to: with a line `--` between, where there are two workers.
-fn told_by<R: Wait + Drop>(
+fn told_by(
     alloc: Global,
-    ports: &mut [MemoryPort<R>],
+    ports: &mut [MemoryPort],
     ends: &[WorkEnd],
 ) -> Result<Vec<u8>, AllocError> {
     let mut told = Vec::new(alloc);
@@ -138,17 +134,10 @@ fn told_by<R: Wait + Drop>(
     Ok(told)
 }
 
-fn ports_of<R: Wait + Drop + Copy>(
-    rt: &R,
-    alloc: Global,
-    setting: Setting<'_>,
-    script: &str,
-) -> Option<Vec<MemoryPort<R>>> {
+fn ports_of(alloc: Global, setting: Setting<'_>, script: &str) -> Option<Vec<MemoryPort>> {
     let mut ports = Vec::new(alloc);
     for part in script.split("--\n") {
-        ports
-            .push(MemoryPort::new(*rt, alloc, setting, part)?)
-            .ok()?;
+        ports.push(MemoryPort::new(alloc, setting, part)?).ok()?;
     }
     Some(ports)
 }
@@ -159,7 +148,7 @@ where
     R: Threads + Wait + Clock + AllocGlobal + Copy + Send + Sync + Drop,
 {
     let alloc = rt.alloc();
-    let mut ports = ports_of(rt, alloc, setting, script)?;
+    let mut ports = ports_of(alloc, setting, script)?;
     let name = Unnamed::new(ports.len());
     let ends = run::<Brand, R>(rt, name, setting, ports.as_mut_slice())?;
     told_by(alloc, ports.as_mut_slice(), &ends).ok()

@@ -17,20 +17,19 @@ use std::alloc::{AllocError, Global};
 use std::io;
 use std::io::Write;
 use std::net::SocketAddr;
-use std::sync::Wait;
 
 /// A worker that asks more often than this what comes next does so for ever.
 const TURNS: u64 = 1_000_000;
 
 /// A port of memory. It plays an act where its worker has nothing to do and each other end took what it takes.
 #[derive(Drop)]
-pub struct MemoryPort<R: Wait + Drop> {
+pub struct MemoryPort {
     alloc: Global,
     script: Script,
     times: Times,
     lines: Lines,
     /// Where its clients come in.
-    pub entrance: Entrance<R>,
+    pub entrance: Entrance,
     // so often the worker asked what comes next
     turns: u64,
     workers: usize,
@@ -75,9 +74,9 @@ fn happening(number: usize, sign: Sign) -> Happening<Mail> {
     }
 }
 
-impl<R: Wait + Drop> MemoryPort<R> {
+impl MemoryPort {
     /// A port on which a script is played. None is want of memory.
-    pub fn new(rt: R, alloc: Global, setting: Setting<'_>, script: &str) -> Option<MemoryPort<R>> {
+    pub fn new(alloc: Global, setting: Setting<'_>, script: &str) -> Option<MemoryPort> {
         let script = Script::new(alloc, script).ok()?;
         let lines = Lines::new(alloc, setting.can_dial).ok()?;
         Some(MemoryPort {
@@ -85,7 +84,7 @@ impl<R: Wait + Drop> MemoryPort<R> {
             script,
             times: Times::new(setting.clock),
             lines,
-            entrance: Entrance::new(rt, alloc, setting.places)?,
+            entrance: Entrance::new(alloc, setting.places)?,
             turns: 0,
             workers: setting.workers,
             backlog: 0,
@@ -216,7 +215,7 @@ impl<R: Wait + Drop> MemoryPort<R> {
     }
 }
 
-impl<R: Wait + Drop> Port for &mut MemoryPort<R> {
+impl Port for &mut MemoryPort {
     type Mail = Mail;
 
     fn next(&mut self, patience: u64) -> Result<Happening<Mail>, PortFault> {
@@ -267,7 +266,7 @@ impl<R: Wait + Drop> Port for &mut MemoryPort<R> {
     }
 }
 
-impl<K: Kind, R: Wait + Drop> Carries<K> for &mut MemoryPort<R> {
+impl<K: Kind> Carries<K> for &mut MemoryPort {
     type Connection = MemoryConnection;
 
     fn open(&mut self, number: usize) -> Option<MemoryConnection> {

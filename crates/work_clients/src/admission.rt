@@ -6,7 +6,6 @@ use bnc_ports::{Carries, Connection, Event, Lobby, Port, Reason, Refusals};
 use client_connection::ToClient;
 use client_places::Attachment;
 use std::net::SocketAddr;
-use std::sync::Wait;
 use worker_io::{Closing, Context, PATIENCE, Timer};
 
 impl<X: Attachment, C: Connection> Admitted<X, C> {
@@ -115,16 +114,15 @@ impl<X: Attachment, C: Connection> Clients<X, C> {
     }
 
     /// A client came, whose attachment is under a ticket. Where it can't be taken in its connection is closed.
-    pub fn admit<W: Wait, P: Carries<ToClient, Connection = C>>(
+    pub fn admit<P: Carries<ToClient, Connection = C>>(
         &mut self,
-        rt: &W,
         context: &mut Context<P>,
         number: usize,
         ticket: u64,
     ) {
         // Where the port gives a number again, the connection that bore it before is closed.
         self.close(context, number, Reason::Closed);
-        let attachment = self.lobby.admit(rt, ticket);
+        let attachment = self.lobby.admit(ticket);
         let Some(connection) = context.port.open(number) else {
             return tell_refused(&mut self.refusals, context, None, Reason::Closed);
         };
