@@ -26,7 +26,7 @@ use chat_batch::Facts;
 use chat_change::{Buffer, Change, Extent};
 use client_session::{Account, Directory, Entry, Network};
 use gossip_delta::{ChangeLineFault, is_text, read_change_in};
-use gossip_link::{Ack, Life, LinkFault, NodeName, Packet};
+use gossip_link::{Ack, Life, LinkFault, NodeName};
 use irc_caps::CapSet;
 use std::alloc::Global;
 use std::io::Write;

@@ -14,7 +14,7 @@ use Rattle.gossip_link.specs.declared.handshake.Action.{Action}
 use Rattle.gossip_link.specs.declared.handshake.Action.TheVariants as act
 use Rattle.peer_session.specs.declared.heard.Heard.TheVariants.{Message, Close}
 use Rattle.gossip_link.specs.declared.handshake.Handshake.{Handshake}
-use Rattle.peer_session.specs.Session.{Session, Step, new, step, acted, handed_up, gathered, greeting, fault_of, is_close}
+use Rattle.peer_session.specs.Session.{Session, Step, new, step, acted, gathered, greeting, fault_of, is_close}
 use Rattle.peer_session.specs.Pace as pace
 use Rattle.peer_session.specs.Lines.{after_lines, last_step}
 

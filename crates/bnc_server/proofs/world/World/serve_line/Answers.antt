@@ -3,7 +3,7 @@ use Rattle.std.proofs.lemmas.List.{take_all}
 use Rattle.chat_change.specs.Words.{begins_with}
 use Rattle.change_lines.specs.ChangeLine.{read_change}
 use Rattle.bnc_server.specs.Command.{Command, command_of}
-use Rattle.bnc_server.specs.Request.{Request, of_change, of_command, of_client, is_change_line, request_in}
+use Rattle.bnc_server.specs.Request.{of_change, of_command, of_client, is_change_line, request_in}
 use Rattle.bnc_server.proofs.world.World.serve_line.Goals as goal
 
 change_asked : (bytes : List ℕ) → is_change_line bytes ≡ true → request_in bytes ≡ of_change (read_change bytes)
