@@ -206,6 +206,10 @@ impl MemoryPort {
         self.bring_stray(number)
     }
 
+    fn read_clocks(&self) -> Result<Clocks, PortFault> {
+        self.times.read()
+    }
+
     // Begins a connection.
     fn begin(&mut self, what: Dial) -> Option<usize> {
         let number = self.lines.begin(what)?;
@@ -258,7 +262,7 @@ impl Port for &mut MemoryPort {
     }
 
     fn clocks(&mut self) -> Result<Clocks, PortFault> {
-        self.times.read()
+        (**self).read_clocks()
     }
 
     fn report(&mut self, event: &Event<'_>) {
