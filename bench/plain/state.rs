@@ -23,7 +23,7 @@ fn moment(number: u64, order: Order) -> u64 {
 }
 
 fn mixed(number: u64) -> u64 {
-    number.wrapping_mul(11_400_714_819_323_198_485) >> 24
+    number.wrapping_mul(2_654_435_769) % 4_294_967_296
 }
 
 fn id_text(number: u64) -> String {

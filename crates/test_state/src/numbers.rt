@@ -42,8 +42,10 @@ pub fn put_delta(alloc: Global, state: &State, from: u64, out: &mut Vec<u8>) -> 
 
 // A piece, with or without its number.
 fn put_piece(piece: &str, numbered: bool, out: &mut Vec<u8>) -> io::Result<()> {
-    let (_, line) = piece.split_once(" ").unwrap_or((piece, ""));
-    let shown = if numbered { piece } else { line };
+    let shown = match piece.split_once(" ") {
+        Some((_, line)) if !numbered => line,
+        _ => piece,
+    };
     write!(out, "{shown};")
 }
 

@@ -85,7 +85,7 @@ fn put_shown(
     out: &mut Vec<u8>,
 ) -> Result<(), Error> {
     put_front(state, out)?;
-    out.push(b' ')?;
+    out.extend_from_slice(b" ")?;
     put_channels(alloc, state, sight.ids, sight.channels, out)?;
     put_delta(alloc, state, 0, out)
 }

@@ -42,7 +42,7 @@ struct Task<'a> {
 
 /// A number that follows no order.
 fn mixed(number: u64) -> u64 {
-    number.wrapping_mul(11_400_714_819_323_198_485) >> 24
+    number.wrapping_mul(2_654_435_769) % 4_294_967_296
 }
 
 /// Buffers of the account demo.
