@@ -1,6 +1,4 @@
 //! The port of a worker over sockets.
-ghost use Rattle.std.specs.Prelude.{◌≡◌, ◌≤◌, ◌++◌, [], length, take, IfOk, IfSome, OnErr};
-ghost use Rattle.bnc_ports.specs.Outgoing.{BeginsOf};
 
 use crate::connection::SocketConnection;
 use crate::handing::{Delivery, Mailbox, Newcomer};

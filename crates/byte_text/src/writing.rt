@@ -1,5 +1,4 @@
 //! Output to any writer.
-ghost use Rattle.std.specs.Prelude.{length, take};
 ghost use Rattle.byte_text.specs.Writes.{Writes};
 
 use std::io;

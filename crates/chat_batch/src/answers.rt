@@ -1,5 +1,5 @@
 //! Questions about the past, and their answers.
-ghost use Rattle.std.specs.Prelude.{◌≡◌, Err, List, IfOk, codes};
+ghost use Rattle.std.specs.Prelude.{◌≡◌, Err, List, IfOk};
 ghost use Rattle.byte_text.specs.Writes.{Writes};
 ghost use Rattle.chat_change.specs.declared.change.Change.{Change};
 ghost use Rattle.chat_history.specs.History.{norm};

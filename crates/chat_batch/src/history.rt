@@ -1,5 +1,5 @@
 //! Answers to CHATHISTORY (IRCv3 draft/chathistory).
-ghost use Rattle.std.specs.Prelude.{◌≡◌, codes, map, if◌then◌else◌};
+ghost use Rattle.std.specs.Prelude.{◌≡◌, map, if◌then◌else◌};
 ghost use Rattle.byte_text.specs.Writes.{Writes};
 ghost use Rattle.chat_page.specs.Answer.{value_of};
 ghost use Rattle.chat_past.specs.Answers as spec;

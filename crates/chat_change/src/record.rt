@@ -1,5 +1,5 @@
 //! Records: messages that were posted.
-ghost use Rattle.std.specs.Prelude.{◌≡◌, ◌≤◌, true, length, [], IfOk, IfErr, None};
+ghost use Rattle.std.specs.Prelude.{◌≡◌, true, [], IfOk, IfErr, None};
 ghost use Rattle.chat_change.specs.Words.{is_target, is_source, is_body, MayBeTags};
 ghost use Rattle.chat_change.specs.Message.{value_of, sent_line, IsLawfulMessage};
 ghost use Rattle.chat_change.specs.Faults.{record_fault, tagged_fault, fault_or_no_memory};

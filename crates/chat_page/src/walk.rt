@@ -1,6 +1,5 @@
 //! Walks between two cuts of a buffer, which look at no more records than they answer, and one more.
 ghost use Rattle.std.specs.Prelude.{◌≡◌, IfOk, map, take, reverse};
-ghost use Rattle.chat_history.specs.Cut.{after as after_cut, before as before_cut};
 ghost use Rattle.chat_history.specs.Visible.{records_in};
 ghost use Rattle.chat_page.specs.Cuts.{between_cuts};
 ghost use Rattle.chat_past.specs.Page.{last};

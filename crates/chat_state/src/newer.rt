@@ -1,6 +1,6 @@
 //! The pieces that are newer than a number.
 
-ghost use Rattle.std.specs.Prelude.{◌≡◌, map, IfOk};
+ghost use Rattle.std.specs.Prelude.{map, IfOk};
 ghost use Rattle.chat_state.specs.Piece.{entry_of};
 ghost use Rattle.chat_history.specs.Newer.{AreFirstNewer};
 

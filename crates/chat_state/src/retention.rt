@@ -1,6 +1,6 @@
 //! Which floors are due.
 
-ghost use Rattle.std.specs.Prelude.{◌≡◌, ◌++◌, ◌∷◌, [], IfOk, if◌then◌else◌, map};
+ghost use Rattle.std.specs.Prelude.{◌≡◌, ◌++◌, ◌∷◌, [], IfOk, if◌then◌else◌};
 ghost use Rattle.chat_history.specs.History.{IsKeyed};
 ghost use Rattle.chat_history.specs.Retention as spec;
 ghost use Rattle.chat_buffers.specs.Store.{history_in};

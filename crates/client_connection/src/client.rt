@@ -1,5 +1,5 @@
 //! One client.
-ghost use Rattle.std.specs.Prelude.{◌≡◌, [], IfOk, OnErr, IfSome, drop};
+ghost use Rattle.std.specs.Prelude.{◌≡◌, [], drop};
 ghost use Rattle.client_connection.specs.Served.{IsServed};
 
 use bnc_ports::Connection;

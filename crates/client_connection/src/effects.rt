@@ -1,6 +1,5 @@
 //! What a client's line comes to, one thing after the other.
 ghost use Rattle.std.specs.Prelude.{◌≡◌, true, IfSome, drop, length, ◌∷◌, ◌+◌, ◌<◌};
-ghost use Rattle.passed_lines.specs.Saying.{IsSaidFor};
 ghost use Rattle.client_connection.specs.Course.{IsAct};
 ghost use Rattle.client_connection.specs.Marking.{IsMarkedBy};
 

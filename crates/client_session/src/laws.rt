@@ -1,6 +1,6 @@
 //! What holds of every list of lines, each with the directory of its moment, and of the lines that were too long and the
 //! answers between them.
-ghost use Rattle.std.specs.Prelude.{◌≡◌, ◌≤◌, ◌++◌, ◌∷◌, [], List, ℕ, Some, true, false};
+ghost use Rattle.std.specs.Prelude.{◌≡◌, ◌≤◌, [], List, ℕ, Some, true, false};
 ghost use Rattle.std.specs.List.{AllByRecursion};
 ghost use Rattle.irc_line.specs.declared.line.TagLimit.{TagLimit};
 ghost use Rattle.chat_change.specs.Record.{Record};

@@ -1,5 +1,5 @@
 //! A session after its registration.
-ghost use Rattle.std.specs.Prelude.{◌≡◌, ◌∷◌, [], map, take, codes, IfOk, OnErr, None};
+ghost use Rattle.std.specs.Prelude.{◌≡◌, ◌∷◌, [], map, codes, IfOk, OnErr, None};
 ghost use Rattle.std.specs.Option.{option_copied};
 ghost use Rattle.irc_reply.specs.Reply.{unknown_text};
 ghost use Rattle.irc_reply.specs.Reply.{plain_line};

@@ -1,5 +1,5 @@
 //! A session before its registration (RFC 2812, section 3.1).
-ghost use Rattle.std.specs.Prelude.{◌≡◌, ◌<◌, ◌++◌, ◌∷◌, [], length, map, IfOk, IfSome, Some};
+ghost use Rattle.std.specs.Prelude.{◌≡◌, ◌<◌, ◌++◌, [], map, IfOk, Some};
 ghost use Rattle.std.specs.Option.{option_copied};
 ghost use Rattle.client_session.specs.Step as steps;
 ghost use Rattle.client_session.specs.Registration as spec;

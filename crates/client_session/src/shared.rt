@@ -1,7 +1,6 @@
 //! What the commands have in common before registration and after it.
 ghost use Rattle.std.specs.Prelude.{◌≡◌, ◌∷◌, [], ◌++◌, map, IfOk, Some, None};
 ghost use Rattle.client_session.specs.Step as spec;
-ghost use Rattle.client_session.specs.declared.effect.Effect.TheVariants as effects;
 
 use crate::effect::Effect;
 use byte_text::{NoMemory, Text};

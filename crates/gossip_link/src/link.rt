@@ -1,7 +1,6 @@
 //! Links: what a node knows of one peer, and what each message does to it.
-ghost use Rattle.std.specs.Prelude.{◌≡◌, ◌++◌, ◌⊎◌, ◌↔◌, ℕ, List, true, false, None};
+ghost use Rattle.std.specs.Prelude.{◌≡◌, ◌++◌, ◌⊎◌, ◌↔◌, ℕ, true, false, None};
 ghost use Rattle.std.specs.Prelude.{IfOk, IfErr, OnOk, OnErr, take, if◌then◌else◌};
-ghost use Rattle.chat_change.specs.declared.change.Change.{Change as Piece};
 ghost use Rattle.chat_history.specs.Numbering.{delta};
 ghost use Rattle.chat_history.specs.Growth.{AfterOthers};
 ghost use Rattle.node_terms.specs.Names.{same_name};

@@ -1,7 +1,5 @@
 //! Reading the lists of accounts and networks.
 ghost use Rattle.std.specs.Prelude.{◌≡◌, true, false, IfOk, OnOk};
-ghost use Rattle.std.specs.List.{list_any};
-ghost use Rattle.std.specs.Str.{bytes_eq};
 ghost use Rattle.node_config.specs.Differing as spec;
 ghost use Rattle.node_config.specs.Meaning.{IsAccountOf, IsNetworkOf};
 ghost use Rattle.node_config.specs.Meaning.{AreAccountsOf, AreNetworksOf};

@@ -1,5 +1,5 @@
 //! Reading the list of peers.
-ghost use Rattle.std.specs.Prelude.{◌≡◌, true, false, IfOk, OnOk};
+ghost use Rattle.std.specs.Prelude.{◌≡◌, true, false, IfOk};
 ghost use Rattle.node_config.specs.Differing as spec;
 ghost use Rattle.node_config.specs.Meaning.{IsPeerOf, ArePeersOf};
 ghost use Rattle.node_config.specs.Sections.{table_of};

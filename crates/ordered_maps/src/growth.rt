@@ -1,7 +1,7 @@
 //! Changes of one map of `std`, which drop what they don't keep.
 
-ghost use Rattle.std.specs.Prelude.{◌≡◌, IsTrue, OnOk, OnErr, IfOk, IsSome, false};
-ghost use Rattle.ordered_maps.specs.MapView.{get, IsWith, IsWithout};
+ghost use Rattle.std.specs.Prelude.{◌≡◌, IsTrue, OnOk, OnErr, IfOk, false};
+ghost use Rattle.ordered_maps.specs.MapView.{get, IsWith};
 
 use std::alloc::AllocError;
 use std::collections::BTreeMap;

@@ -1,5 +1,5 @@
 //! Lines that are passed on.
-ghost use Rattle.std.specs.Prelude.{◌≡◌, IfOk};
+ghost use Rattle.std.specs.Prelude.{◌≡◌};
 ghost use Rattle.passed_lines.specs.Passing.{IsPassedOn};
 
 use byte_text::NoMemory;

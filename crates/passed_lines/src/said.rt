@@ -1,5 +1,4 @@
 //! Lines that clients say to the servers of their networks.
-ghost use Rattle.std.specs.Prelude.{◌≡◌, IfOk};
 ghost use Rattle.passed_lines.specs.Saying.{IsSaidFor};
 
 use byte_text::{NoMemory, Text};

@@ -1,5 +1,5 @@
 //! What nodes send each other: packets of changes, and acknowledgements.
-ghost use Rattle.std.specs.Prelude.{◌≡◌, length};
+ghost use Rattle.std.specs.Prelude.{◌≡◌};
 
 use chat_change::Change;
 use node_terms::Life;

@@ -1,8 +1,8 @@
 //! Lines of a peer, and how they are read.
-ghost use Rattle.std.specs.Prelude.{◌≡◌, true, IfOk, List, ℕ};
+ghost use Rattle.std.specs.Prelude.{◌≡◌, true, IfOk};
 ghost use Rattle.std.specs.Option.{option_map};
 ghost use Rattle.node_terms.specs.Names as names;
-ghost use Rattle.peer_lines.specs.Fields.{life_value, hello_value, head_value, ack_value};
+ghost use Rattle.peer_lines.specs.Fields.{life_value};
 ghost use Rattle.peer_lines.specs.Reading as spec;
 ghost use Rattle.peer_lines.specs.LineReading as reading;
 

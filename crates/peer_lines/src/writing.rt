@@ -1,5 +1,5 @@
 //! Writing lines of a peer. Nothing here takes memory, and all of it fails only where its writer does.
-ghost use Rattle.std.specs.Prelude.{◌++◌, ◌∷◌, [], length, map, codes};
+ghost use Rattle.std.specs.Prelude.{◌++◌, map, codes};
 ghost use Rattle.std.specs.Fmt.{decimal};
 ghost use Rattle.std.specs.List.{flat_map};
 ghost use Rattle.byte_text.specs.Writes.{Writes};

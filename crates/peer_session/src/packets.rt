@@ -1,7 +1,6 @@
 //! The next packet for a peer.
 ghost use Rattle.std.specs.Prelude.{◌≡◌, ◌++◌, ◌⊎◌, Option, IfOk, IfErr, OnErr};
 ghost use Rattle.std.specs.Prelude.{true, false, is_some};
-ghost use Rattle.chat_history.specs.Growth.{AfterOthers};
 ghost use Rattle.peer_lines.specs.Packet.{Packet as Parcel};
 ghost use Rattle.peer_session.specs.Packets as spec;
 ghost use Rattle.peer_session.specs.Pace as paces;

@@ -1,7 +1,6 @@
 //! What clients say to the servers of their networks, as another worker tells it.
 ghost use Rattle.std.specs.Prelude.{◌≡◌, ◌∷◌, Bool, List, Some, IfSome};
 ghost use Rattle.client_session.specs.Events.{Line, effects_of};
-ghost use Rattle.client_session.specs.Session.{facts_in};
 ghost use Rattle.client_session.specs.declared.effect.Effect.{Effect as Done};
 ghost use Rattle.client_session.specs.declared.effect.Effect.TheVariants as effect;
 ghost use Rattle.test_worker.specs.Guest.{HasCome, AreNames};

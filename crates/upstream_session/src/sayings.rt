@@ -1,5 +1,5 @@
 //! What a client's line comes to that goes to the server.
-ghost use Rattle.std.specs.Prelude.{◌≡◌, ◌∷◌, [], map, true, IfOk};
+ghost use Rattle.std.specs.Prelude.{◌≡◌, map, true, IfOk};
 ghost use Rattle.std.specs.Option.{option_copied};
 ghost use Rattle.irc_line.specs.declared.line.TagLimit.TheVariants.{Client};
 ghost use Rattle.chat_change.specs.Message.{value_of};

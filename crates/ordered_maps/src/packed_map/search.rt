@@ -1,6 +1,6 @@
 //! The search for a key among pages.
 
-ghost use Rattle.std.specs.Prelude.{length, IfOk, IfErr, MatchOption};
+ghost use Rattle.std.specs.Prelude.{IfOk, IfErr, MatchOption};
 ghost use Rattle.ordered_maps.specs.Pages.{entries_of, AreInPages};
 ghost use Rattle.ordered_maps.specs.Places.{AreAbove, IsPageOf, IsHeldAt, IsGap};
 
