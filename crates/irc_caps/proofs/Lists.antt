@@ -2,8 +2,8 @@
 use Rattle.std.proofs.Common.{◌≡◌, ℕ, ◌+◌, ◌<◌, zero, suc, List, [], ◌∷◌, ◌++◌, length, get_or, take, map, filter, refl, sym, ap, ◌∙◌, append_assoc, arith, true, false, Bool, cond}
 use Rattle.std.proofs.lemmas.List.{take_more, map-append, length-map, length-take}
 use Rattle.std.proofs.lemmas.List.Elements.{filter-append}
-use Rattle.irc_caps.specs.Words.{joined}
-use Rattle.irc_caps.specs.Gaps.{gap_before, only_if}
+use Rattle.irc_caps.specs.Words.{joined, only_if}
+use Rattle.irc_caps.specs.Gaps.{gap_before}
 
 pub gap_is : (i : ℕ) → 0 < i → gap_before i ≡ 32 ∷ []
 gap_is zero h = absurd (omega arith)

@@ -21,6 +21,10 @@ words_of text = filter is_word (parts_of text)
 abbrev pub joined : List (List ℕ) → List ℕ
 joined words = join_with_byte 32 words
 
+-- the word, where it belongs to a list
+abbrev pub only_if : Bool → List ℕ → List (List ℕ)
+only_if wanted word = if wanted then word ∷ [] else []
+
 -- the name of a capability asks for it, and `-` and the name give it up
 abbrev pub wish_of : List ℕ → Option Wish
 wish_of [] = None

@@ -3,7 +3,7 @@ ghost use Rattle.std.specs.Prelude.{◌≡◌, ◌++◌, is_some, map, filter, I
 ghost use Rattle.std.specs.List.{list_all};
 ghost use Rattle.irc_caps.specs.CapSet as sets;
 ghost use Rattle.irc_caps.specs.Words as spec;
-ghost use Rattle.irc_caps.specs.Gaps.{gap_before, only_if};
+ghost use Rattle.irc_caps.specs.Gaps.{gap_before};
 
 use crate::{CapSet, Capability};
 use byte_text::Text;
@@ -86,7 +86,7 @@ pub(crate) fn parts_of<'a>(alloc: Global, text: &'a [u8]) -> Result<Vec<&'a [u8]
 
 fn push_word<'a>(words: &mut Vec<&'a [u8]>, word: &'a [u8]) -> Result<(), AllocError>
     ensures { IfOk result (λ _. map (λ w. w.now) words.new.items ≡ map
-        (λ w. w.now) words.old.items ++ only_if (spec.is_word word.now) word.now) }
+        (λ w. w.now) words.old.items ++ spec.only_if (spec.is_word word.now) word.now) }
 {
     if !word.is_empty() {
         words.push(word)?;
@@ -141,7 +141,7 @@ fn push_name(
     capability: Capability,
 ) -> Result<(), AllocError>
     ensures { IfOk result (λ _. map (λ w. w.now) list.new.items ≡ map
-        (λ w. w.now) list.old.items ++ only_if (sets.holds caps capability) (name_of capability)) }
+        (λ w. w.now) list.old.items ++ spec.only_if (sets.holds caps capability) (name_of capability)) }
 {
     if caps.holds(capability) {
         list.push(capability.name())?;
