@@ -12,9 +12,10 @@ ghost use Rattle.chat_buffers.specs.Store as spec;
 ghost use Rattle.chat_buffers.specs.Entering.{FitsStore, IsEntered, TakesOne, IsSweptOf};
 ghost use Rattle.chat_buffers.specs.Held.{IsOfBuffer, floor_piece};
 
-use crate::held::{Held, Stamp, at_or_above, floor_ms, moment_of, nothing_held, number_of, settle};
+use crate::held::{Held, Stamp, floor_ms, moment_of, nothing_held, number_of, settle};
 use crate::held_message::HeldMessage;
 use chat_change::{Account, Buffer, Change, Extent, Key, Moment, MsgId, Record};
+use chat_history::at_or_above;
 use ordered_maps::put;
 use std::alloc::{AllocError, Global};
 use std::collections::BTreeMap;

@@ -2,7 +2,6 @@
 
 ghost use Rattle.std.specs.Prelude.{◌≡◌, ℕ, IfOk, OnOk, OnErr, Some, None, IfSome};
 ghost use Rattle.chat_change.specs.Key.{Key, key_of};
-ghost use Rattle.chat_history.specs.Retention as spec;
 ghost use Rattle.chat_buffers.specs.Held.{IsOfBuffer, Fits, Settles, held_piece, number_under};
 ghost use Rattle.chat_buffers.specs.Stamps.{stamp_moment, stamp_number, floor_moment, TakesStamp, IsAbove};
 
@@ -76,14 +75,6 @@ pub(crate) fn floor_ms(floor: &Option<Stamp>) -> u64
         Some(stamp) => stamp.at.ms(),
         None => 0,
     }
-}
-
-/// The moment where it is at or above the floor.
-pub(crate) fn at_or_above(floor: u64, at: Option<Moment>) -> Option<Moment>
-    ensures { result ≡ spec.at_or_above floor at }
-{
-    let at = at?;
-    if floor <= at.ms() { Some(at) } else { None }
 }
 
 /// Takes a floor out where it isn't above another, and answers the number of its piece. None where there is no floor,

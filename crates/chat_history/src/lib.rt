@@ -14,7 +14,9 @@ mod cut;
 mod delta;
 pub mod laws;
 mod peek;
+mod retention;
 
 pub use cut::{Cut, Spot, is_after};
 pub use delta::{DELTA_LIMIT, Delta, DeltaFault, NotTaken, Source, Taker};
 pub use peek::{NoEntry, Peek};
+pub use retention::at_or_above;

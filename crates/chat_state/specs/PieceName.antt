@@ -4,7 +4,7 @@ use Rattle.chat_change.specs.Extent.{OfAccount, OfBuffer}
 use Rattle.chat_change.specs.Record.{Record}
 use Rattle.chat_change.specs.Key.{Key, FloorOf, MarkerOf, MessageOf, key_of}
 use Rattle.chat_change.specs.declared.change.Change.{Change}
-use Rattle.chat_change.specs.declared.change.Change.TheVariants.{Post}
+use Rattle.chat_history.specs.History.{posted_record}
 use Rattle.chat_state.specs.declared.store.piece_name.Subject.{Subject}
 use Rattle.chat_state.specs.declared.store.piece_name.Subject.TheVariants.{Posted, Redacted, Marked, Floored, AccountFloored}
 
@@ -13,14 +13,9 @@ pub record PieceName : Type 0 where
   pub key : Key
   pub post : Option Record
 
--- the record that a change posts
-abbrev pub record_in : Change → Option Record
-record_in (Post r) = Some r
-record_in c = None
-
 -- what a piece with that change is known by
 abbrev pub name_of : Change → PieceName
-name_of c = record { key = key_of c; post = record_in c }
+name_of c = record { key = key_of c; post = posted_record c }
 
 -- what is told, all of it
 abbrev pub name_in : Subject → PieceName

@@ -7,13 +7,13 @@ ghost use Rattle.chat_change.specs.Key.{floor_change};
 ghost use Rattle.chat_change.specs.declared.change.Change.TheVariants as value;
 ghost use Rattle.chat_history.specs.Choice as choice;
 ghost use Rattle.chat_history.specs.Form.{raises};
-ghost use Rattle.chat_history.specs.Retention as retention;
 ghost use Rattle.chat_state.specs.Form as spec;
 ghost use Rattle.chat_state.specs.Piece.{change_of};
 
 use crate::store::Store;
 use chat_buffers::MessageRef;
 use chat_change::{Buffer, Change, ChangeRef, Extent, Moment, MsgId, Record, goes_before};
+use chat_history::at_or_above;
 use std::alloc::AllocError;
 
 /// The form of the piece that a change makes.
@@ -23,14 +23,6 @@ pub(crate) enum Form {
     AsItIs,
     /// A redaction of its message, which stood at that moment.
     Gone(Option<Moment>),
-}
-
-// The moment where it is at or above the floor.
-fn at_or_above(floor: u64, at: Option<Moment>) -> Option<Moment>
-    ensures { result ≡ retention.at_or_above floor at }
-{
-    let at = at?;
-    if floor <= at.ms() { Some(at) } else { None }
 }
 
 // The later of two moments.
