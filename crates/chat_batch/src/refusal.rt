@@ -1,15 +1,13 @@
 //! Refusals of CHATHISTORY and MARKREAD (IRCv3 standard-replies, `FAIL`).
 ghost use Rattle.std.specs.Prelude.{◌≡◌, Some, None, IfOk, map};
-ghost use Rattle.std.specs.Option.{option_copied};
 ghost use Rattle.irc_reply.specs.Reply.{value_of};
-ghost use Rattle.chat_query.specs.Parameters as query;
 ghost use Rattle.chat_past.specs.Answers as spec;
 ghost use Rattle.chat_batch.specs.WritesAnswer.{WritesAnswer, IsUnwritten};
 
 use crate::answers::AnswerFault;
 use byte_text::Text;
 use chat_page::QueryFault;
-use chat_query::{Answered, Facts};
+use chat_query::{Answered, Facts, first_of};
 use irc_reply::{Context, echoed, write_fail};
 use std::alloc::{AllocError, Global};
 use std::io::Write;
@@ -95,15 +93,6 @@ fn refuse_subcommand<W: Write>(
         reason_of(fault),
         writer,
     )
-}
-
-fn first_of<'a>(parameters: &[&'a [u8]]) -> Option<&'a [u8]>
-    ensures { option_copied result ≡ query.first_of (map (λ p. p.now) parameters.now) }
-{
-    match parameters {
-        [word, ..] => Some(word),
-        [] => None,
-    }
 }
 
 /// Refuses a line without a subcommand.

@@ -15,7 +15,7 @@ mod reference;
 mod scope;
 
 pub use facts::{Answered, Facts};
-pub use parameters::{QueryFault, read_moment, read_query};
+pub use parameters::{QueryFault, first_of, read_moment, read_query};
 pub use query::{GivenId, Query, Selector, Target};
 pub use reference::{next_reference, reference_text};
 pub use scope::Scope;

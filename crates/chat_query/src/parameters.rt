@@ -1,5 +1,6 @@
 //! Reading what a client asks for (IRCv3 draft/chathistory, "CHATHISTORY").
 ghost use Rattle.std.specs.Prelude.{◌≡◌, ◌∷◌, [], map, drop};
+ghost use Rattle.std.specs.Option.{option_copied};
 ghost use Rattle.chat_change.specs.Words.{is_star};
 ghost use Rattle.chat_query.specs.Parameters as spec;
 
@@ -29,6 +30,16 @@ pub enum QueryFault {
     /// A selector without a lawful value, or a limit that is no number above 0.
     #[error("a parameter is refused")]
     InvalidParams,
+}
+
+/// The first parameter, if there is one.
+pub fn first_of<'a>(parameters: &[&'a [u8]]) -> Option<&'a [u8]>
+    ensures { option_copied result ≡ spec.first_of (map (λ p. p.now) parameters.now) }
+{
+    match parameters {
+        [word, ..] => Some(word),
+        [] => None,
+    }
 }
 
 /// A target, a selector and a limit.

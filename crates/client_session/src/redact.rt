@@ -1,7 +1,6 @@
 //! REDACT of a registered session (IRCv3 draft/message-redaction).
-ghost use Rattle.std.specs.Prelude.{◌≡◌, ◌∷◌, [], map, IfOk};
+ghost use Rattle.std.specs.Prelude.{◌≡◌, map, IfOk};
 ghost use Rattle.std.specs.Option.{option_copied};
-ghost use Rattle.chat_query.specs.Parameters.{first_of};
 ghost use Rattle.client_session.specs.Registered as spec;
 
 use crate::effect::Effect;
@@ -9,23 +8,13 @@ use crate::registered::{takes_redact, unknown_command};
 use crate::shared::{answer, one};
 use byte_text::NoMemory;
 use chat_change::is_id;
-use chat_query::Facts;
+use chat_query::{Facts, first_of};
 use client_directory::Entry;
 use irc_reply::to_client::{
     redact_bad_target, redact_forbidden, redact_needs_more, redact_unknown_id,
 };
 use irc_reply::to_server::redact_line;
 use std::alloc::Global;
-
-fn first_of<'a>(parameters: &[&'a [u8]]) -> Option<&'a [u8]>
-    ensures { option_copied result ≡ first_of (map (λ p. p.now) parameters.now) }
-{
-    if parameters.is_empty() {
-        None
-    } else {
-        Some(parameters[0])
-    }
-}
 
 fn redact_named(
     alloc: Global,
