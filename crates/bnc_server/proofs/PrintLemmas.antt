@@ -2,6 +2,7 @@
 use Rattle.std.proofs.Common.{◌≡◌, ℕ, List, [], ◌∷◌, ◌++◌, map, codes, Option, None, Some, Result, Ok, Err, refl, lit<, lit≤}
 use Rattle.std.specs.Prelude.{IfOk, IfSome}
 use Rattle.std.specs.List.{AllByRecursion}
+use Rattle.byte_text.specs.Bytes.{line_ending}
 use Rattle.irc_line.specs.declared.line.LineFault.{LineFault}
 use Rattle.irc_line.specs.declared.line.TagLimit.{TagLimit}
 use Rattle.irc_line.specs.declared.line.TagLimit.TheVariants.{Client, Server}
@@ -10,7 +11,6 @@ use Rattle.irc_line.specs.Line.{Reading}
 use Rattle.irc_line.specs.Read.{read}
 use Rattle.irc_line.specs.Stream.{Item, items}
 use Rattle.irc_line.proofs.CallerLemmas.{middle_from, no_space_from}
-use Rattle.irc_reply.specs.Reply.{ending}
 use Rattle.irc_reply.specs.Standing.{IsCluster}
 use Rattle.chat_change.specs.Faults.{buffer_fault}
 use Rattle.chat_past.specs.Answers.{answer_of}
@@ -85,13 +85,13 @@ step_right node s sound stands = effects_right s.effects (with_session node s.se
 
 -- ---- lines
 
-bad_form_printed : IsPrinted limit (codes "% BadForm" ++ ending)
+bad_form_printed : IsPrinted limit (codes "% BadForm" ++ line_ending)
 bad_form_printed = note_printed limit (codes " BadForm") refl (lit≤ tt)
 
-bad_field : IsPrinted limit (codes "% BadField" ++ ending)
+bad_field : IsPrinted limit (codes "% BadField" ++ line_ending)
 bad_field = note_printed limit (codes " BadField") refl (lit≤ tt)
 
-too_high : IsPrinted limit (codes "% AckTooHigh" ++ ending)
+too_high : IsPrinted limit (codes "% AckTooHigh" ++ line_ending)
 too_high = note_printed limit (codes " AckTooHigh") refl (lit≤ tt)
 
 refusal_printed : (fault : LinkFault) → IsPrinted limit (refusal_of fault)

@@ -5,15 +5,15 @@ use Rattle.std.specs.List.{AllByRecursion, flat_map, list_all}
 use Rattle.std.proofs.lemmas.Bool.{and_parts, or_cases, true≢false, eqb-true}
 use Rattle.std.proofs.lemmas.List.{map-append}
 use Rattle.std.proofs.lemmas.List.Concat.{flat_map-append}
+use Rattle.byte_text.specs.Bytes.{begins_with, line_ending}
 use Rattle.irc_line.specs.declared.line.TagLimit.{TagLimit}
 use Rattle.byte_text.specs.Number.{is_digit}
-use Rattle.irc_line.specs.Line.{begins_with, is_command, is_letter, rest_limit}
+use Rattle.irc_line.specs.Line.{is_command, is_letter, rest_limit}
 use Rattle.irc_line.specs.Stream.{items, line}
-use Rattle.irc_line.specs.Text.{Parts, source_text, tags_text, text_of, line_text, line_ending}
+use Rattle.irc_line.specs.Text.{Parts, source_text, tags_text, text_of, line_text}
 use Rattle.irc_line.specs.CanStand.{HasNoBadByte, CanStand}
 use Rattle.irc_line.specs.Lines.{AreLines}
 use Rattle.irc_line.proofs.CallerLemmas.{bytes_cut, good, reads_back, lines_cut}
-use Rattle.irc_reply.specs.Reply.{ending}
 use Rattle.bnc_server.specs.Printed.{percent_sign, IsPrintedLine, IsPrinted}
 
 pub all-append : {A : Type 0} (P : A → Type 0) (xs ys : List A) → AllByRecursion P xs → AllByRecursion P ys → AllByRecursion P (xs ++ ys)
@@ -43,12 +43,12 @@ printed-if limit false t e p q = q
 -- ---- lines for whoever wrote the script
 
 pub note_printed : (limit : TagLimit) (text : List ℕ) → HasNoBadByte (percent_sign ∷ text) → length (percent_sign ∷ text) ≤ rest_limit
-    → IsPrinted limit ((percent_sign ∷ text) ++ ending)
+    → IsPrinted limit ((percent_sign ∷ text) ++ line_ending)
 note_printed limit text whole short = record {
   lines = (percent_sign ∷ text) ∷ [];
   each = (record { whole = whole; of_script = λ _. short; of_protocol = λ e. absurd (true≢false e) }, tt);
   spelled = sym (append-nil ((percent_sign ∷ text) ++ line_ending));
-  cut = λ rest. ap items (append_assoc (percent_sign ∷ text) ending rest) ∙ bytes_cut (percent_sign ∷ text) rest whole (omega arith);
+  cut = λ rest. ap items (append_assoc (percent_sign ∷ text) line_ending rest) ∙ bytes_cut (percent_sign ∷ text) rest whole (omega arith);
 }
 
 -- ---- lines of the protocol

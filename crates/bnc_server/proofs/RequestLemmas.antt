@@ -2,7 +2,7 @@
 use Rattle.std.proofs.Common.{◌≡◌, ℕ, drop, true, false, List, Result, Ok, Err, refl, sym, ◌∙◌, subst}
 use Rattle.std.specs.Prelude.{◌≢◌, IfErr}
 use Rattle.std.proofs.lemmas.Bool.{cond-true, cond-false}
-use Rattle.chat_change.specs.Words.{begins_with}
+use Rattle.byte_text.specs.Bytes.{begins_with}
 use Rattle.chat_change.specs.declared.change.Change.{Change}
 use Rattle.change_lines.specs.ChangeLine.{read_change, fault_or_no_memory}
 use Rattle.change_lines.specs.declared.fault.ChangeLineFault.{ChangeLineFault}

@@ -1,12 +1,12 @@
 -- Every line of a script is some events of a cluster, and so is every script.
 use Rattle.std.proofs.Common.{◌≡◌, ℕ, true, false, cond, Option, Some, None, List, [], ◌∷◌, ◌++◌, drop, refl, sym, ◌∙◌, ap, lit<, append_assoc, append-nil}
 use Rattle.std.specs.Prelude.{⊤, Result, Ok, Err}
+use Rattle.byte_text.specs.Bytes.{begins_with}
 use Rattle.irc_line.specs.Stream.{Item, items, line, too_long}
 use Rattle.irc_line.specs.Line.{Reading}
 use Rattle.irc_line.specs.Read.{read}
 use Rattle.irc_line.specs.declared.line.LineFault.{LineFault}
 use Rattle.irc_line.specs.declared.line.TagLimit.TheVariants.{Client}
-use Rattle.chat_change.specs.Words.{begins_with}
 use Rattle.chat_change.specs.declared.change.Change.{Change}
 use Rattle.chat_query.specs.declared.facts.Facts.{Facts}
 use Rattle.change_lines.specs.ChangeLine.{read_change}

@@ -5,6 +5,7 @@ use Rattle.std.specs.List.{AllByRecursion}
 use Rattle.std.specs.Str.{bytes_eq}
 use Rattle.std.proofs.lemmas.Bool.{and_parts}
 use Rattle.std.proofs.lemmas.Bool.Decides.{nat_tests}
+use Rattle.byte_text.specs.Bytes.{begins_with}
 use Rattle.irc_line.specs.Stream.{Item, line, too_long}
 use Rattle.irc_line.specs.declared.line.LineFault.{LineFault}
 use Rattle.irc_line.specs.declared.line.TagLimit.TheVariants.{Client}
@@ -16,7 +17,7 @@ use Rattle.irc_reply.specs.Standing.{IsWordTo, target_limit}
 use Rattle.chat_query.specs.Reference.{greatest_reference, after_reference, after_answer}
 use Rattle.chat_query.specs.declared.facts.Answered.{Answered}
 use Rattle.chat_query.specs.declared.facts.Answered.TheVariants.{Batch, Plain, NotAQuery}
-use Rattle.chat_change.specs.Words.{is_name, is_target, begins_with}
+use Rattle.chat_change.specs.Words.{is_name, is_target}
 use Rattle.chat_change.specs.Faults.{unless_lawful, buffer_fault}
 use Rattle.chat_change.specs.Lawful.{IsLawfulChange}
 use Rattle.chat_change.specs.declared.change.Change.{Change}

@@ -1,10 +1,11 @@
 -- What a script prints, as lines.
 use Rattle.std.specs.Prelude.{◌≡◌, ℕ, ◌≤◌, true, false, List, ◌++◌, length, map}
 use Rattle.std.specs.List.{AllByRecursion, flat_map}
+use Rattle.byte_text.specs.Bytes.{begins_with, line_ending}
 use Rattle.irc_line.specs.declared.line.TagLimit.{TagLimit}
-use Rattle.irc_line.specs.Line.{begins_with, rest_limit}
+use Rattle.irc_line.specs.Line.{rest_limit}
 use Rattle.irc_line.specs.Stream.{items, line}
-use Rattle.irc_line.specs.Text.{Parts, text_of, line_ending}
+use Rattle.irc_line.specs.Text.{Parts, text_of}
 use Rattle.irc_line.specs.CanStand.{HasNoBadByte, ReadsBack}
 
 abbrev pub percent_sign : ℕ

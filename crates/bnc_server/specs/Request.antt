@@ -1,7 +1,7 @@
 -- What an item of a script asks for.
 use Rattle.std.specs.Prelude.{ℕ, Bool, List, codes, take, drop, Result, if◌then◌else◌}
+use Rattle.byte_text.specs.Bytes.{begins_with}
 use Rattle.irc_line.specs.Stream.{Item, line, too_long}
-use Rattle.chat_change.specs.Words.{begins_with}
 use Rattle.chat_change.specs.declared.change.Change.{Change}
 use Rattle.change_lines.specs.Words.{is_text}
 use Rattle.change_lines.specs.ChangeLine.{read_change}

@@ -1,8 +1,8 @@
 -- What a script prints: its items in turn, each answered by what the node took before it.
 use Rattle.std.specs.Prelude.{ℕ, ◌+◌, false, List, [], ◌∷◌, ◌++◌, codes, map, Option, None, Ok, Err}
+use Rattle.byte_text.specs.Bytes.{line_ending}
 use Rattle.irc_line.specs.Stream.{Item, items}
 use Rattle.irc_caps.specs.CapSet.{all_capabilities}
-use Rattle.irc_reply.specs.Reply.{ending}
 use Rattle.chat_query.specs.declared.facts.Facts.{Facts}
 use Rattle.change_lines.specs.declared.fault.ChangeLineFault.{ChangeLineFault}
 use Rattle.change_lines.specs.declared.fault.ChangeLineFault.TheVariants.{BadForm}
@@ -86,8 +86,8 @@ start account network nick = record {
 
 -- of a line that spells no change, by its form or else by a field
 abbrev pub refusal_text : ChangeLineFault → List ℕ
-refusal_text BadForm = codes "% BadForm" ++ ending
-refusal_text _ = codes "% BadField" ++ ending
+refusal_text BadForm = codes "% BadForm" ++ line_ending
+refusal_text _ = codes "% BadField" ++ line_ending
 
 -- ---- answers
 

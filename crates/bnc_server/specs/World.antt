@@ -1,6 +1,6 @@
 -- The nodes of a script together, and what each command does to them.
 use Rattle.std.specs.Prelude.{ℕ, ◌+◌, Option, None, Some, List, [], ◌++◌, codes, map, Result, Ok, Err, slice_index_or, slice_set}
-use Rattle.irc_reply.specs.Reply.{ending}
+use Rattle.byte_text.specs.Bytes.{line_ending}
 use Rattle.chat_query.specs.declared.facts.Facts.{Facts}
 use Rattle.client_directory.specs.Directory.{Directory}
 use Rattle.client_session.specs.declared.stage.Stage.TheVariants.{Registered, Closed}
@@ -74,8 +74,8 @@ ack_of w sender receiver =
 -- ---- acknowledgements
 
 abbrev pub refusal_of : LinkFault → List ℕ
-refusal_of WrongLife = codes "% WrongLife" ++ ending
-refusal_of _ = codes "% AckTooHigh" ++ ending
+refusal_of WrongLife = codes "% WrongLife" ++ line_ending
+refusal_of _ = codes "% AckTooHigh" ++ line_ending
 
 abbrev pub ack_text : Result (Unit {0}) LinkFault → List ℕ
 ack_text (Ok u) = []
@@ -116,7 +116,7 @@ after_restart w place life = record w {
 -- ---- the commands
 
 abbrev pub bad_form_text : List ℕ
-bad_form_text = codes "% BadForm" ++ ending
+bad_form_text = codes "% BadForm" ++ line_ending
 
 abbrev pub after_command : World → Command → Outcome
 after_command w (select node) = printing (record w { selected = node }) []

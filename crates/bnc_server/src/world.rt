@@ -2,11 +2,10 @@
 ghost use Rattle.std.specs.Prelude.{◌≡◌, ◌≢◌, ◌<◌, [], ◌∷◌, ◌++◌, map, length, Ok, IfOk, IfErr, OnOk};
 ghost use Rattle.std.specs.Prelude.{false};
 ghost use Rattle.byte_text.specs.Writes.{Writes};
-ghost use Rattle.chat_change.specs.Words.{begins_with};
 ghost use Rattle.change_lines.specs.ChangeLine.{read_change};
 ghost use Rattle.client_session.specs.declared.stage.Stage.TheVariants.{Registered};
 ghost use Rattle.bnc_server.specs.Command as commands;
-ghost use Rattle.bnc_server.specs.Request.{of_change, of_command, of_client, over_long};
+ghost use Rattle.bnc_server.specs.Request.{of_change, of_client, over_long};
 ghost use Rattle.bnc_server.specs.Request.{is_change_line, request_in};
 ghost use Rattle.bnc_server.specs.Links.{new_node};
 ghost use Rattle.bnc_server.specs.World as worlds;
@@ -21,7 +20,7 @@ use crate::command::{Command, command_of};
 use crate::fault::ReplayFault;
 use crate::node::{Node, all_hear, lives_of, push};
 use crate::reply::{put_bad_field, put_bad_form, put_link_fault};
-use byte_text::{NoMemory, Text};
+use byte_text::{NoMemory, Text, begins_with};
 use chat_batch::Facts;
 use chat_change::{Buffer, Change, Extent};
 use client_session::{Account, Directory, Entry, Network};
@@ -205,12 +204,6 @@ fn is_change_line(text: &[u8]) -> bool
 {
     let n = text.len().min(2);
     is_text(&text[..n], b"C ")
-}
-
-fn begins_with(byte: u8, text: &[u8]) -> bool
-    ensures { result ≡ begins_with byte text.now }
-{
-    !text.is_empty() && text[0] == byte
 }
 
 // Tells how an acknowledgement was refused, if it was.

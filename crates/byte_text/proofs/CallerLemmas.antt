@@ -8,6 +8,8 @@ use Rattle.byte_text.specs.Writes.{AppendsPrefix, WritesKnown}
 pub use Rattle.byte_text.proofs.TextsLemmas.{texts_at, texts_through, own_texts_at, own_texts_through}
 -- looks at parts of a text
 pub use Rattle.byte_text.proofs.LookLemmas.{any_behind, any_within, both_ends}
+-- what a search for a first byte tells of the whole
+pub use Rattle.byte_text.proofs.FoundLemmas.{found_is_any}
 -- a number has one spelling, its decimal digits; what digits come to, digit by digit
 pub use Rattle.byte_text.proofs.NumberLemmas.{decimal_digits, number_read, number_spelled, one_digit_more}
 

@@ -1,4 +1,5 @@
 mod PositionLemmas
+mod FoundLemmas
 mod LookLemmas
 mod TextsLemmas
 mod NumberLemmas

@@ -14,6 +14,6 @@ mod writing;
 
 pub use no_memory::NoMemory;
 pub use number::{has_digits_only, is_digits, number_to};
-pub use search::{LANES, begins_without, find_byte};
-pub use text::Text;
+pub use search::{LANES, begins_with, begins_without, find_byte, has_line_end};
+pub use text::{Text, copies_of};
 pub use writing::put;

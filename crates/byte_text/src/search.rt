@@ -1,9 +1,26 @@
-//! Searches for a byte: anywhere, by the vectors of `bstr`, and among the first bytes by one look.
+//! Searches for a byte: at the beginning, anywhere, by the vectors of `bstr` and `memchr`, and among the first bytes by one
+//! look.
 ghost use Rattle.std.specs.Prelude.{◌≡◌, ◌<◌, ◌≤◌, ◌==◌, length, not, position, take, IfSome};
 ghost use Rattle.std.specs.List.{list_any, position_or_len};
+ghost use Rattle.byte_text.specs.Bytes as spec;
 
 use bstr::ByteSlice;
+use memchr::memchr3;
 use std::simd::prelude::*;
+
+/// Whether the first byte is that one.
+pub fn begins_with(byte: u8, text: &[u8]) -> bool
+    ensures { result ≡ spec.begins_with byte text.now }
+{
+    !text.is_empty() && text[0] == byte
+}
+
+/// Whether NUL, LF or CR stands in it, which stand in no line.
+pub fn has_line_end(text: &[u8]) -> bool
+    ensures { result ≡ list_any spec.ends_line text.now }
+{
+    memchr3(0, b'\n', b'\r', text).is_some()
+}
 
 /// So many bytes are looked at at once.
 pub const LANES: usize = 16;

@@ -53,3 +53,15 @@ impl Text {
         Text::new(alloc, &self.bytes)
     }
 }
+
+/// Equal texts.
+pub fn copies_of(alloc: Global, texts: &[Text]) -> Result<Vec<Text>, AllocError>
+    ensures { IfOk result (λ copies. copies.items ≡ texts.now) }
+{
+    let mut copies = Vec::new(alloc);
+    for text in texts {
+        let copy = text.try_clone(alloc)?;
+        copies.push(copy)?;
+    }
+    Ok(copies)
+}

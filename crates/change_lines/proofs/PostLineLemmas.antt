@@ -4,7 +4,8 @@ use Rattle.std.proofs.Common.{◌≡◌, ℕ, Bool, true, false, not, ◌&&◌, 
 use Rattle.std.specs.Prelude.{decimal}
 use Rattle.std.proofs.lemmas.Bool.{false≢true, eqb-true}
 use Rattle.std.proofs.lemmas.Bool.Decides.{nat_tests}
-use Rattle.chat_change.specs.Words.{is_id, begins_with}
+use Rattle.byte_text.specs.Bytes.{begins_with}
+use Rattle.chat_change.specs.Words.{is_id}
 use Rattle.chat_change.specs.Buffer.{Buffer, IsLawfulBuffer}
 use Rattle.chat_change.specs.Faults.{is_message}
 use Rattle.chat_change.specs.Lawful.{IsLawfulRecord}

@@ -27,7 +27,3 @@ line_of (Redact b m at) = words_text (buffer_words (codes "REDACT") b (m ∷ [])
 line_of (Mark b at) = words_text (buffer_words (codes "MARK") b []) ++ decimal at
 line_of (Floor b at) = words_text (buffer_words (codes "FLOOR") b []) ++ decimal at
 line_of (AccountFloor a at) = words_text (account_words a) ++ decimal at
-
--- CR LF, which ends a line
-abbrev pub line_end : List ℕ
-line_end = 13 ∷ 10 ∷ []

@@ -2,7 +2,8 @@
 -- they are written. Where the post has tags, these are a word more:
 --   <id> <ms> P|N [<tags>] <to-target> <source> :<body>
 use Rattle.std.specs.Prelude.{ℕ, Bool, not, ◌&&◌, ◌||◌, List, [], ◌∷◌, ◌++◌, codes, decimal, drop, Option, None, Some, if◌then◌else◌}
-use Rattle.chat_change.specs.Words.{is_id, is_tags, begins_with}
+use Rattle.byte_text.specs.Bytes.{begins_with}
+use Rattle.chat_change.specs.Words.{is_id, is_tags}
 use Rattle.chat_change.specs.Buffer.{Buffer}
 use Rattle.chat_change.specs.Faults.{is_message}
 use Rattle.chat_change.specs.Message.{Message, kind_letter}

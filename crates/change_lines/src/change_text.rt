@@ -1,5 +1,6 @@
 //! Writing the line of a change.
-ghost use Rattle.std.specs.Prelude.{◌≡◌, ◌≤◌, ◌++◌, [], ◌∷◌, map, true, decimal, Ok};
+ghost use Rattle.std.specs.Prelude.{◌≡◌, ◌≤◌, ◌++◌, [], true, decimal, Ok};
+ghost use Rattle.byte_text.specs.Bytes.{line_ending};
 ghost use Rattle.chat_change.specs.Words.{is_name};
 ghost use Rattle.irc_time.specs.Time.{greatest};
 ghost use Rattle.chat_change.specs.Buffer.{IsLawfulBuffer};
@@ -7,8 +8,8 @@ ghost use Rattle.byte_text.specs.Writes.{Writes};
 ghost use Rattle.chat_change.specs.declared.change.Change.TheVariants as change;
 ghost use Rattle.change_lines.specs.Words.{words_text};
 ghost use Rattle.change_lines.specs.ChangeLine.{read_change};
-ghost use Rattle.change_lines.specs.ChangeText.{line_of, line_end, buffer_words, account_words};
-ghost use Rattle.chat_change.specs.Lawful.{IsLawfulRecord, IsLawfulChange};
+ghost use Rattle.change_lines.specs.ChangeText.{line_of, buffer_words, account_words};
+ghost use Rattle.chat_change.specs.Lawful.{IsLawfulChange};
 
 use crate::post_line::put_post;
 use crate::words::put_line;
@@ -23,7 +24,7 @@ fn put_redaction<W: Write>(
     at: Option<Moment>,
 ) -> io::Result<()>
     ensures text { Writes W.contents writer.old writer.new result
-        (line_of (change.Redact buffer.now id.now at) ++ line_end) }
+        (line_of (change.Redact buffer.now id.now at) ++ line_ending) }
     ensures lawful { IsLawfulChange (change.Redact buffer.now id.now at) }
 {
     let words: [&[u8]; 6] = [
@@ -46,7 +47,7 @@ fn put_redaction<W: Write>(
 // Writes the line of a marker or of a floor.
 fn put_moment<W: Write>(writer: &mut W, kind: &[u8], buffer: &Buffer, at: Moment) -> io::Result<()>
     ensures text { Writes W.contents writer.old writer.new result
-        ((words_text (buffer_words kind.now buffer.now []) ++ decimal at) ++ line_end) }
+        ((words_text (buffer_words kind.now buffer.now []) ++ decimal at) ++ line_ending) }
     ensures buffer { IsLawfulBuffer buffer.now }
     ensures at { at ≤ greatest }
 {
@@ -64,7 +65,7 @@ fn put_moment<W: Write>(writer: &mut W, kind: &[u8], buffer: &Buffer, at: Moment
 // Writes the line of a floor of an account.
 fn put_account_floor<W: Write>(writer: &mut W, account: &Account, at: Moment) -> io::Result<()>
     ensures text { Writes W.contents writer.old writer.new result
-        ((words_text (account_words account.now) ++ decimal at) ++ line_end) }
+        ((words_text (account_words account.now) ++ decimal at) ++ line_ending) }
     ensures account { is_name account.now ≡ true }
     ensures at { at ≤ greatest }
 {
@@ -77,7 +78,7 @@ fn put_account_floor<W: Write>(writer: &mut W, account: &Account, at: Moment) ->
 /// writer failed. It takes no memory. The line is read back as that change.
 pub fn write_change<W: Write>(change: &Change, writer: &mut W) -> io::Result<()>
     ensures text { Writes W.contents writer.old writer.new result
-        (line_of change.now ++ line_end) }
+        (line_of change.now ++ line_ending) }
     ensures read_back { read_change (line_of change.now) ≡ Ok change.now }
 {
     match change {

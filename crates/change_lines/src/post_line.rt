@@ -3,6 +3,7 @@
 ghost use Rattle.std.specs.Prelude.{◌≡◌, ◌++◌, ◌∷◌, drop, true, IfOk};
 ghost use Rattle.std.specs.Option.{option_map, option_and_then};
 ghost use Rattle.std.specs.Map.Iter.{deref};
+ghost use Rattle.byte_text.specs.Bytes.{line_ending};
 ghost use Rattle.byte_text.specs.Writes.{Writes};
 ghost use Rattle.chat_change.specs.Buffer as buffer;
 ghost use Rattle.chat_change.specs.Lawful.{IsLawfulRecord};
@@ -13,12 +14,13 @@ ghost use Rattle.change_lines.specs.PostLine as spec;
 ghost use Rattle.change_lines.specs.BufferFields as fields;
 ghost use Rattle.change_lines.specs.ChangeLine.{is_buffer, buffer_named};
 ghost use Rattle.change_lines.specs.NamedBuffer.{IsNamed};
-ghost use Rattle.change_lines.specs.ChangeText.{line_of, line_end, buffer_words};
+ghost use Rattle.change_lines.specs.ChangeText.{line_of, buffer_words};
 
 use crate::fields::BufferFields;
 use crate::moment::moment_of;
 use crate::named_buffer::buffer_for;
-use crate::words::{begins_with, is_filled, is_text, put_line, put_word, put_words, split_word};
+use crate::words::{is_filled, is_text, put_line, put_word, put_words, split_word};
+use byte_text::begins_with;
 use chat_change::{
     Buffer, Kind, Message, Moment, Record, is_id, is_message, is_tags, lawful_id, lawful_record,
 };
@@ -226,7 +228,7 @@ fn put_front<W: Write>(writer: &mut W, post: &Record) -> io::Result<()>
 // Writes the words behind the tags, the body, and the end of the line.
 fn put_back<W: Write>(writer: &mut W, post: &Record) -> io::Result<()>
     ensures { Writes W.contents writer.old writer.new result ((words_text
-        (spec.back_words post.now) ++ (58 ∷ post.now.message.body)) ++ line_end) }
+        (spec.back_words post.now) ++ (58 ∷ post.now.message.body)) ++ line_ending) }
 {
     let message = post.message();
     put_line(
@@ -240,7 +242,7 @@ fn put_back<W: Write>(writer: &mut W, post: &Record) -> io::Result<()>
 /// Writes the line of a post, and its end.
 pub(crate) fn put_post<W: Write>(writer: &mut W, post: &Record) -> io::Result<()>
     ensures text { Writes W.contents writer.old writer.new result
-        (line_of (change.Post post.now) ++ line_end) }
+        (line_of (change.Post post.now) ++ line_ending) }
     ensures lawful { IsLawfulRecord post.now }
 {
     put_front(writer, post)?;

@@ -1,10 +1,9 @@
 //! The words of a line, with one space behind each.
 ghost use Rattle.std.specs.Prelude.{◌≡◌, ◌++◌, [], ◌∷◌, map};
+ghost use Rattle.byte_text.specs.Bytes.{line_ending};
 ghost use Rattle.byte_text.specs.Writes.{Writes};
-ghost use Rattle.chat_change.specs.Words as parts;
 ghost use Rattle.change_lines.specs.Words as spec;
 ghost use Rattle.change_lines.specs.Words.{words_text};
-ghost use Rattle.change_lines.specs.ChangeText.{line_end};
 
 use byte_text::{find_byte, put};
 use std::io;
@@ -15,12 +14,6 @@ pub fn is_text(text: &[u8], word: &[u8]) -> bool
     ensures { result ≡ spec.is_text text.now word.now }
 {
     text == word
-}
-
-pub(crate) fn begins_with(byte: u8, text: &[u8]) -> bool
-    ensures { result ≡ parts.begins_with byte text.now }
-{
-    !text.is_empty() && text[0] == byte
 }
 
 pub(crate) fn is_filled(text: &[u8]) -> bool
@@ -74,7 +67,7 @@ pub(crate) fn put_words<W: Write>(writer: &mut W, words: &[&[u8]]) -> io::Result
 // Writes the last field behind its sign, and the end of the line.
 fn put_end<W: Write>(writer: &mut W, sign: &[u8], last: &[u8]) -> io::Result<()>
     ensures { Writes W.contents writer.old writer.new result
-        (sign.now ++ (last.now ++ line_end)) }
+        (sign.now ++ (last.now ++ line_ending)) }
 {
     put(writer, sign)?;
     put(writer, last)?;
@@ -89,7 +82,7 @@ pub(crate) fn put_line<W: Write>(
     last: &[u8],
 ) -> io::Result<()>
     ensures { Writes W.contents writer.old writer.new result
-        ((words_text (map (λ w. w.now) words.now) ++ (sign.now ++ last.now)) ++ line_end) }
+        ((words_text (map (λ w. w.now) words.now) ++ (sign.now ++ last.now)) ++ line_ending) }
 {
     put_words(writer, words)?;
     put_end(writer, sign, last)

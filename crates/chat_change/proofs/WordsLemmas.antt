@@ -4,7 +4,8 @@ use Rattle.std.specs.Char.{to_ascii_lowercase}
 use Rattle.std.specs.List.{list_any}
 use Rattle.std.proofs.lemmas.List.{length-map}
 use Rattle.std.proofs.lemmas.Bool.Decides.{nat_tests}
-use Rattle.chat_change.specs.Words.{lower_case_of, ends_line, ends_word, ends_target, begins_with, is_target}
+use Rattle.byte_text.specs.Bytes.{begins_with, ends_line}
+use Rattle.chat_change.specs.Words.{lower_case_of, ends_word, ends_target, is_target}
 use Rattle.chat_change.specs.declared.words.TheConstants.{TARGET_LIMIT}
 
 ends_target-lower : (b : ℕ) → ends_target (to_ascii_lowercase b) ≡ ends_target b

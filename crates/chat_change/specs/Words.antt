@@ -1,8 +1,9 @@
 -- The words that changes are made of: names of accounts and networks, targets, message ids, sources and bodies
 -- (RFC 1459 and RFC 2812, section 2.3; IRCv3 message-ids), and how letters are folded.
-use Rattle.std.specs.Prelude.{ℕ, ◌≡◌, ◌⊎◌, Bool, true, false, not, ◌&&◌, ◌||◌, ◌==◌, nat_lt, nat_le, List, [], ◌∷◌, length, map}
+use Rattle.std.specs.Prelude.{ℕ, ◌≡◌, ◌⊎◌, Bool, true, not, ◌&&◌, ◌||◌, ◌==◌, nat_lt, nat_le, List, [], length, map}
 use Rattle.std.specs.List.{list_any, list_all}
 use Rattle.std.specs.Char.{to_ascii_lowercase}
+use Rattle.byte_text.specs.Bytes.{begins_with, ends_line}
 use Rattle.tag_data.specs.ClientOnly.{is_client_only_text}
 use Rattle.chat_change.specs.declared.words.TheConstants.{NAME_LIMIT, TARGET_LIMIT, ID_LIMIT, TAGS_LIMIT}
 
@@ -10,16 +11,8 @@ use Rattle.chat_change.specs.declared.words.TheConstants.{NAME_LIMIT, TARGET_LIM
 abbrev pub has_length_to : ℕ → List ℕ → Bool
 has_length_to most text = nat_lt 0 (length text) && nat_le (length text) most
 
-abbrev pub begins_with : ℕ → List ℕ → Bool
-begins_with byte [] = false
-begins_with byte (b ∷ bytes) = b == byte
-
 abbrev pub begins_with_colon : List ℕ → Bool
 begins_with_colon = begins_with 58
-
--- NUL, LF and CR stand in no line
-abbrev pub ends_line : ℕ → Bool
-ends_line b = (b == 0) || (b == 10) || (b == 13)
 
 -- nor does a space stand in a word
 abbrev pub ends_word : ℕ → Bool

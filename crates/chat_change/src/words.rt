@@ -1,10 +1,10 @@
 //! Tests of the texts that changes are made of. They take no memory.
 ghost use Rattle.std.specs.Prelude.{◌≡◌, ◌≤◌, ◌*◌, length, not, take};
 ghost use Rattle.std.specs.List.{list_any, list_all};
+ghost use Rattle.byte_text.specs.Bytes.{ends_line};
 ghost use Rattle.chat_change.specs.Words as spec;
 
-use byte_text::{LANES, begins_without};
-use memchr::memchr3;
+use byte_text::{LANES, begins_with, begins_without, has_line_end};
 use tag_data::is_client_only_text;
 
 /// The most bytes that the name of an account or of a network has.
@@ -26,12 +26,6 @@ fn has_length_to(most: usize, text: &[u8]) -> bool
     !text.is_empty() && text.len() <= most
 }
 
-fn begins_with(byte: u8, text: &[u8]) -> bool
-    ensures { result ≡ spec.begins_with byte text.now }
-{
-    !text.is_empty() && text[0] == byte
-}
-
 fn begins_with_colon(text: &[u8]) -> bool
     ensures { result ≡ spec.begins_with_colon text.now }
 {
@@ -45,7 +39,7 @@ fn is_star(text: &[u8]) -> bool
 }
 
 fn ends_line(byte: u8) -> bool
-    ensures { result ≡ spec.ends_line byte }
+    ensures { result ≡ ends_line byte }
 {
     byte == 0 || byte == b'\n' || byte == b'\r'
 }
@@ -68,12 +62,6 @@ fn is_name_byte(byte: u8) -> bool
     (b'a' <= byte && byte <= b'z') || (b'0' <= byte && byte <= b'9') || byte == b'-' || byte == b'_'
 }
 
-fn has_line_end(text: &[u8]) -> bool
-    ensures { result ≡ list_any spec.ends_line text.now }
-{
-    memchr3(0, b'\n', b'\r', text).is_some()
-}
-
 // Whether none of the first bytes ends a word.
 fn begins_within_word(text: &[u8]) -> bool
     requires { LANES ≤ length text.now }
@@ -94,8 +82,8 @@ fn is_within_word(text: &[u8]) -> bool
     begins_within_word(text) & begins_within_word(&text[text.len() - LANES..])
 }
 
-// Most ids and sources are seen by two looks.
-fn has_word_end(text: &[u8]) -> bool
+/// Whether NUL, LF, CR or a space stands in the text. Most ids and sources are seen by two looks.
+pub fn has_word_end(text: &[u8]) -> bool
     ensures { result ≡ list_any spec.ends_word text.now }
 {
     if text.len() < LANES || text.len() > 2 * LANES {

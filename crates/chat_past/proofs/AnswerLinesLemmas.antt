@@ -8,10 +8,11 @@ use Rattle.std.proofs.lemmas.Bool.{and_parts}
 use Rattle.std.proofs.lemmas.Bool.Decides.{nat_tests}
 use Rattle.std.proofs.lemmas.List.{length-map}
 use Rattle.std.proofs.lemmas.List.Elements.{All-contains, All-contains_itself, All-weaker, All-from_recursion, recursion_from_All}
+use Rattle.byte_text.specs.Bytes.{begins_with, colon, ends_line, space}
 use Rattle.irc_time.specs.Time.{greatest}
 use Rattle.irc_line.specs.declared.line.TagLimit.{TagLimit}
 use Rattle.irc_line.specs.declared.line.TagLimit.TheVariants.{Server}
-use Rattle.irc_line.specs.Line.{Reading, Reads, colon, space, begins_with, is_bad, HasNoSpace}
+use Rattle.irc_line.specs.Line.{Reading, Reads, HasNoSpace}
 use Rattle.irc_line.specs.Text.{middles_text}
 use Rattle.irc_line.specs.CanStand.{HasNoBadByte}
 use Rattle.irc_line.specs.Lines.{AreLines}
@@ -79,7 +80,7 @@ upper_space : (text : List ℕ) → HasNoSpace text → HasNoSpace (map to_ascii
 upper_space [] p = tt
 upper_space (b ∷ text) p = (upper_other space b (lit< tt) ∙ p.0, upper_space text p.1)
 
-upper_bad : (text : List ℕ) → list_any is_bad (map to_ascii_uppercase text) ≡ list_any is_bad text
+upper_bad : (text : List ℕ) → list_any ends_line (map to_ascii_uppercase text) ≡ list_any ends_line text
 upper_bad [] = refl
 upper_bad (b ∷ text) = λ i. (upper_other 0 b (lit< tt) i || upper_other 10 b (lit< tt) i || upper_other 13 b (lit< tt) i) || upper_bad text i
 

@@ -4,6 +4,7 @@ use Rattle.std.specs.Prelude.{IfSome}
 use Rattle.std.specs.List.{AllByRecursion, list_any}
 use Rattle.std.proofs.lemmas.Bool.{or_parts}
 use Rattle.std.proofs.lemmas.List.Elements.{All-from_recursion, recursion_from_All}
+use Rattle.byte_text.specs.Bytes.{ends_line}
 use Rattle.irc_caps.specs.declared.CapSet.{CapSet}
 use Rattle.tag_data.specs.Value.{value_text}
 use Rattle.tag_data.specs.Standing.{is_nul, ends_tag_data}
@@ -12,7 +13,7 @@ use Rattle.irc_time.specs.Text.{time_text}
 use Rattle.irc_time.proofs.CallerLemmas.{time_shape}
 use Rattle.irc_line.specs.declared.line.TagLimit.{TagLimit}
 use Rattle.irc_line.specs.declared.line.TagLimit.TheVariants.{Client, Server}
-use Rattle.irc_line.specs.Line.{is_bad, tag_limit, HasNoSpace}
+use Rattle.irc_line.specs.Line.{tag_limit, HasNoSpace}
 use Rattle.irc_line.specs.Text.{Parts, tags_text, line_text}
 use Rattle.irc_line.specs.CanStand.{HasNoBadByte, CanBeMiddle, CanBeTags, CanStand}
 use Rattle.irc_line.specs.Lines.{AreLines}
@@ -24,7 +25,8 @@ use Rattle.chat_change.specs.Words.{is_target}
 use Rattle.chat_change.specs.Message.{kind_word}
 use Rattle.chat_change.specs.Record.{Record}
 use Rattle.chat_change.specs.Lawful.{IsLawfulRecord}
-use Rattle.chat_past.specs.Tags.{more_tags, tag_part, only_if, has_own_tags, own_tags, batch_tags, message_tags}
+use Rattle.irc_caps.specs.Words.{only_if}
+use Rattle.chat_past.specs.Tags.{more_tags, tag_part, has_own_tags, own_tags, batch_tags, message_tags}
 use Rattle.chat_past.specs.Message.{record_text, live_text}
 use Rattle.chat_past.specs.Batch.{opening, closing, batch_text, records_text, history_text, buffer_text, buffers_text, targets_text}
 use Rattle.chat_query.specs.Standing.{IsReference}
@@ -149,7 +151,7 @@ line_bytes (b ∷ text) all =
 no_nul : (text : List ℕ) → HasNoBadByte text → AllByRecursion (λ b. is_nul b ≡ false) text
 no_nul [] e = tt
 no_nul (b ∷ text) e =
-    let both = or_parts (is_bad b) (list_any is_bad text) e in
+    let both = or_parts (ends_line b) (list_any ends_line text) e in
     let first = or_parts ((b == 0) || (b == 10)) (b == 13) both.0 in
     ((or_parts (b == 0) (b == 10) first.0).0, no_nul text both.1)
 

@@ -1,6 +1,6 @@
 -- The line of a message, as it is held.
 use Rattle.std.proofs.Common.{◌≡◌, ℕ, List, [], ◌++◌, codes, sym, ap, ◌∙◌, append_assoc, append-nil}
-use Rattle.irc_line.specs.Text.{line_ending}
+use Rattle.byte_text.specs.Bytes.{line_ending}
 use Rattle.chat_change.specs.Record.{Record}
 use Rattle.chat_change.specs.Message.{kind_word, sent_line}
 use Rattle.chat_past.specs.Message.{message_line}

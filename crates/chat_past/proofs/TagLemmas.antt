@@ -1,9 +1,7 @@
 -- Tags that are written one by one.
-use Rattle.std.proofs.Common.{◌≡◌, ℕ, ◌-◌, ◌*◌, ◌≤◌, List, [], ◌∷◌, ◌++◌, Bool, true, false, not, ◌&&◌, Option, Some, None, codes, cond, get_or, length, take, drop, length-drop, refl, sym, ap, ◌∙◌, append_assoc, append-nil, arith}
-use Rattle.std.proofs.lemmas.Bool.{and_parts, or_parts, false_from_ne_true, not-true}
+use Rattle.std.proofs.Common.{◌≡◌, ℕ, ◌-◌, ◌*◌, ◌≤◌, List, [], ◌∷◌, ◌++◌, Bool, true, false, not, ◌&&◌, Option, codes, cond, length, take, drop, length-drop, refl, sym, ap, ◌∙◌, append_assoc, append-nil, arith}
+use Rattle.std.proofs.lemmas.Bool.{and_parts, or_parts, not-true}
 use Rattle.std.proofs.lemmas.List.{take_all}
-use Rattle.std.proofs.lemmas.List.Elements.{All-from_get_or}
-use Rattle.std.proofs.lemmas.List.Folds.{list_any_none, list_any_at}
 use Rattle.std.specs.Option.{is_some}
 use Rattle.std.specs.Prelude.{◌||◌}
 use Rattle.std.specs.List.{list_all, list_any}
@@ -11,11 +9,12 @@ use Rattle.memchr.specs.Find.{IsFirstByte, is_byte2}
 use Rattle.std.proofs.lemmas.Bool.Decides.{nat_tests}
 use Rattle.tag_data.specs.Value.{byte_spelling, value_text, semicolon, backslash}
 use Rattle.irc_time.specs.Text.{time_text}
-use Rattle.byte_text.proofs.CallerLemmas.{any_behind, any_within}
+use Rattle.byte_text.proofs.CallerLemmas.{any_behind, any_within, found_is_any}
 use Rattle.chat_change.specs.Record.{Record}
 use Rattle.chat_change.specs.Words.{is_id, ends_word}
 use Rattle.irc_caps.specs.declared.CapSet.{CapSet}
-use Rattle.chat_past.specs.Tags.{tag_part, more_tags, only_if, has_own_tags, batch_tags, message_tags, next_tag, is_plain_byte}
+use Rattle.irc_caps.specs.Words.{only_if}
+use Rattle.chat_past.specs.Tags.{tag_part, more_tags, has_own_tags, batch_tags, message_tags, next_tag, is_plain_byte}
 
 -- tags from the first on, or from a later one on
 abbrev from_here : Bool → List (List ℕ) → List ℕ
@@ -91,12 +90,6 @@ bare_text (b ∷ text) e =
     (λ i. bare_byte b parts.0 i && bare_text text parts.1 i)
     ∙ both_bare (is_byte2 semicolon backslash b) (list_any (is_byte2 semicolon backslash) text)
 
--- one is found exactly where there is one
-some_found : (test : ℕ → Bool) (text : List ℕ) (r : Option ℕ) → IsFirstByte test text r → is_some r ≡ list_any test text
-some_found test text None h =
-    sym (list_any_none test text (All-from_get_or (λ b. test b ≡ false) text 0 (λ k below. false_from_ne_true (test (get_or text k 0)) (h k (omega arith) below))))
-some_found test text (Some at) h = sym (list_any_at test text at 0 h.0.high h.1)
-
 turned : (x y : Bool) → not x ≡ y → x ≡ not y
 turned true y e = ap not e
 turned false y e = ap not e
@@ -106,7 +99,7 @@ id_bare text e = not-true (list_any ends_word text) (and_parts _ _ (and_parts _ 
 
 pub plain_id : (text : List ℕ) (r : Option ℕ) (is_plain : Bool) → is_id text ≡ true → IsFirstByte (is_byte2 semicolon backslash) text r
     → is_some r ≡ not is_plain → is_plain ≡ list_all is_plain_byte text
-plain_id text r is_plain e h none = turned is_plain _ (sym none ∙ some_found (is_byte2 semicolon backslash) text r h) ∙ sym (bare_text text (id_bare text e))
+plain_id text r is_plain e h none = turned is_plain _ (sym none ∙ found_is_any (is_byte2 semicolon backslash) text r h) ∙ sym (bare_text text (id_bare text e))
 
 -- ---- ids of which two looks see all bytes
 

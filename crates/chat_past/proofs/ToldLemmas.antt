@@ -21,7 +21,8 @@ use Rattle.irc_time.specs.Text.{time_text}
 use Rattle.irc_time.proofs.CallerLemmas.{moment_text, time_shape}
 use Rattle.chat_change.specs.Record.{Record}
 use Rattle.chat_change.specs.Lawful.{IsLawfulRecord}
-use Rattle.chat_past.specs.Tags.{tag_part, only_if, own_tags, batch_tags, message_tags}
+use Rattle.irc_caps.specs.Words.{only_if}
+use Rattle.chat_past.specs.Tags.{tag_part, own_tags, batch_tags, message_tags}
 use Rattle.chat_past.specs.Message.{message_line, record_text, live_text}
 use Rattle.chat_query.specs.Reference.{reference_text, greatest_reference}
 use Rattle.chat_past.specs.Told.{HasOwn, tag_if, told_of, told_in_batch, TellsTags}

@@ -1,11 +1,12 @@
 -- The lines of a page (IRCv3 batch, and "Batch Types" of IRCv3 draft/chathistory).
 use Rattle.std.specs.Prelude.{ℕ, List, [], ◌∷◌, ◌++◌, codes, None, if◌then◌else◌}
 use Rattle.std.specs.List.{flat_map}
+use Rattle.byte_text.specs.Bytes.{line_ending}
 use Rattle.irc_caps.specs.declared.CapSet.{CapSet}
 use Rattle.irc_time.specs.Text.{time_text}
 use Rattle.chat_change.specs.Record.{Record}
 use Rattle.chat_past.specs.Page.{Page, of_records, of_buffers}
-use Rattle.irc_reply.specs.Reply.{ending, reply}
+use Rattle.irc_reply.specs.Reply.{reply}
 use Rattle.chat_past.specs.Tags.{tag_part, batch_tags}
 use Rattle.chat_past.specs.Message.{record_text}
 
@@ -15,10 +16,10 @@ batch_start cluster sign reference = codes ":" ++ (cluster ++ (sign ++ reference
 
 abbrev pub opening : List ℕ → List ℕ → List ℕ → List ℕ
 opening cluster reference kind =
-    batch_start cluster (codes " BATCH +") reference ++ (kind ++ ending)
+    batch_start cluster (codes " BATCH +") reference ++ (kind ++ line_ending)
 
 abbrev pub closing : List ℕ → List ℕ → List ℕ
-closing cluster reference = batch_start cluster (codes " BATCH -") reference ++ ending
+closing cluster reference = batch_start cluster (codes " BATCH -") reference ++ line_ending
 
 -- The lines of a batch between its two BATCH lines. The kind is the type of the batch, with its parameter if it has one.
 -- A session without `batch` gets the members alone.

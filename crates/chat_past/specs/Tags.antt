@@ -1,7 +1,9 @@
 -- The tags of the lines that are written (IRCv3 message-tags, "Format").
 use Rattle.std.specs.Prelude.{ℕ, Bool, not, ◌&&◌, ◌||◌, ◌==◌, List, [], ◌∷◌, ◌++◌, length, codes, if◌then◌else◌}
+use Rattle.byte_text.specs.Bytes.{cr, lf, space}
+use Rattle.irc_caps.specs.Words.{only_if}
 use Rattle.irc_caps.specs.declared.CapSet.{CapSet}
-use Rattle.tag_data.specs.Value.{semicolon, space, backslash, carriage_return, line_feed, value_text}
+use Rattle.tag_data.specs.Value.{semicolon, backslash, value_text}
 use Rattle.irc_time.specs.Text.{time_text}
 use Rattle.chat_change.specs.Record.{Record}
 use Rattle.chat_past.specs.declared.tags.Tag.{Tag}
@@ -15,9 +17,6 @@ more_tags (tag ∷ tags) = codes ";" ++ (tag ++ more_tags tags)
 abbrev pub tag_part : List (List ℕ) → List ℕ
 tag_part [] = []
 tag_part (tag ∷ tags) = codes "@" ++ (tag ++ more_tags tags)
-
-abbrev pub only_if : Bool → List ℕ → List (List ℕ)
-only_if b tag = if b then tag ∷ [] else []
 
 -- the tag of a line in a batch (IRCv3 batch)
 abbrev pub batch_tags : CapSet → List ℕ → List (List ℕ)
@@ -58,4 +57,4 @@ next_tag begun flag tag = if flag then separator begun ++ tag else []
 -- whether a byte of a value is written as it is
 abbrev pub is_plain_byte : ℕ → Bool
 is_plain_byte b =
-    not ((b == semicolon) || (b == space) || (b == backslash) || (b == carriage_return) || (b == line_feed))
+    not ((b == semicolon) || (b == space) || (b == backslash) || (b == cr) || (b == lf))

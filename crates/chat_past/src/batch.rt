@@ -1,7 +1,7 @@
 //! Batches (IRCv3 batch).
 ghost use Rattle.std.specs.Prelude.{◌++◌, [], map, codes, if◌then◌else◌};
+ghost use Rattle.byte_text.specs.Bytes.{line_ending};
 ghost use Rattle.byte_text.specs.Writes.{Writes};
-ghost use Rattle.irc_reply.specs.Reply.{ending};
 ghost use Rattle.chat_past.specs.Batch.{batch_start, opening, closing, records_text, history_text, buffer_text, buffers_text, targets_text};
 
 use super::listed_buffer::ListedBuffer;
@@ -54,10 +54,10 @@ pub(crate) fn put_pair<W: Write>(writer: &mut W, prefix: &[u8], text: &[u8]) -> 
     put(writer, text)
 }
 
-/// Writes the type of a batch, with its parameter, and the ending of the line.
+/// Writes the type of a batch, with its parameter, and the line_ending of the line.
 fn put_kind<W: Write>(writer: &mut W, kind: &[u8], parameter: &[u8]) -> io::Result<()>
     ensures { Writes W.contents writer.old writer.new result
-        ((kind.now ++ parameter.now) ++ ending) }
+        ((kind.now ++ parameter.now) ++ line_ending) }
 {
     put_pair(writer, kind, parameter)?;
     put(writer, b"\r\n")

@@ -2,7 +2,8 @@
 use Rattle.std.proofs.Common.{◌≡◌, ℕ, ◌<◌, ◌≤◌, Bool, true, false, ◌&&◌, ◌||◌, ◌==◌, not, nat_lt, nat_le, List, [], ◌∷◌, length, cond, codes, refl, sym, subst, inl, inr, arith, lit≤}
 use Rattle.std.specs.List.{list_any}
 use Rattle.std.proofs.lemmas.Bool.{and_parts, or_parts, ltb-true, leb-true, not-true}
-use Rattle.irc_line.specs.Line.{colon, space, begins_with as begins_with_byte, is_bad, is_command, HasNoSpace}
+use Rattle.byte_text.specs.Bytes.{begins_with as begins_with_byte, colon, ends_line, space}
+use Rattle.irc_line.specs.Line.{is_command, HasNoSpace}
 use Rattle.irc_line.specs.CanStand.{HasNoBadByte, CanBeSource}
 use Rattle.irc_line.proofs.CallerLemmas.{no_space_from, middle_from}
 use Rattle.tag_data.specs.ClientOnly.{is_client_only_text}
@@ -12,7 +13,7 @@ use Rattle.chat_change.specs.declared.words.TheConstants.{TARGET_LIMIT, ID_LIMIT
 use Rattle.chat_change.specs.declared.message.Kind.{Kind}
 use Rattle.chat_change.specs.declared.message.Kind.TheVariants.{Privmsg, Notice}
 use Rattle.chat_change.specs.Message.{kind_word}
-use Rattle.chat_change.specs.Words.{has_length_to, begins_with_colon, ends_line, ends_word, ends_target, is_star, is_target, is_id, is_body, MayBeTags}
+use Rattle.chat_change.specs.Words.{has_length_to, begins_with_colon, ends_word, ends_target, is_star, is_target, is_id, is_body, MayBeTags}
 
 any_weaker : (p q : ℕ → Bool) → ((b : ℕ) → p b ≡ false → q b ≡ false) → (text : List ℕ) → list_any p text ≡ false → list_any q text ≡ false
 any_weaker p q h [] e = refl
@@ -24,7 +25,7 @@ any_weaker p q h (b ∷ text) e =
 word_bytes : (text : List ℕ) → list_any ends_word text ≡ false → HasNoSpace text × HasNoBadByte text
 word_bytes text e = (
   no_space_from text (any_weaker ends_word (λ b. b == 32) (λ b f. (or_parts (ends_line b) (b == 32) f).1) text e),
-  any_weaker ends_word is_bad (λ b f. (or_parts (ends_line b) (b == 32) f).0) text e,
+  any_weaker ends_word ends_line (λ b f. (or_parts (ends_line b) (b == 32) f).0) text e,
 )
 
 no_colon : (text : List ℕ) → begins_with_colon text ≡ false → begins_with_byte colon text ≡ false

@@ -1,9 +1,9 @@
 //! How the session with the server of a network stands.
-ghost use Rattle.std.specs.Prelude.{◌≡◌, List, not, map, IfOk, OnErr};
+ghost use Rattle.std.specs.Prelude.{◌≡◌, IfOk, OnErr};
 ghost use Rattle.std.specs.List.{list_any};
 ghost use Rattle.client_directory.specs.Entry as spec;
 
-use byte_text::{NoMemory, Text};
+use byte_text::{NoMemory, Text, copies_of};
 use std::alloc::{AllocError, Global};
 use std::marker::Model;
 
@@ -41,17 +41,6 @@ fn has_channel(channels: &[Text], channel: &[u8]) -> bool
     channels
         .iter()
         .any(|other| is_same_channel(channel, other.as_bytes()))
-}
-
-fn copies_of(alloc: Global, texts: &[Text]) -> Result<Vec<Text>, AllocError>
-    ensures { IfOk result (λ copies. copies.items ≡ texts.now) }
-{
-    let mut copies = Vec::new(alloc);
-    for text in texts {
-        let copy = text.try_clone(alloc)?;
-        copies.push(copy)?;
-    }
-    Ok(copies)
 }
 
 impl Entry {

@@ -6,12 +6,13 @@ use Rattle.std.proofs.lemmas.Bool.{and_parts, or_parts, leb-true}
 use Rattle.std.proofs.lemmas.Bool.Decides.{nat_tests}
 use Rattle.std.proofs.lemmas.List.{length-take}
 use Rattle.std.proofs.lemmas.List.Folds.{list_any-append}
+use Rattle.byte_text.specs.Bytes.{ends_line}
 use Rattle.irc_time.specs.Reading.{time_of}
 use Rattle.irc_line.specs.declared.line.LineFault.{LineFault}
 use Rattle.irc_line.specs.declared.line.LineFault.TheVariants.{Empty, TagsTooLong, TooLong, BadByte, NoCommand}
 use Rattle.irc_line.specs.declared.line.TagLimit.{TagLimit}
 use Rattle.irc_line.specs.declared.line.TagLimit.TheVariants.{Client}
-use Rattle.irc_line.specs.Line.{Reading, Reads, is_bad, is_command}
+use Rattle.irc_line.specs.Line.{Reading, Reads, is_command}
 use Rattle.irc_line.specs.Read.{read}
 use Rattle.irc_line.specs.CanStand.{HasNoBadByte, CanBeMiddle}
 use Rattle.irc_line.specs.Lines.{AreLines}
@@ -107,7 +108,7 @@ effects-append limit (effect ∷ one) two p q = (p.0, effects-append limit one t
 
 good_take : (n : ℕ) (text : List ℕ) → HasNoBadByte text → HasNoBadByte (take n text)
 good_take n text good =
-    (or_parts (list_any is_bad (take n text)) (list_any is_bad (drop n text)) (sym (list_any-append is_bad (take n text) (drop n text)) ∙ ap (list_any is_bad) (take-append-drop n text) ∙ good)).0
+    (or_parts (list_any ends_line (take n text)) (list_any ends_line (drop n text)) (sym (list_any-append ends_line (take n text) (drop n text)) ∙ ap (list_any ends_line) (take-append-drop n text) ∙ good)).0
 
 short_take : (n : ℕ) (text : List ℕ) → length (take n text) ≤ n
 short_take n text = omega (arith, length-take n text)
@@ -117,16 +118,16 @@ good_joined [] p = refl
 good_joined (word ∷ []) p = p.0
 good_joined (word ∷ other ∷ words) p = good_append word (32 ∷ joined (other ∷ words)) p.0 (good_joined (other ∷ words) p.1)
 
-good_onto : (b : ℕ) (words : List (List ℕ)) → is_bad b ≡ false → AllByRecursion HasNoBadByte words → AllByRecursion HasNoBadByte (onto_first b words)
+good_onto : (b : ℕ) (words : List (List ℕ)) → ends_line b ≡ false → AllByRecursion HasNoBadByte words → AllByRecursion HasNoBadByte (onto_first b words)
 good_onto b [] e p = (ap (λ t. t || false) e, tt)
-good_onto b (word ∷ words) e p = (ap (λ t. t || list_any is_bad word) e ∙ p.0, p.1)
+good_onto b (word ∷ words) e p = (ap (λ t. t || list_any ends_line word) e ∙ p.0, p.1)
 
 good_split : (text : List ℕ) → HasNoBadByte text → AllByRecursion HasNoBadByte (slice_split (λ b. b == 32) text)
 good_split [] good = (refl, tt)
 good_split (b ∷ text) good =
-    let both = or_parts (is_bad b) (list_any is_bad text) good in
+    let both = or_parts (ends_line b) (list_any ends_line text) good in
     go (b == 32) (good_split text both.1) both.0 where
-      go : (t : Bool) → AllByRecursion HasNoBadByte (slice_split (λ b. b == 32) text) → is_bad b ≡ false
+      go : (t : Bool) → AllByRecursion HasNoBadByte (slice_split (λ b. b == 32) text) → ends_line b ≡ false
           → AllByRecursion HasNoBadByte (cond t ([] ∷ slice_split (λ b. b == 32) text) (onto_first b (slice_split (λ b. b == 32) text)))
       go true p e = (refl, p)
       go false p e = good_onto b (slice_split (λ b. b == 32) text) e p

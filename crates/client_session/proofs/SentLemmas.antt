@@ -7,11 +7,12 @@ use Rattle.std.specs.Fmt.{decimal}
 use Rattle.std.proofs.lemmas.Bool.{and_parts, or_parts}
 use Rattle.std.proofs.lemmas.Bool.Decides.{nat_tests}
 use Rattle.std.proofs.lemmas.Slice.Eq.{bytes_eq-Decides}
+use Rattle.byte_text.specs.Bytes.{ends_line}
 use Rattle.irc_line.specs.declared.line.LineFault.{LineFault}
 use Rattle.irc_line.specs.declared.line.LineFault.TheVariants.{TooLong}
 use Rattle.irc_line.specs.declared.line.TagLimit.{TagLimit}
 use Rattle.irc_line.specs.declared.line.TagLimit.TheVariants.{Client}
-use Rattle.irc_line.specs.Line.{Reading, is_bad}
+use Rattle.irc_line.specs.Line.{Reading}
 use Rattle.irc_line.specs.Read.{read}
 use Rattle.irc_line.specs.CanStand.{HasNoBadByte, CanBeMiddle}
 use Rattle.irc_line.specs.Lines.{AreLines}
@@ -125,7 +126,7 @@ maximum_token n small =
         omega arith,
         refl,
         no_space_append (codes "CHATHISTORY=") (decimal n) (no_space_from (codes "CHATHISTORY=") refl) is.0.1,
-        good_append (codes "CHATHISTORY=") (decimal n) refl (or_parts (is_bad 114) (list_any is_bad (decimal n)) is.1).1,
+        good_append (codes "CHATHISTORY=") (decimal n) refl (or_parts (ends_line 114) (list_any ends_line (decimal n)) is.1).1,
       ),
       omega arith,
     )

@@ -3,15 +3,16 @@ use Rattle.std.proofs.Common.{◌≡◌, ℕ, ◌<◌, ◌≤◌, Bool, true, fa
 use Rattle.std.specs.Prelude.{◌==◌, ◌&&◌, ◌||◌, nat_le}
 use Rattle.std.specs.List.{AllByRecursion, list_any, list_all}
 use Rattle.std.proofs.lemmas.Bool.{and_parts, or_cases, ltb-true, leb-true, ne_eqb, eqb-true}
+use Rattle.byte_text.specs.Bytes.{begins_with, colon, ends_line, space}
 use Rattle.byte_text.specs.Number.{is_digit}
-use Rattle.irc_line.specs.Line.{space, colon, at_sign, begins_with, is_bad, is_letter, is_command, HasNoSpace}
+use Rattle.irc_line.specs.Line.{at_sign, is_letter, is_command, HasNoSpace}
 
 -- a byte that is no space, no colon, no at-sign, and none that a line may not hold
 pub record IsPlain (b : ℕ) : Type 0 where
   pub no_space : (b == space) ≡ false
   pub no_colon : (b == colon) ≡ false
   pub no_at : (b == at_sign) ≡ false
-  pub no_bad : is_bad b ≡ false
+  pub no_bad : ends_line b ≡ false
 
 plain_at : (b : ℕ) → 48 ≤ b → (b ≡ 58 → ⊥) → (b ≡ 64 → ⊥) → IsPlain b
 plain_at b above p q =
@@ -62,9 +63,9 @@ pub plain_no_space : (text : List ℕ) → AllByRecursion IsPlain text → HasNo
 plain_no_space [] p = tt
 plain_no_space (b ∷ text) p = (p.0.no_space, plain_no_space text p.1)
 
-pub plain_no_bad : (text : List ℕ) → AllByRecursion IsPlain text → list_any is_bad text ≡ false
+pub plain_no_bad : (text : List ℕ) → AllByRecursion IsPlain text → list_any ends_line text ≡ false
 plain_no_bad [] p = refl
-plain_no_bad (b ∷ text) p = ap (λ t. t || list_any is_bad text) p.0.no_bad ∙ plain_no_bad text p.1
+plain_no_bad (b ∷ text) p = ap (λ t. t || list_any ends_line text) p.0.no_bad ∙ plain_no_bad text p.1
 
 pub plain_begins : (text rest : List ℕ) → IsPlainText text → (begins_with space (text ++ rest) ≡ false) × (begins_with colon (text ++ rest) ≡ false) × (begins_with at_sign (text ++ rest) ≡ false)
 plain_begins [] rest p = (let none = p.some in absurd (omega arith))

@@ -4,7 +4,6 @@ mod FaultsLemmas
 mod ReadLemmas
 mod StreamLemmas
 mod SearchLemmas
-mod FoundLemmas
 mod CallsLemmas
 mod TextLemmas
 mod LinesLemmas

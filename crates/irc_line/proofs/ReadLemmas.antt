@@ -2,10 +2,11 @@
 use Rattle.std.proofs.Common.{◌≡◌, ℕ, zero, suc, ◌+◌, ◌<◌, Bool, true, false, cond, List, [], ◌∷◌, drop, None, Some, Option, Result, Ok, Err, refl, sym, ap, ◌∙◌, subst, arith, inl, inr}
 use Rattle.std.specs.Prelude.{◌==◌, IfOk, IfErr, MatchResult, ◌⊎◌, ◌≤◌}
 use Rattle.std.proofs.lemmas.Bool.{eqb-true, eq-eqb, ne_eqb, cases_lt}
+use Rattle.byte_text.specs.Bytes.{colon}
 use Rattle.irc_line.specs.declared.line.LineFault.{LineFault}
 use Rattle.irc_line.specs.declared.line.LineFault.TheVariants.{Empty, TagsTooLong, TooLong, BadByte, NoCommand}
 use Rattle.irc_line.specs.declared.line.TagLimit.{TagLimit}
-use Rattle.irc_line.specs.Line.{Reading, colon, at_sign, rank, SkipsSpaces, SplitsWord, SplitsTags, SplitsSource, HasParameters, HasHead, IsRefused, Reads}
+use Rattle.irc_line.specs.Line.{Reading, at_sign, rank, SkipsSpaces, SplitsWord, SplitsTags, SplitsSource, HasParameters, HasHead, IsRefused, Reads}
 use Rattle.irc_line.specs.Faults.{shows, first_fault}
 use Rattle.irc_line.specs.Read.{after_spaces, word, after_word, tags_of, after_tags, source_of, after_source, last_parameter, next_parameter, parameters, head_of, reading_of, fault_or, read, text_in}
 use Rattle.irc_line.proofs.LineLemmas.{skips_at_first, splits_at_first, tags_once, source_once, spelled_once, match_true, match_false}

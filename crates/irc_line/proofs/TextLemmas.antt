@@ -7,11 +7,12 @@ use Rattle.std.specs.Io.BufRead.{strip_last, ends_with_byte}
 use Rattle.std.proofs.lemmas.List.Folds.{list_any-append}
 use Rattle.std.proofs.lemmas.List.{take_at, get_or_push}
 use Rattle.std.proofs.lemmas.Bool.{cond-true, both_ways, eq-eqb, eqb-true, or_parts, lt-ltb}
+use Rattle.byte_text.specs.Bytes.{begins_with, colon, ends_line, space}
 use Rattle.irc_line.specs.declared.line.LineFault.{LineFault}
 use Rattle.irc_line.specs.declared.line.LineFault.TheVariants.{Empty, TagsTooLong, TooLong, BadByte, NoCommand}
 use Rattle.irc_line.specs.declared.line.TagLimit.{TagLimit}
 use Rattle.irc_line.specs.declared.line.TagLimit.TheVariants.{Client, Server}
-use Rattle.irc_line.specs.Line.{space, colon, at_sign, begins_with, ends_word, is_bad, is_command, IsSpaces, SplitsWord, SplitsTags, SplitsSource, HasParameters, HasHead, HasFault, Reads, tag_limit}
+use Rattle.irc_line.specs.Line.{at_sign, is_behind_word, is_command, IsSpaces, SplitsWord, SplitsTags, SplitsSource, HasParameters, HasHead, HasFault, Reads, tag_limit}
 use Rattle.irc_line.specs.Read.{read}
 use Rattle.irc_line.specs.Stream.{is_lf, item_of, items, line, too_long}
 use Rattle.irc_line.specs.Text.{Parts, tags_text, source_text, middles_text, trailing_text, text_of, line_text}
@@ -27,7 +28,7 @@ use Rattle.irc_line.proofs.CallsLemmas.{drop_past}
 abbrev pub ending : List (List ℕ) → Option (List ℕ) → List ℕ
 ending middles trailing = middles_text middles ++ trailing_text trailing
 
-ends : (middles : List (List ℕ)) (trailing : Option (List ℕ)) → ends_word (ending middles trailing) ≡ true
+ends : (middles : List (List ℕ)) (trailing : Option (List ℕ)) → is_behind_word (ending middles trailing) ≡ true
 ends [] None = refl
 ends [] (Some text) = refl
 ends (middle ∷ middles) trailing = refl
@@ -74,7 +75,7 @@ no_at (Some source) rest q = refl
 -- ---- no fault
 
 pub good_append : (a b : List ℕ) → HasNoBadByte a → HasNoBadByte b → HasNoBadByte (a ++ b)
-good_append a b p q = list_any-append is_bad a b ∙ ap (λ t. t || list_any is_bad b) p ∙ q
+good_append a b p q = list_any-append ends_line a b ∙ ap (λ t. t || list_any ends_line b) p ∙ q
 
 good_tags : (limit : TagLimit) (tags : Option (List ℕ)) → IfSome tags (CanBeTags limit) → HasNoBadByte (tags_text tags)
 good_tags limit None p = refl
@@ -140,7 +141,7 @@ module _ (limit : TagLimit) (parts : Parts) (can : CanStand limit parts) where
       let over = long.3 in
       let most = can.size in
       omega (arith, ap length same.1)
-  no_fault BadByte bad = both_ways (list_any is_bad (text_of parts)) good bad
+  no_fault BadByte bad = both_ways (list_any ends_line (text_of parts)) good bad
   no_fault NoCommand lacks =
       let same = head_once (text_of parts) parts.tags lacks.0 parts.source lacks.1 parts.command lacks.2 head lacks.3 in
       ⊎_elim (λ h. (let source : CanBeSource [] = subst (λ s. IfSome s CanBeSource) (same.same_source ∙ h) can.source in let some = source.0 in omega arith))
@@ -161,7 +162,7 @@ module _ (limit : TagLimit) (parts : Parts) (can : CanStand limit parts) where
 no_lf_in : (xs : List ℕ) → HasNoBadByte xs → length xs ≤ position_or_len is_lf xs
 no_lf_in [] p = omega arith
 no_lf_in (x ∷ xs) p =
-    let both = or_parts (is_bad x) (list_any is_bad xs) p in
+    let both = or_parts (ends_line x) (list_any ends_line xs) p in
     let first = or_parts ((x == 0) || (x == 10)) (x == 13) both.0 in
     let second = or_parts (x == 0) (x == 10) first.0 in
     let some : position_or_len is_lf (x ∷ xs) ≡ 1 + position_or_len is_lf xs = ap (λ b. cond (not b) (1 + position_or_len is_lf xs) 0) second.1 in

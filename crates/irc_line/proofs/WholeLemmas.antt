@@ -4,19 +4,20 @@ use Rattle.std.specs.Prelude.{◌==◌, MatchBool}
 use Rattle.std.specs.List.{AllByRecursion, list_any}
 use Rattle.std.proofs.lemmas.List.Folds.{list_any-append}
 use Rattle.std.proofs.lemmas.Bool.{or_parts}
+use Rattle.byte_text.specs.Bytes.{colon, ends_line}
 use Rattle.irc_line.specs.declared.line.LineFault.TheVariants.{BadByte}
 use Rattle.irc_line.specs.declared.line.TagLimit.{TagLimit}
-use Rattle.irc_line.specs.Line.{Reading, colon, is_bad, most_middles, SkipsSpaces, SplitsWord, SplitsTags, SplitsSource, HasParameters, Reads}
+use Rattle.irc_line.specs.Line.{Reading, most_middles, SkipsSpaces, SplitsWord, SplitsTags, SplitsSource, HasParameters, Reads}
 use Rattle.irc_line.specs.CanStand.{HasNoBadByte}
 
 append_parts : (a b : List ℕ) → HasNoBadByte (a ++ b) → HasNoBadByte a × HasNoBadByte b
-append_parts a b good = or_parts (list_any is_bad a) (list_any is_bad b) (sym (list_any-append is_bad a b) ∙ good)
+append_parts a b good = or_parts (list_any ends_line a) (list_any ends_line b) (sym (list_any-append ends_line a b) ∙ good)
 
 split_parts : (bytes a b : List ℕ) → bytes ≡ a ++ b → HasNoBadByte bytes → HasNoBadByte a × HasNoBadByte b
-split_parts bytes a b e good = append_parts a b (ap (list_any is_bad) (sym e) ∙ good)
+split_parts bytes a b e good = append_parts a b (ap (list_any ends_line) (sym e) ∙ good)
 
 behind_first : (b : ℕ) (bytes : List ℕ) → HasNoBadByte (b ∷ bytes) → HasNoBadByte bytes
-behind_first b bytes good = (or_parts (is_bad b) (list_any is_bad bytes) good).1
+behind_first b bytes good = (or_parts (ends_line b) (list_any ends_line bytes) good).1
 
 without_first : (bytes : List ℕ) → HasNoBadByte bytes → HasNoBadByte (drop 1 bytes)
 without_first [] good = good
@@ -66,9 +67,9 @@ parameters_whole n bytes (parameter ∷ more) has good =
       at_colon true h g again = last_whole has.1 parameter more h (behind_first has.0 has.1 g)
       at_colon false h g again = at_last has.0 has.1 (n == most_middles) h g again
 
-no_bad_byte : (bytes : List ℕ) → (list_any is_bad bytes ≡ true → ⊥) → HasNoBadByte bytes
-no_bad_byte bytes h = go (list_any is_bad bytes) refl where
-  go : (t : Bool) → list_any is_bad bytes ≡ t → t ≡ false
+no_bad_byte : (bytes : List ℕ) → (list_any ends_line bytes ≡ true → ⊥) → HasNoBadByte bytes
+no_bad_byte bytes h = go (list_any ends_line bytes) refl where
+  go : (t : Bool) → list_any ends_line bytes ≡ t → t ≡ false
   go true e = absurd (h e)
   go false e = refl
 

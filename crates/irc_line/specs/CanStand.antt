@@ -3,15 +3,16 @@
 use Rattle.std.specs.Prelude.{◌≡◌, ℕ, ◌<◌, ◌≤◌, true, false, List, ◌∷◌, ◌++◌, length, IfSome, Ok}
 use Rattle.std.specs.List.{AllByRecursion, list_any}
 use Rattle.std.specs.Option.{option_to_list}
+use Rattle.byte_text.specs.Bytes.{begins_with, colon, ends_line}
 use Rattle.irc_line.specs.declared.line.TagLimit.{TagLimit}
-use Rattle.irc_line.specs.Line.{Reading, Reads, colon, begins_with, is_bad, is_command, HasNoSpace, most_parameters, tag_limit, rest_limit}
+use Rattle.irc_line.specs.Line.{Reading, Reads, is_command, HasNoSpace, most_parameters, tag_limit, rest_limit}
 use Rattle.irc_line.specs.Text.{Parts, source_text, middles_text, trailing_text, text_of, line_text}
 use Rattle.irc_line.specs.Stream.{items, line}
 use Rattle.irc_line.specs.Read.{read}
 
 -- no NUL, CR or LF
 abbrev pub HasNoBadByte : List ℕ → Type 0
-HasNoBadByte bytes = list_any is_bad bytes ≡ false
+HasNoBadByte bytes = list_any ends_line bytes ≡ false
 
 abbrev pub CanBeTags : TagLimit → List ℕ → Type 0
 CanBeTags limit tags = HasNoSpace tags × HasNoBadByte tags × (length tags ≤ tag_limit limit)

@@ -1,13 +1,13 @@
 //! Reading one line (RFC 1459 and RFC 2812, section 2.3; IRCv3 message-tags).
 ghost use Rattle.std.specs.Prelude.{◌≡◌, ◌≤◌, ◌==◌, nat_lt, not, [], length, unwrap_or, map, take, drop, position, Ok, IfOk, IfErr, if◌then◌else◌};
-ghost use Rattle.std.specs.List.{list_any, list_all};
+ghost use Rattle.std.specs.List.{list_all};
 ghost use Rattle.std.specs.Option.{option_copied};
+ghost use Rattle.byte_text.specs.Bytes.{begins_with, colon, space};
 ghost use Rattle.irc_line.specs.Faults.{shows, first_fault, is_empty_source};
 ghost use Rattle.irc_line.specs.Read.{read, text_in};
-ghost use Rattle.irc_line.specs.Line.{Reading, most_parameters, tag_limit, space, colon, begins_with, is_bad, is_letter, is_command, SkipsSpaces, SplitsWord, SplitsTags, SplitsSource, HasParameters, IsRefused, Reads};
+ghost use Rattle.irc_line.specs.Line.{Reading, most_parameters, tag_limit, is_letter, is_command, SkipsSpaces, SplitsWord, SplitsTags, SplitsSource, HasParameters, IsRefused, Reads};
 
-use byte_text::{find_byte, has_digits_only};
-use memchr::memchr3;
+use byte_text::{begins_with, find_byte, has_digits_only, has_line_end};
 use std::marker::Model;
 use thiserror::Error;
 
@@ -157,12 +157,6 @@ fn split_source(bytes: &[u8]) -> (Option<&[u8]>, &[u8])
     (Some(source), skip_spaces(tail))
 }
 
-fn has_bad_byte(bytes: &[u8]) -> bool
-    ensures { result ≡ list_any is_bad bytes.now }
-{
-    memchr3(0, b'\n', b'\r', bytes).is_some()
-}
-
 fn is_letter(b: u8) -> bool
     ensures { result ≡ is_letter b }
 {
@@ -185,7 +179,7 @@ fn is_command(text: &[u8]) -> bool
 fn without_colon(text: &[u8]) -> &[u8]
     ensures { result.now ≡ (if begins_with colon text.now then drop 1 text.now else text.now) }
 {
-    if !text.is_empty() && text[0] == b':' {
+    if begins_with(b':', text) {
         &text[1..]
     } else {
         text
@@ -264,7 +258,7 @@ impl<'a> Head<'a> {
             Some(LineFault::TagsTooLong)
         } else if self.after_tags.len() > MAX_REST {
             Some(LineFault::TooLong)
-        } else if has_bad_byte(self.bytes) {
+        } else if has_line_end(self.bytes) {
             Some(LineFault::BadByte)
         } else if has_empty_source(self.source) || !is_command(self.command) {
             Some(LineFault::NoCommand)

@@ -1,7 +1,8 @@
 //! Lines out of a stream that comes in any pieces.
 ghost use Rattle.std.specs.Prelude.{◌≡◌, ◌↔◌, ◌+◌, ◌-◌, ◌<◌, ◌≤◌, true, IsTrue, None, IfOk, [], length, take, drop, vec_len, vec_capacity, position, if◌then◌else◌};
 ghost use Rattle.std.specs.Io.BufRead.{strip_last};
-ghost use Rattle.irc_line.specs.Stream.{Held, HasRoom, max_line, cr, holding, skipping, bytes_of, is_lf, held_with, held_without, next_item};
+ghost use Rattle.byte_text.specs.Bytes.{cr};
+ghost use Rattle.irc_line.specs.Stream.{Held, HasRoom, max_line, holding, skipping, bytes_of, is_lf, held_with, held_without, next_item};
 
 use byte_text::{NoMemory, find_byte};
 use std::alloc::Global;

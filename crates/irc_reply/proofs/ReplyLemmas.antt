@@ -4,8 +4,9 @@ use Rattle.std.specs.Prelude.{IfSome}
 use Rattle.std.specs.List.{AllByRecursion}
 use Rattle.std.specs.Option.{option_to_list}
 use Rattle.std.proofs.lemmas.Bool.{ne_eqb}
+use Rattle.byte_text.specs.Bytes.{begins_with, colon}
 use Rattle.irc_line.specs.declared.line.TagLimit.{TagLimit}
-use Rattle.irc_line.specs.Line.{colon, begins_with, is_command, most_parameters}
+use Rattle.irc_line.specs.Line.{is_command, most_parameters}
 use Rattle.irc_line.specs.Text.{Parts, middles_text, trailing_text}
 use Rattle.irc_line.specs.CanStand.{HasNoBadByte, CanBeMiddle, CanStand}
 use Rattle.irc_line.specs.Lines.{AreLines}

@@ -1,7 +1,7 @@
 -- Words of a client that are told again.
 use Rattle.std.specs.Prelude.{ℕ, Bool, not, ◌&&◌, ◌==◌, nat_le, List, codes, length, if◌then◌else◌}
 use Rattle.std.specs.List.{list_any}
-use Rattle.irc_line.specs.Line.{begins_with, colon, space}
+use Rattle.byte_text.specs.Bytes.{begins_with, colon, space}
 use Rattle.irc_reply.specs.Standing.{word_limit}
 
 -- a word that may stand where a parameter stands, and isn't too long to be told again

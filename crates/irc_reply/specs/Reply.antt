@@ -5,9 +5,6 @@ use Rattle.irc_time.specs.Text.{time_text}
 use Rattle.irc_reply.specs.declared.reply.Context.{Context}
 use Rattle.irc_reply.specs.declared.reply.Context.TheVariants.{Nothing, One, Two}
 
-abbrev pub ending : List ℕ
-ending = 13 ∷ 10 ∷ []
-
 -- a line from the cluster
 abbrev pub reply : List ℕ → List ℕ → List (List ℕ) → Option (List ℕ) → List ℕ
 reply cluster command middles trailing =

@@ -1,7 +1,8 @@
 -- The lines to a client (RFC 2812, section 5; IRCv3 standard-replies). All but the question of a marker end with CR LF.
 use Rattle.std.specs.Prelude.{ℕ, List, [], ◌∷◌, ◌++◌, codes, take, Option, None, Some}
 use Rattle.std.specs.Fmt.{decimal}
-use Rattle.irc_line.specs.Text.{line_text, source_text, line_ending}
+use Rattle.byte_text.specs.Bytes.{line_ending}
+use Rattle.irc_line.specs.Text.{line_text, source_text}
 use Rattle.irc_line.specs.Read.{text_in}
 use Rattle.irc_reply.specs.Reply.{reply, fail_text, plain_line}
 use Rattle.irc_reply.specs.Echo.{echoed}

@@ -1,6 +1,6 @@
 -- The lines to a server (RFC 2812, section 3; IRCv3 capability negotiation). Each ends with CR LF.
 use Rattle.std.specs.Prelude.{ℕ, List, [], ◌∷◌, ◌++◌, codes, take, Option, None, Some}
-use Rattle.irc_line.specs.Text.{line_ending}
+use Rattle.byte_text.specs.Bytes.{line_ending}
 use Rattle.irc_line.specs.Read.{text_in}
 use Rattle.irc_reply.specs.Reply.{plain_line}
 use Rattle.irc_reply.specs.Tagged.{tag_part, client_tags}

@@ -1,8 +1,10 @@
 //! Words of a client that are told again.
 ghost use Rattle.std.specs.Prelude.{◌≡◌, ◌==◌};
 ghost use Rattle.std.specs.List.{list_any};
-ghost use Rattle.irc_line.specs.Line.{space, colon, begins_with};
+ghost use Rattle.byte_text.specs.Bytes.{space};
 ghost use Rattle.irc_reply.specs.Echo as spec;
+
+use byte_text::begins_with;
 
 /// The most bytes of a word that is told again.
 const WORD_LIMIT: usize = 64;
@@ -13,16 +15,10 @@ fn has_space(word: &[u8]) -> bool
     word.iter().any(|b| *b == b' ')
 }
 
-fn begins_with_colon(word: &[u8]) -> bool
-    ensures { result ≡ begins_with colon word.now }
-{
-    !word.is_empty() && word[0] == b':'
-}
-
 fn can_be_echoed(word: &[u8]) -> bool
     ensures { result ≡ spec.can_be_echoed word.now }
 {
-    !word.is_empty() && word.len() <= WORD_LIMIT && !begins_with_colon(word) && !has_space(word)
+    !word.is_empty() && word.len() <= WORD_LIMIT && !begins_with(b':', word) && !has_space(word)
 }
 
 /// The word as it is told again: `*` for one that can't stand as a parameter, or has more than 64 bytes.

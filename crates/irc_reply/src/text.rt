@@ -1,7 +1,7 @@
 //! Lines in memory of their own.
 ghost use Rattle.std.specs.Prelude.{◌≡◌, ◌++◌, map, IfOk};
 ghost use Rattle.std.specs.Option.{option_copied};
-ghost use Rattle.irc_line.specs.Text.{line_ending};
+ghost use Rattle.byte_text.specs.Bytes.{line_ending};
 ghost use Rattle.tag_data.specs.ClientOnly.{client_only_text};
 ghost use Rattle.irc_reply.specs.Tagged.{tag_part, client_tags};
 ghost use Rattle.irc_reply.specs.Reply as spec;

@@ -4,22 +4,11 @@ ghost use Rattle.node_config.specs.Beginnings as spec;
 
 use crate::config::Config;
 use crate::entries::{Account, Network, Peer};
-use byte_text::{NoMemory, Text};
+use byte_text::{NoMemory, copies_of};
 use client_directory as directory;
 use client_directory::{Directory, Entry};
 use node_terms::NodeName;
 use std::alloc::{AllocError, Global};
-
-fn copies_of(alloc: Global, texts: &[Text]) -> Result<Vec<Text>, AllocError>
-    ensures { IfOk result (λ copies. copies.items ≡ texts.now) }
-{
-    let mut copies = Vec::new(alloc);
-    for text in texts {
-        let copy = text.try_clone(alloc)?;
-        copies.push(copy)?;
-    }
-    Ok(copies)
-}
 
 impl Network {
     ghost use Rattle.node_config.specs.Beginnings.{IsCopy};

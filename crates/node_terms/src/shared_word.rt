@@ -1,11 +1,10 @@
 //! The word that the nodes of a cluster share.
 ghost use Rattle.std.specs.Prelude.{◌≡◌, ℕ, List, IfOk, IfErr, if◌then◌else◌, true};
-ghost use Rattle.std.specs.List.{list_any};
-ghost use Rattle.chat_change.specs.Words.{ends_word as ends_shared_word};
 ghost use Rattle.node_terms.specs.Names as spec;
 
 use crate::fault::LinkFault;
 use byte_text::{NoMemory, Text};
+use chat_change::has_word_end;
 use std::alloc::Global;
 use std::marker::Model;
 
@@ -25,18 +24,6 @@ impl Model for SharedWord {
     ghost view = { λ w. w.text };
 
     ghost invariant = { λ w. spec.is_shared_word w.text ≡ true };
-}
-
-fn ends_word(byte: u8) -> bool
-    ensures { result ≡ ends_shared_word byte }
-{
-    byte == 0 || byte == b'\n' || byte == b'\r' || byte == b' '
-}
-
-fn has_word_end(text: &[u8]) -> bool
-    ensures { result ≡ list_any ends_shared_word text.now }
-{
-    text.iter().any(|byte| ends_word(*byte))
 }
 
 /// Whether the text is a word that nodes may share. It takes no memory.

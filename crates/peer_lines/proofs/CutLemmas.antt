@@ -8,12 +8,12 @@ use Rattle.std.proofs.lemmas.Bool.{and_parts, or_parts, leb-true, not-true}
 use Rattle.std.proofs.lemmas.Bool.Decides.{nat_tests}
 use Rattle.std.proofs.lemmas.Fmt.{length-decimal-le}
 use Rattle.std.proofs.lemmas.List.Elements.{recursion_from_All}
+use Rattle.byte_text.specs.Bytes.{ends_line, line_ending}
 use Rattle.irc_time.specs.Time.{greatest}
-use Rattle.irc_line.specs.Line.{is_bad}
 use Rattle.irc_line.specs.Stream.{items, line, max_line}
 use Rattle.irc_line.specs.CanStand.{HasNoBadByte}
 use Rattle.irc_line.proofs.CallerLemmas.{bytes_cut, good_append}
-use Rattle.chat_change.specs.Words.{has_length_to, is_name_byte, ends_line, ends_word, ends_target, begins_with_colon, is_star, is_name, is_target, is_id, MayBeTags}
+use Rattle.chat_change.specs.Words.{has_length_to, is_name_byte, ends_word, ends_target, begins_with_colon, is_star, is_name, is_target, is_id, MayBeTags}
 use Rattle.chat_change.specs.Buffer.{Buffer, IsLawfulBuffer}
 use Rattle.chat_change.specs.Message.{Message, IsLawfulMessage, kind_letter, kind_word}
 use Rattle.chat_change.specs.Record.{Record}
@@ -25,7 +25,7 @@ use Rattle.chat_change.specs.declared.message.Kind.TheVariants.{Privmsg, Notice}
 use Rattle.chat_change.specs.declared.change.Change as change
 use Rattle.chat_change.specs.declared.change.Change.TheVariants.{Post, Redact, Mark, Floor, AccountFloor}
 use Rattle.change_lines.specs.Words.{is_filled, words_text}
-use Rattle.change_lines.specs.ChangeText.{line_of as change_text, buffer_words, account_words, moment_text, line_end}
+use Rattle.change_lines.specs.ChangeText.{line_of as change_text, buffer_words, account_words, moment_text}
 use Rattle.change_lines.specs.PostLine.{post_word, tags_words, back_words}
 use Rattle.node_terms.specs.Names.{is_node_byte, is_node_name, is_shared_word}
 use Rattle.node_terms.specs.Version.{number}
@@ -94,19 +94,19 @@ any_weaker p q h (b ∷ text) e =
     (λ i. h b both.0 i || any_weaker p q h text both.1 i)
 
 word_good : (text : List ℕ) → list_any ends_word text ≡ false → HasNoBadByte text
-word_good text e = any_weaker ends_word is_bad (λ b f. (or_parts (ends_line b) (b == 32) f).0) text e
+word_good text e = any_weaker ends_word ends_line (λ b f. (or_parts (ends_line b) (b == 32) f).0) text e
 
 short_to : (most : ℕ) (text : List ℕ) → has_length_to most text ≡ true → length text ≤ most
 short_to most text e = leb-true (length text) most (and_parts (nat_lt 0 (length text)) (nat_le (length text) most) e).1
 
-name_byte_good : (b : ℕ) → is_name_byte b ≡ true → is_bad b ≡ false
+name_byte_good : (b : ℕ) → is_name_byte b ≡ true → ends_line b ≡ false
 name_byte_good b e = grind (arith, nat_tests)
 
 name_stands : (text : List ℕ) → is_name text ≡ true → Stands 255 text
 name_stands text e =
     let both = and_parts (has_length_to NAME_LIMIT text) (list_all is_name_byte text) e in
     stands_to NAME_LIMIT 255 text (lit≤ tt)
-    (record { good = all_but is_name_byte is_bad name_byte_good text both.1; short = short_to NAME_LIMIT text both.0 })
+    (record { good = all_but is_name_byte ends_line name_byte_good text both.1; short = short_to NAME_LIMIT text both.0 })
 
 target_stands : (text : List ℕ) → is_target text ≡ true → Stands 255 text
 target_stands text e =
@@ -253,7 +253,7 @@ life_stands l more is all = (node_stands l.node is.node, (decimal_stands l.incar
 few_stand : (ws : List (List ℕ)) → length ws ≤ 10 → AllByRecursion (Stands 255) ws → Stands 8000 (spaced ws)
 few_stand ws l all = stands_to (256 * length ws) 8000 (spaced ws) (omega arith) (spaced_stand ws all)
 
-letter : (b : ℕ) → is_bad b ≡ false → Stands 255 (b ∷ [])
+letter : (b : ℕ) → ends_line b ≡ false → Stands 255 (b ∷ [])
 letter b e = record { good = ap (λ t. t || false) e; short = omega arith }
 
 text_stands : (l : PeerLine) → IsPeerLine l → Stands 8000 (text_of l)
@@ -281,12 +281,12 @@ text_stands (Ack ack) is =
 -- ---- the stream is cut
 
 pub line_fits : (l : PeerLine) → IsPeerLine l → length (written l) ≤ max_line
-line_fits l is = (let s = (text_stands l is).short in omega (arith, length-append (text_of l) line_end))
+line_fits l is = (let s = (text_stands l is).short in omega (arith, length-append (text_of l) line_ending))
 
 pub line_cut : (l : PeerLine) (rest : List ℕ) → IsPeerLine l → items (written l ++ rest) ≡ line (text_of l) ∷ items rest
 line_cut l rest is =
     let s = text_stands l is in
-    ap items (append_assoc (text_of l) line_end rest) ∙ bytes_cut (text_of l) rest s.good (let m = s.short in omega arith)
+    ap items (append_assoc (text_of l) line_ending rest) ∙ bytes_cut (text_of l) rest s.good (let m = s.short in omega arith)
 
 lines_cut : (ls : List PeerLine) (rest : List ℕ) → AllByRecursion IsPeerLine ls → items (flat_map written ls ++ rest) ≡ map (λ l. line (text_of l)) ls ++ items rest
 lines_cut [] rest all = refl

@@ -8,7 +8,8 @@
 use Rattle.std.specs.Prelude.{ℕ, ◌≡◌, ◌<◌, ◌≤◌, ◌^◌, true, List, [], ◌∷◌, ◌++◌, codes, map}
 use Rattle.std.specs.Fmt.{decimal}
 use Rattle.std.specs.List.{All, flat_map, join_with_byte}
-use Rattle.change_lines.specs.ChangeText.{line_of as change_text, line_end}
+use Rattle.byte_text.specs.Bytes.{line_ending}
+use Rattle.change_lines.specs.ChangeText.{line_of as change_text}
 use Rattle.chat_change.specs.Lawful.{IsLawfulChange}
 use Rattle.node_terms.specs.Life.{Life, IsLife}
 use Rattle.node_terms.specs.Names.{is_shared_word}
@@ -75,7 +76,7 @@ pub record Spells (bytes : List ℕ) (line : PeerLine) : Type 0 where
 
 -- a line as it is written
 abbrev pub written : PeerLine → List ℕ
-written line = text_of line ++ line_end
+written line = text_of line ++ line_ending
 
 -- the lines of a packet: its head, and then its changes
 abbrev pub lines_of : Packet → List PeerLine

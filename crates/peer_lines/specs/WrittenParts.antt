@@ -1,8 +1,8 @@
 -- The parts that lines are written of, one after another.
 use Rattle.std.specs.Prelude.{ℕ, List, ◌++◌, codes}
 use Rattle.std.specs.Fmt.{decimal}
+use Rattle.byte_text.specs.Bytes.{line_ending}
 use Rattle.node_terms.specs.Life.{Life}
-use Rattle.change_lines.specs.ChangeText.{line_end}
 
 abbrev pub number_text : ℕ → List ℕ
 number_text n = codes " " ++ decimal n
@@ -14,4 +14,4 @@ abbrev pub lives_text : List ℕ → Life → Life → List ℕ
 lives_text kind sender receiver = kind ++ (life_text sender ++ life_text receiver)
 
 abbrev pub numbers_text : ℕ → ℕ → ℕ → List ℕ
-numbers_text from to count = number_text from ++ (number_text to ++ (number_text count ++ line_end))
+numbers_text from to count = number_text from ++ (number_text to ++ (number_text count ++ line_ending))

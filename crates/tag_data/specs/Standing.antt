@@ -1,7 +1,7 @@
 -- Which tags may stand as tag data, and which as tag data in a line.
 use Rattle.std.specs.Prelude.{◌≡◌, ℕ, ◌<◌, Bool, false, ◌||◌, List, [], ◌∷◌, length, map, ◌==◌}
 use Rattle.std.specs.List.{All, IsDistinct}
-use Rattle.tag_data.specs.Value.{space, carriage_return, line_feed}
+use Rattle.byte_text.specs.Bytes.{cr, lf, space}
 use Rattle.tag_data.specs.TagList.{Tag, is_semicolon, is_equals, same_bytes}
 
 -- a byte that ends a key
@@ -30,7 +30,7 @@ is_nul b = b == 0
 -- a byte that can't stand in the tag data of a line (RFC 2812, section 2.3.1; IRCv3 message-tags): NUL, CR, LF and
 -- the space behind which the rest of the line begins
 abbrev pub ends_tag_data : ℕ → Bool
-ends_tag_data b = is_nul b || (b == carriage_return || (b == line_feed || b == space))
+ends_tag_data b = is_nul b || (b == cr || (b == lf || b == space))
 
 -- bytes that may be the tag data of a line
 abbrev pub HasNoEnd : List ℕ → Type 0

@@ -1,26 +1,15 @@
 -- How a tag's value is written (IRCv3 message-tags, "Escaping values").
 use Rattle.std.specs.Prelude.{ℕ, List, [], ◌∷◌, ◌==◌, if◌then◌else◌}
 use Rattle.std.specs.List.{flat_map}
+use Rattle.byte_text.specs.Bytes.{colon, cr, lf, space}
 
 -- ---- bytes
 
 abbrev pub semicolon : ℕ
 semicolon = 59
 
-abbrev pub space : ℕ
-space = 32
-
 abbrev pub backslash : ℕ
 backslash = 92
-
-abbrev pub carriage_return : ℕ
-carriage_return = 13
-
-abbrev pub line_feed : ℕ
-line_feed = 10
-
-abbrev pub colon : ℕ
-colon = 58
 
 abbrev pub letter_s : ℕ
 letter_s = 115
@@ -38,8 +27,8 @@ abbrev pub escaped_byte : ℕ → ℕ
 escaped_byte b =
     if b == colon then semicolon
     else if b == letter_s then space
-    else if b == letter_r then carriage_return
-    else if b == letter_n then line_feed
+    else if b == letter_r then cr
+    else if b == letter_n then lf
     else b
 
 -- The value that the bytes spell: a backslash and the byte behind it stand for one byte, a backslash at the end for
@@ -56,8 +45,8 @@ byte_spelling b =
     if b == semicolon then backslash ∷ colon ∷ []
     else if b == space then backslash ∷ letter_s ∷ []
     else if b == backslash then backslash ∷ backslash ∷ []
-    else if b == carriage_return then backslash ∷ letter_r ∷ []
-    else if b == line_feed then backslash ∷ letter_n ∷ []
+    else if b == cr then backslash ∷ letter_r ∷ []
+    else if b == lf then backslash ∷ letter_n ∷ []
     else b ∷ []
 
 -- how a value is written

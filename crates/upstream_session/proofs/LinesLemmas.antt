@@ -6,13 +6,14 @@ use Rattle.std.specs.Str.{str_eq_ignore_ascii_case, bytes_eq}
 use Rattle.std.proofs.lemmas.Bool.{and_parts, and_from, or_parts, or_from, not-true, false_from_ne_true}
 use Rattle.std.proofs.lemmas.List.Folds.{list_any-append, list_all-append}
 use Rattle.std.proofs.lemmas.List.Elements.{All-from_recursion, recursion_from_All}
+use Rattle.byte_text.specs.Bytes.{colon, ends_line, line_ending, space}
 use Rattle.irc_line.specs.declared.line.LineFault.{LineFault}
 use Rattle.irc_line.specs.declared.line.LineFault.TheVariants.{BadByte}
 use Rattle.irc_line.specs.declared.line.TagLimit.{TagLimit}
 use Rattle.irc_line.specs.declared.line.TagLimit.TheVariants.{Server, Client}
-use Rattle.irc_line.specs.Line.{Reading, Reads, SplitsTags, SplitsSource, is_bad, at_sign, colon, space}
+use Rattle.irc_line.specs.Line.{Reading, Reads, SplitsTags, SplitsSource, at_sign}
 use Rattle.irc_line.specs.Read.{read, text_in, after_spaces, after_word, after_tags, after_source}
-use Rattle.irc_line.specs.Text.{source_text, middles_text, trailing_text, line_ending}
+use Rattle.irc_line.specs.Text.{source_text, middles_text, trailing_text}
 use Rattle.irc_line.specs.CanStand.{HasNoBadByte}
 use Rattle.irc_line.proofs.CallerLemmas.{read_ok, read_parameters_whole, good_append}
 use Rattle.tag_data.specs.Standing.{ends_tag_data, HasNoEnd}
@@ -32,7 +33,7 @@ use Rattle.irc_caps.specs.CapSet.{holds, names_among}
 use Rattle.irc_caps.specs.Words.{joined, parts_of, with_words}
 use Rattle.irc_caps.specs.Offers.{with_offers, wanted, request_of, request}
 use Rattle.irc_caps.specs.Negotiation.{list_in}
-use Rattle.chat_change.specs.Words.{ends_line, ends_word, ends_target, begins_with_colon, is_star, has_length_to, is_target, is_id}
+use Rattle.chat_change.specs.Words.{ends_word, ends_target, begins_with_colon, is_star, has_length_to, is_target, is_id}
 use Rattle.chat_change.specs.declared.words.TheConstants.{TARGET_LIMIT}
 use Rattle.chat_change.specs.Message.{Message}
 use Rattle.chat_change.specs.declared.message.Kind.{Kind}
@@ -61,7 +62,7 @@ use Rattle.upstream_session.proofs.EventLemmas.{all_append}
 -- ---- bytes
 
 both_good : (a b : List ℕ) → HasNoBadByte (a ++ b) → HasNoBadByte a × HasNoBadByte b
-both_good a b good = or_parts (list_any is_bad a) (list_any is_bad b) (sym (list_any-append is_bad a b) ∙ good)
+both_good a b good = or_parts (list_any ends_line a) (list_any ends_line b) (sym (list_any-append ends_line a b) ∙ good)
 
 parts_good : (bytes a b : List ℕ) → bytes ≡ a ++ b → HasNoBadByte bytes → HasNoBadByte a × HasNoBadByte b
 parts_good bytes a b e good = both_good a b (subst HasNoBadByte e good)
@@ -70,7 +71,7 @@ cut_good : (n : ℕ) (text : List ℕ) → HasNoBadByte text → HasNoBadByte (t
 cut_good n text good = parts_good text (take n text) (drop n text) (sym (take-append-drop n text)) good
 
 behind_first : (b : ℕ) (bytes : List ℕ) → HasNoBadByte (b ∷ bytes) → HasNoBadByte bytes
-behind_first b bytes good = (or_parts (is_bad b) (list_any is_bad bytes) good).1
+behind_first b bytes good = (or_parts (ends_line b) (list_any ends_line bytes) good).1
 
 -- the text of a line from its command on
 text_good : (bytes : List ℕ) → HasNoBadByte bytes → HasNoBadByte (text_in bytes)
@@ -121,7 +122,7 @@ passed_is_line bytes good = ended (text_in bytes) (text_good bytes good)
 tags_good : (tags : Option (List ℕ)) → IfSome tags HasNoEnd → HasNoBadByte (tag_part (client_tags tags))
 tags_good None p = refl
 tags_good (Some tags) p = with_at (client_only_text tags) (no_bad (client_only_text tags) (recursion_from_All _ (client_only_text tags) (client_only_text-in_line tags p))) where
-  byte_good : (b : ℕ) → ends_tag_data b ≡ false → is_bad b ≡ false
+  byte_good : (b : ℕ) → ends_tag_data b ≡ false → ends_line b ≡ false
   byte_good b e =
       let nul = or_parts (b == 0) ((b == 13) || ((b == 10) || (b == 32))) e in
       let cr = or_parts (b == 13) ((b == 10) || (b == 32)) nul.1 in
@@ -130,7 +131,7 @@ tags_good (Some tags) p = with_at (client_only_text tags) (no_bad (client_only_t
 
   no_bad : (text : List ℕ) → AllByRecursion (λ b. ends_tag_data b ≡ false) text → HasNoBadByte text
   no_bad [] all = refl
-  no_bad (b ∷ text) all = or_from (is_bad b) (list_any is_bad text) (byte_good b all.0) (no_bad text all.1)
+  no_bad (b ∷ text) all = or_from (ends_line b) (list_any ends_line text) (byte_good b all.0) (no_bad text all.1)
 
   with_at : (text : List ℕ) → HasNoBadByte text → HasNoBadByte (tag_part text)
   with_at [] good = refl
@@ -161,7 +162,7 @@ split_source bytes (Some source) rest split good =
 
 whole : (limit : TagLimit) (bytes : List ℕ) (line : Reading) → Reads limit bytes line → IsWhole bytes line
 whole limit bytes line reads =
-    let good : HasNoBadByte bytes = false_from_ne_true (list_any is_bad bytes) (reads.sound BadByte) in
+    let good : HasNoBadByte bytes = false_from_ne_true (list_any ends_line bytes) (reads.sound BadByte) in
     let head = reads.parts.head in
     let tags = split_tags bytes line.tags head.after_tags head.tags_split good in
     record {
@@ -190,7 +191,7 @@ target_good text e =
       none (b ∷ text) h =
           let both = or_parts (ends_target b) (list_any ends_target text) h in
           let word = or_parts (ends_word b) (b == 44) both.0 in
-          or_from (is_bad b) (list_any is_bad text) (or_parts (ends_line b) (b == 32) word.0).0 (none text both.1)
+          or_from (ends_line b) (list_any ends_line text) (or_parts (ends_line b) (b == 32) word.0).0 (none text both.1)
 
 joins_are_lines : (channels : List (List ℕ)) → list_all is_target channels ≡ true → AllByRecursion WritesOneLine (joins channels)
 joins_are_lines [] e = tt

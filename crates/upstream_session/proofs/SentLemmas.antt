@@ -4,10 +4,11 @@ use Rattle.std.specs.List.{AllByRecursion, list_any}
 use Rattle.std.specs.Prelude.{if◌then◌else◌}
 use Rattle.std.proofs.lemmas.Bool.{and_from, or_parts, or_from, le-leb, lt-ltb, cases_lt, false_from_ne_true, not_from_false}
 use Rattle.std.proofs.lemmas.List.Elements.{All-from_recursion, recursion_from_All}
+use Rattle.byte_text.specs.Bytes.{ends_line}
 use Rattle.irc_line.specs.declared.line.LineFault.{LineFault}
 use Rattle.irc_line.specs.declared.line.LineFault.TheVariants.{TagsTooLong, BadByte}
 use Rattle.irc_line.specs.declared.line.TagLimit.TheVariants.{Client}
-use Rattle.irc_line.specs.Line.{Reading, Reads, SplitsTags, HasFault, HasNoSpace, is_bad}
+use Rattle.irc_line.specs.Line.{Reading, Reads, SplitsTags, HasFault, HasNoSpace}
 use Rattle.irc_line.specs.Read.{read}
 use Rattle.irc_line.proofs.CallerLemmas.{read_ok}
 use Rattle.tag_data.specs.Standing.{ends_tag_data, HasNoEnd}
@@ -16,7 +17,7 @@ use Rattle.tag_data.proofs.CallerLemmas.{is_client_only_text-client_only_text, c
 use Rattle.irc_reply.specs.Tagged.{tag_part, client_tags}
 use Rattle.irc_reply.specs.ToServer.{passed_line}
 use Rattle.chat_change.specs.declared.words.TheConstants.{TAGS_LIMIT}
-use Rattle.chat_change.specs.Words.{ends_line, ends_word, has_length_to, is_tags}
+use Rattle.chat_change.specs.Words.{ends_word, has_length_to, is_tags}
 use Rattle.chat_change.specs.Message.{Message}
 use Rattle.chat_change.specs.declared.message.Kind.{Kind}
 use Rattle.chat_change.specs.declared.message.Kind.TheVariants as kind
@@ -62,17 +63,17 @@ all_kept tags line most =
     kept_text (client_only_text tags) (client_only_text-in_line tags line) (omega (arith, most, client_only_text-no_longer tags line))
     (is_client_only_text-client_only_text tags)
 
-tag_byte : (b : ℕ) → (b == 32) ≡ false → is_bad b ≡ false → ends_tag_data b ≡ false
+tag_byte : (b : ℕ) → (b == 32) ≡ false → ends_line b ≡ false → ends_tag_data b ≡ false
 tag_byte b space bad =
     let one = or_parts ((b == 0) || (b == 10)) (b == 13) bad in
     let two = or_parts (b == 0) (b == 10) one.0 in
     or_from (b == 0) ((b == 13) || ((b == 10) || (b == 32))) two.0 (or_from (b == 13) ((b == 10) || (b == 32)) one.1 (or_from (b == 10) (b == 32) two.1 space))
 
 -- of bytes that stand in front of others
-pub tag_bytes : (tags rest : List ℕ) → HasNoSpace tags → list_any is_bad (tags ++ rest) ≡ false → AllByRecursion (λ b. ends_tag_data b ≡ false) tags
+pub tag_bytes : (tags rest : List ℕ) → HasNoSpace tags → list_any ends_line (tags ++ rest) ≡ false → AllByRecursion (λ b. ends_tag_data b ≡ false) tags
 tag_bytes [] rest spaces bad = tt
 tag_bytes (b ∷ tags) rest spaces bad =
-    let both = or_parts (is_bad b) (list_any is_bad (tags ++ rest)) bad in
+    let both = or_parts (ends_line b) (list_any ends_line (tags ++ rest)) bad in
     (tag_byte b spaces.0 both.0, tag_bytes tags rest spaces.1 both.1)
 
 within : (n : ℕ) → ¬ (4094 < n) → n ≤ TAGS_LIMIT
@@ -83,8 +84,8 @@ of_line : (bytes : List ℕ) (tags : Option (List ℕ)) (rest : List ℕ) → Sp
 of_line bytes None rest split few good = refl
 of_line bytes (Some tags) rest split few good =
     let spelled : bytes ≡ 64 ∷ (tags ++ split.1) = split.2 ∙ ap (λ (l : List ℕ). 64 ∷ l) split.3.1 in
-    let no_bad : list_any is_bad (64 ∷ (tags ++ split.1)) ≡ false =
-    subst (λ (l : List ℕ). list_any is_bad l ≡ false) spelled (false_from_ne_true (list_any is_bad bytes) good) in
+    let no_bad : list_any ends_line (64 ∷ (tags ++ split.1)) ≡ false =
+    subst (λ (l : List ℕ). list_any ends_line l ≡ false) spelled (false_from_ne_true (list_any ends_line bytes) good) in
     let line = All-from_recursion (λ b. ends_tag_data b ≡ false) tags (tag_bytes tags split.1 split.3.0 no_bad) in
     all_kept tags line (within (length tags) (λ many. few (tags, rest, split, many)))
 

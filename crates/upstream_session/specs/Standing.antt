@@ -2,7 +2,7 @@
 -- session writes is one.
 use Rattle.std.specs.Prelude.{◌≡◌, ℕ, true, List, ◌++◌}
 use Rattle.std.specs.List.{list_all}
-use Rattle.irc_line.specs.Text.{line_ending}
+use Rattle.byte_text.specs.Bytes.{line_ending}
 use Rattle.irc_line.specs.CanStand.{HasNoBadByte}
 use Rattle.chat_change.specs.Words.{is_target}
 use Rattle.client_directory.specs.Entry.{Entry}

@@ -1,10 +1,11 @@
 use Rattle.std.proofs.Common.{◌≡◌, ℕ, List, ◌++◌, ◌∷◌, sym, ap, ◌∙◌, append_assoc}
+use Rattle.byte_text.specs.Bytes.{line_ending}
 use Rattle.byte_text.proofs.CallerLemmas.{prefix_of_first, prefix_of_second, prefix_same, writes_second, writes_failed, writes_same}
 use Rattle.chat_change.specs.Record.{Record}
 use Rattle.chat_change.specs.declared.change.Change.TheVariants.{Post}
 use Rattle.change_lines.specs.Words.{words_text}
 use Rattle.change_lines.specs.PostLine.{front_words, tags_words, back_words, post_word}
-use Rattle.change_lines.specs.ChangeText.{buffer_words, line_of, line_end}
+use Rattle.change_lines.specs.ChangeText.{buffer_words, line_of}
 use Rattle.change_lines.proofs.WordsLemmas.{words_more}
 use Rattle.change_lines.proofs.post_line.put_post.Goals as goal
 
@@ -17,11 +18,11 @@ joined front tags back last end =
 
 -- the three texts are the line and its end
 whole : (r : Record) (tags : List ℕ) → tags ≡ r.tags
-    → words_text (buffer_words (post_word r.tags) r.buffer (front_words r)) ++ (words_text (tags_words tags) ++ ((words_text (back_words r) ++ (58 ∷ r.message.body)) ++ line_end)) ≡ line_of (Post r) ++ line_end
+    → words_text (buffer_words (post_word r.tags) r.buffer (front_words r)) ++ (words_text (tags_words tags) ++ ((words_text (back_words r) ++ (58 ∷ r.message.body)) ++ line_ending)) ≡ line_of (Post r) ++ line_ending
 whole r tags same =
     let front = buffer_words (post_word r.tags) r.buffer (front_words r) in
-    let back = (words_text (back_words r) ++ (58 ∷ r.message.body)) ++ line_end in
-    ap (λ t. words_text front ++ (words_text (tags_words t) ++ back)) same ∙ joined front (tags_words r.tags) (back_words r) (58 ∷ r.message.body) line_end
+    let back = (words_text (back_words r) ++ (58 ∷ r.message.body)) ++ line_ending in
+    ap (λ t. words_text front ++ (words_text (tags_words t) ++ back)) same ∙ joined front (tags_words r.tags) (back_words r) (58 ∷ r.message.body) line_ending
 
 pub returns-in_err-put_front-clause-text : goal.returns-in_err-put_front-clause-text
 returns-in_err-put_front-clause-text g c =

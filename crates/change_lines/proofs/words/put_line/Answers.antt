@@ -1,11 +1,11 @@
 use Rattle.std.proofs.Common.{◌≡◌, ℕ, List, ◌++◌, sym, ap, ◌∙◌, append_assoc}
+use Rattle.byte_text.specs.Bytes.{line_ending}
 use Rattle.byte_text.proofs.CallerLemmas.{prefix_of_first, prefix_same, writes_second, writes_failed, writes_same}
-use Rattle.change_lines.specs.ChangeText.{line_end}
 use Rattle.change_lines.proofs.words.put_line.Goals as goal
 
-regroup : (words sign last : List ℕ) → words ++ (sign ++ (last ++ line_end)) ≡ (words ++ (sign ++ last)) ++ line_end
+regroup : (words sign last : List ℕ) → words ++ (sign ++ (last ++ line_ending)) ≡ (words ++ (sign ++ last)) ++ line_ending
 regroup words sign last =
-    ap (λ l. words ++ l) (sym (append_assoc sign last line_end)) ∙ sym (append_assoc words (sign ++ last) line_end)
+    ap (λ l. words ++ l) (sym (append_assoc sign last line_ending)) ∙ sym (append_assoc words (sign ++ last) line_ending)
 
 pub returns-in_err-put_words : goal.returns-in_err-put_words
 returns-in_err-put_words g c =

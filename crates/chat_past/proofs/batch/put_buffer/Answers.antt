@@ -3,7 +3,8 @@ use Rattle.byte_text.proofs.CallerLemmas.{prefix_of_first, prefix_same, writes_s
 use Rattle.irc_caps.specs.declared.CapSet.{CapSet}
 use Rattle.irc_time.specs.Text.{time_text}
 use Rattle.irc_reply.specs.Reply.{reply}
-use Rattle.chat_past.specs.Tags.{tag_part, only_if, batch_tags}
+use Rattle.irc_caps.specs.Words.{only_if}
+use Rattle.chat_past.specs.Tags.{tag_part, batch_tags}
 use Rattle.chat_past.specs.Batch.{buffer_text}
 use Rattle.chat_past.proofs.batch.put_buffer.Goals as goal
 

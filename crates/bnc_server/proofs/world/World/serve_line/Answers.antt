@@ -1,6 +1,6 @@
 use Rattle.std.proofs.Common.{◌≡◌, ◌-◌, ℕ, true, false, List, length, take, drop, refl, ap, ◌∙◌, sym, arith, length-drop}
 use Rattle.std.proofs.lemmas.List.{take_all}
-use Rattle.chat_change.specs.Words.{begins_with}
+use Rattle.byte_text.specs.Bytes.{begins_with}
 use Rattle.change_lines.specs.ChangeLine.{read_change}
 use Rattle.bnc_server.specs.Command.{Command, command_of}
 use Rattle.bnc_server.specs.Request.{of_change, of_command, of_client, is_change_line, request_in}

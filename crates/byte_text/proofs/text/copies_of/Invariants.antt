@@ -1,5 +1,5 @@
 use Rattle.std.proofs.Common.{◌≡◌, take}
-use Rattle.node_config.proofs.beginnings.copies_of.Given as goal
+use Rattle.byte_text.proofs.text.copies_of.Given as goal
 
 abbrev pub invariant-loop-text : goal.invariant-loop-text
 invariant-loop-text l = l.copies.items ≡ take l.text-index l.texts

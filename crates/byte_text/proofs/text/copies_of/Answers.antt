@@ -1,6 +1,6 @@
 use Rattle.std.proofs.Common.{arith}
 use Rattle.std.proofs.lemmas.Grind.{common_steps}
-use Rattle.client_directory.proofs.entry.copies_of.Goals as goal
+use Rattle.byte_text.proofs.text.copies_of.Goals as goal
 
 pub loop-text-preserved : goal.loop-text-preserved
 loop-text-preserved c = grind (arith, common_steps)
