@@ -1,1 +1,3 @@
+-- for crates above
+pub mod CallerLemmas
 mod ReadLemmas

@@ -1,28 +1,13 @@
--- What a pass has seen after a call, as what it had seen and what others added to it.
-use Rattle.std.proofs.Common.{◌≡◌, ◌≢◌, ℕ, List, [], ◌∷◌, ◌++◌, Result, Ok, Err, refl, sym, ◌∙◌, ap}
+-- What a delta says of what a pass has seen.
+use Rattle.std.proofs.Common.{◌≡◌, ◌≢◌, ℕ, List, ◌++◌, Result, Ok, Err, refl, sym, ◌∙◌, ap}
 use Rattle.std.specs.Prelude.{IfOk, OnErr}
-use Rattle.std.proofs.lemmas.List.{append-nil}
-use mathlib.Core.List.{IsPrefix}
 use Rattle.chat_change.specs.declared.change.Change.{Change}
 use Rattle.chat_history.specs.Numbering.{Delta, delta}
 use Rattle.chat_history.specs.declared.delta.DeltaFault.{DeltaFault}
 use Rattle.chat_history.specs.declared.delta.DeltaFault.TheVariants.{NoEntry, NoMemory}
-use Rattle.change_log.specs.declared.entry.Entry.{Entry}
-use Rattle.change_log.specs.Lists.{changes_in, under}
+use Rattle.change_log.specs.Lists.{changes_in}
 use Rattle.shared_node.specs.Passes.{PassValue, Reads}
-use Rattle.change_log.proofs.CallerLemmas.{changes_in-append}
-
--- a pass has seen these changes, from the start on
-abbrev pub HasSeen : PassValue → ℕ → List Change → Type 0
-HasSeen p start list = (start ≡ 0) × (list ≡ changes_in p.list)
-
-changes_in-under : (by : ℕ) (changes : List Change) → changes_in (under by changes) ≡ changes
-changes_in-under by [] = refl
-changes_in-under by (c ∷ cs) = ap (λ l. c ∷ l) (changes_in-under by cs)
-
--- the changes of a longer list are those of its prefix and others
-pub seen_further : (old new : List Entry) → IsPrefix old new → (list : List Change) → list ≡ changes_in old → (others : List Change) × (list ++ others ≡ changes_in new)
-seen_further old new p list is = (changes_in p.0, ap (λ l. l ++ changes_in p.0) is ∙ sym (changes_in-append old p.0) ∙ ap changes_in p.1)
+use Rattle.shared_node.proofs.CallerLemmas.{HasSeen, seen_further, kept}
 
 module _ (old new : PassValue) where
   pub delta_given : (from : ℕ) (r : Result Delta DeltaFault) → IfOk r (λ (d : Delta). d ≡ delta 0 (changes_in new.list) from) → (r ≢ Err NoEntry → Reads old new)
@@ -37,15 +22,7 @@ module _ (old new : PassValue) where
       → OnErr r ((start : ℕ) (list : List Change) → HasSeen old start list
       → (others : List Change) × Unit {0} × HasSeen new start (list ++ others))
   delta_kept (Ok d) seen none = tt
-  delta_kept (Err NoEntry) seen none = λ start list held.
-      ([], tt, (held.0, append-nil list ∙ held.1 ∙ ap (λ (p : PassValue). changes_in p.list) (sym (none refl))))
+  delta_kept (Err NoEntry) seen none = kept old new (ap (λ (p : PassValue). p.list) (none refl))
   delta_kept (Err NoMemory) seen none = λ start list held.
       let f = seen_further old.list new.list (seen (λ e. cc e)).0.0 list held.1 in
       (f.0, tt, (held.0, f.1))
-
-  pub taken_all : (by : ℕ) (changes : List Change) (before : List Entry) → IsPrefix old.list before → new.list ≡ before ++ under by changes
-      → (start : ℕ) (list : List Change) → HasSeen old start list
-      → (others : List Change) × Unit {0} × HasSeen new start ((list ++ others) ++ changes)
-  taken_all by changes before p is start list held =
-      let f = seen_further old.list before p list held.1 in
-      (f.0, tt, (held.0, (λ i. f.1 i ++ sym (changes_in-under by changes) i) ∙ sym (changes_in-append before (under by changes)) ∙ ap changes_in (sym is)))

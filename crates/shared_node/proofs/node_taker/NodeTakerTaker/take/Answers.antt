@@ -1,5 +1,5 @@
 use Rattle.std.proofs.Common.{◌∙◌}
-use Rattle.shared_node.proofs.ReadLemmas.{taken_all}
+use Rattle.shared_node.proofs.CallerLemmas.{taken_all}
 use Rattle.shared_node.proofs.node_taker.NodeTakerTaker.take.Goals as goal
 
 pub returns-in-Ok-clause-all : goal.returns-in-Ok-clause-all
