@@ -1,5 +1,5 @@
 //! The node of a worker: the one that all workers share, behind the gate.
-ghost use Rattle.std.specs.Prelude.{◌≡◌, true, false, MatchResult};
+ghost use Rattle.std.specs.Prelude.{◌≡◌};
 ghost use Rattle.change_log.specs.Lists.{changes_in};
 ghost use Rattle.shared_node.specs.Puts.{appended_of};
 
@@ -21,21 +21,14 @@ pub(crate) struct GatedNode<'a, J: Naming, R: Wait + Drop, W: Wait, G: Gate> {
     pub(crate) gate: &'a G,
 }
 
-// What a put of so many changes came to.
-fn outcome_of(done: Result<(), PutFault>, all: usize) -> PutOutcome
-    ensures count { MatchResult done (λ _. result.count ≡ all)
-        (λ fault. result.count ≡ appended_of all fault) }
-    ensures published { MatchResult done (λ _. result.is_published ≡ true)
-        (λ _. result.is_published ≡ false) }
+// How many of so many changes a refused put appended.
+fn count_of(fault: PutFault, all: usize) -> usize
+    ensures { result ≡ appended_of all fault }
 {
-    let count = match done {
-        Ok(()) | Err(PutFault::Waiting) => all,
-        Err(PutFault::NoMemory { appended }) => appended,
-        Err(PutFault::Exhausted) => 0,
-    };
-    PutOutcome {
-        count,
-        is_published: done.is_ok(),
+    match fault {
+        PutFault::Waiting => all,
+        PutFault::NoMemory { appended } => appended,
+        PutFault::Exhausted => 0,
     }
 }
 
@@ -66,11 +59,16 @@ impl<'a, J: Naming, R: Wait + Drop, W: Wait, G: Gate> Node for GatedNode<'a, J, 
     }
 
     fn put(&mut self, _view: &NodeView, changes: &[Change]) -> PutOutcome {
-        let done = match self.taker.put(changes) {
-            Ok(_receipt) => Ok(()),
-            Err(fault) => Err(fault),
-        };
-        outcome_of(done, changes.len())
+        match self.taker.put(changes) {
+            Ok(_receipt) => PutOutcome {
+                count: changes.len(),
+                is_published: true,
+            },
+            Err(fault) => PutOutcome {
+                count: count_of(fault, changes.len()),
+                is_published: false,
+            },
+        }
     }
 
     fn take<C: Connection, P: Port>(

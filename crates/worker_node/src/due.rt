@@ -1,8 +1,9 @@
 //! What a worker puts when it is due. What only waits to be published is tried again a second later.
-use crate::node::Node;
-use crate::putting::{publish_waiting, put_due_floors};
+use crate::node::{Node, PutOutcome};
+use crate::publisher::Publisher;
 use bnc_ports::{Event, Port};
-use worker_io::{BETWEEN_LOOKS, ClockWatch, Context, Timer};
+use chat_change::Change;
+use worker_io::{BETWEEN_LOOKS, Context, Timer};
 
 /// What waits to be published is tried again after so many milliseconds.
 const SECOND: u64 = 1000;
@@ -12,39 +13,51 @@ pub(crate) fn publish_later<P: Port>(context: &mut Context<P>) {
     context.set_timer(Timer::Publish, SECOND);
 }
 
-/// Publishes what waits, or tries that again a second later. True where the peers are to have it now.
-pub(crate) fn publish_now<N: Node, P: Port>(node: &mut N, context: &mut Context<P>) -> bool {
-    let is_published = publish_waiting(node, &context.view);
-    if !is_published {
-        publish_later(context);
+impl<N: Node> Publisher<N> {
+    /// Changes were put. Peers are to have what is published; what waits for that is tried again later.
+    pub(crate) fn note_put<P: Port>(&mut self, context: &mut Context<P>, outcome: PutOutcome) {
+        self.has_published |= outcome.is_published;
+        if outcome.is_waiting() {
+            publish_later(context);
+        }
     }
-    is_published
-}
 
-/// Puts the floors that are due, tells the operator, and looks again in an hour: what is older than the node keeps messages is let
-/// go. A floor can't be taken back: where the clock leapt since the last look, none is put this time, and the operator is told
-/// that. True where something was put that the peers are to have.
-pub(crate) fn put_floors<N: Node, P: Port>(
-    node: &mut N,
-    context: &mut Context<P>,
-    watch: &mut ClockWatch,
-) -> bool {
-    context.set_timer(Timer::Floors, BETWEEN_LOOKS);
-    if let Some(leap) = watch.look(context.view.clocks()) {
-        context.port.report(&Event::ClockLeapt(leap));
-        return false;
+    /// Publishes what waits, or tries that again a second later.
+    pub fn publish<P: Port>(&mut self, context: &mut Context<P>) {
+        let outcome = self.node.put(&context.view, &[]);
+        if outcome.is_published {
+            self.has_published = true;
+        } else {
+            publish_later(context);
+        }
     }
-    let Some(due) = put_due_floors(node, &context.view) else {
-        return false;
-    };
-    if due.outcome.is_waiting() {
-        publish_later(context);
+
+    /// Puts the floors that are due, and looks again in an hour: what is older than the node keeps messages is let go. A
+    /// floor can't be taken back: where the clock leapt since the last look, none is put this time, and the operator is told
+    /// that.
+    pub fn put_floors<P: Port>(&mut self, context: &mut Context<P>) {
+        context.set_timer(Timer::Floors, BETWEEN_LOOKS);
+        match self.watch.look(context.view.clocks()) {
+            Some(leap) => context.port.report(&Event::ClockLeapt(leap)),
+            None => self.put_due(context),
+        }
     }
-    if due.outcome.count > 0 {
-        context.port.report(&Event::FloorsPut {
-            count: due.outcome.count,
-            at: due.at,
-        });
+
+    // Puts the floors that are due, which all are at one moment, and tells the operator. None are put where they can't be
+    // read.
+    fn put_due<P: Port>(&mut self, context: &mut Context<P>) {
+        let Ok(floors) = self.node.due_floors(&context.view) else {
+            return;
+        };
+        let Some(Change::Floor { at, .. }) = floors.first() else {
+            return;
+        };
+        let at = *at;
+        let outcome = self.node.put(&context.view, floors.as_slice());
+        self.note_put(context, outcome);
+        let count = outcome.count;
+        if count > 0 {
+            context.port.report(&Event::FloorsPut { count, at });
+        }
     }
-    true
 }

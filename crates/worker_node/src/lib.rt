@@ -11,7 +11,6 @@ mod due;
 mod marks;
 mod node;
 mod publisher;
-mod putting;
 mod taking;
 
 pub use marks::{MarkAhead, marks_ahead};

@@ -1,6 +1,8 @@
 //! What a worker asks of its node.
-ghost use Rattle.std.specs.Prelude.{◌⊎◌, List, ℕ, IfOk, OnErr};
+ghost use Rattle.std.specs.Prelude.{◌≡◌, ◌⊎◌, ◌++◌, length, List, ℕ, Some, IsTrue, IsFalse, IfSome, IfOk, OnErr};
 ghost use Rattle.chat_change.specs.declared.change.Change.{Change as Piece};
+ghost use Rattle.chat_history.specs.Growth.{AfterOthers};
+ghost use Rattle.chat_history.specs.History.{mark};
 ghost use Rattle.peer_connection.specs.Taking.{IsTakenFromPeer};
 ghost use Rattle.worker_node.specs.Putting.{MayBePut};
 
@@ -25,7 +27,7 @@ pub struct PutOutcome {
 
 impl PutOutcome {
     /// Whether some of the changes wait to be published.
-    pub fn is_waiting(self) -> bool {
+    pub(crate) fn is_waiting(self) -> bool {
         !self.is_published && self.count > 0
     }
 }
@@ -46,7 +48,9 @@ pub trait Node: Wait + Drop {
     fn reader(&mut self) -> &mut Self::Reader;
 
     /// The read marker of a buffer. None also where the node can't be read.
-    fn marker(&mut self, buffer: &Buffer) -> Option<Moment>;
+    fn marker(&mut self, buffer: &Buffer) -> Option<Moment>
+        ensures { IfSome result (λ at. AfterOthers holds may_add self.old
+            (λ start all. holds self.new start all × (mark all buffer.now ≡ Some at))) };
 
     /// The floors that are due at the view's moment.
     fn due_floors(&mut self, view: &NodeView) -> Result<Vec<Change>, DeltaFault>
@@ -55,7 +59,12 @@ pub trait Node: Wait + Drop {
 
     /// Puts changes that may be put at the view's moment, and publishes them with all that waits.
     fn put(&mut self, view: &NodeView, changes: &[Change]) -> PutOutcome
-        requires { ∥ MayBePut view.now.moment view.now.retain_days changes.now ∥₁ };
+        requires { ∥ MayBePut view.now.moment view.now.retain_days changes.now ∥₁ }
+        ensures published { IsTrue result.is_published → AfterOthers holds may_add self.old
+            (λ start all. holds self.new start (all ++ changes.now)) }
+        ensures kept { IsFalse result.is_published → AfterOthers holds may_add self.old
+            (λ start all. holds self.new start all) }
+        ensures count { IsTrue result.is_published → result.count ≡ length changes.now };
 
     /// Takes what a peer sent over that connection, once the two have greeted each other ([`Peers::arrive`]).
     fn take<C: Connection, P: Port>(
