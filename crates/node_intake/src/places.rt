@@ -57,6 +57,11 @@ impl ClientPlaces {
         })
     }
 
+    // How many places there are.
+    pub(crate) fn len(&self) -> usize {
+        self.seats.len()
+    }
+
     // Who waits to be registered, for a worker that has clients here.
     pub(crate) fn share_waiting(&self) -> Result<Waiting, AllocError> {
         self.waiting.try_clone()

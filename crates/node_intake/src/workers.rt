@@ -151,10 +151,9 @@ fn port_of<R: Net + Wait + Clock + Eprint + AllocGlobal + Copy + Drop>(
 fn lobby_of<X: Attachment>(
     alloc: Global,
     places: &ClientPlaces,
-    count: usize,
 ) -> Result<(Producer<Arrival<X>>, Lobby<X>), ServeFault> {
     let waiting = places.share_waiting()?;
-    let (sender, arrivals) = RingBuffer::new(alloc, count)?;
+    let (sender, arrivals) = RingBuffer::new(alloc, places.len())?;
     Ok((sender, Lobby::new(arrivals, waiting)))
 }
 
@@ -209,7 +208,7 @@ impl<R: Net + Wait + Clock + Eprint + AllocGlobal + Copy + Drop, X: Attachment> 
             mailbox,
             entrance,
         } = setup;
-        let lobby = self.add_intake(rt.alloc(), mailbox, entrance, config.limits.places)?;
+        let lobby = self.add_intake(rt.alloc(), mailbox, entrance)?;
         let port = port_of(rt, addresses, mailboxes, inbox)?;
         let worker_config = worker_config_of(rt.alloc(), config, incarnation, lobby)?;
         self.beginnings
@@ -218,15 +217,14 @@ impl<R: Net + Wait + Clock + Eprint + AllocGlobal + Copy + Drop, X: Attachment> 
         Ok(())
     }
 
-    // Adds an intake to a worker, for so many clients at most. It answers the lobby where those that come in by it arrive.
+    // Adds an intake to a worker. It answers the lobby where those that come in by it arrive.
     fn add_intake(
         &mut self,
         alloc: Global,
         mailbox: Mailbox<Mail>,
         entrance: Sender<Newcomer>,
-        count: usize,
     ) -> Result<Lobby<X>, ServeFault> {
-        let (arrivals, lobby) = lobby_of(alloc, &self.places, count)?;
+        let (arrivals, lobby) = lobby_of(alloc, &self.places)?;
         let intake = WorkerIntake::new(mailbox, entrance, arrivals);
         self.intakes.push(intake).map_err(AllocError::from)?;
         Ok(lobby)
