@@ -1,6 +1,6 @@
 //! The ports of two workers, and what comes over them.
 use crate::machine::Machine;
-use bnc_ports::{Happening, Port};
+use bnc_ports::{Happening, Lobby, Port, Waiting};
 use bnc_sockets::{Addresses, Delivery, Mailbox, Newcomer, SocketPort, WorkerIntake, waker_of};
 use client_places::RingClient;
 use crossbeam_channel::{Receiver, Sender, unbounded};
@@ -73,12 +73,16 @@ fn port_of<R: Machine>(
     SocketPort::new(*rt, poll, deliveries, newcomers, mailboxes, addresses).expect(rt, "memory")
 }
 
-// The ports of two workers, whose peer is at that address, and the intake of the second worker.
+/// So many clients may be on their way to a worker.
+pub(crate) const ROOM: usize = 2;
+
+// The ports of two workers, whose peer is at that address, and the intake and the lobby of the second worker.
 #[derive(Drop)]
 pub(crate) struct TwoPorts<R: Machine> {
     pub(crate) first: SocketPort<R, Mail>,
     pub(crate) second: SocketPort<R, Mail>,
     pub(crate) intake: WorkerIntake<Mail, RingClient>,
+    pub(crate) lobby: Lobby<RingClient>,
 }
 
 pub(crate) fn two_ports<R: Machine>(rt: &R, peer: SocketAddr) -> TwoPorts<R> {
@@ -95,13 +99,15 @@ pub(crate) fn two_ports<R: Machine>(rt: &R, peer: SocketAddr) -> TwoPorts<R> {
         copies,
         peer,
     );
-    // no client comes in by it
-    let (arrivals, _) = RingBuffer::new(rt.alloc(), 1).expect(rt, "memory");
+    let (arrivals, ring) = RingBuffer::new(rt.alloc(), ROOM).expect(rt, "memory");
     let intake = WorkerIntake::new(other.mailbox, other.entrance, arrivals);
+    let waiting = Waiting::new(rt.alloc(), ROOM).expect(rt, "memory");
+    let lobby = Lobby::new(ring, waiting);
     TwoPorts {
         first,
         second,
         intake,
+        lobby,
     }
 }
 

@@ -66,7 +66,7 @@ fn is_ended<R: Machine>(rt: &R, port: &mut SocketPort<R, Mail>) -> bool {
 }
 
 // The next connection, which doesn't block.
-fn accept<R: Machine>(rt: &R, listener: &TcpListener) -> (TcpStream, SocketAddr) {
+pub(crate) fn accept<R: Machine>(rt: &R, listener: &TcpListener) -> (TcpStream, SocketAddr) {
     let (stream, address) = listener.accept().expect(rt, "a connection");
     stream.set_nonblocking(true).expect(rt, "the mode");
     (TcpStream::from_std(stream), address)
@@ -101,6 +101,7 @@ fn bytes_mail_and_the_end_reach_the_other_worker(rt: HostRuntime) {
         mut first,
         mut second,
         intake: _door,
+        lobby: _lobby,
     } = ports;
 
     let mut buffer = [0u8; 32];
@@ -150,6 +151,19 @@ fn a_connection_is_handed_out_once(rt: HostRuntime) {
     assert!(rt; Carries::<ToPeer>::open(&mut ports.first, near.number()).is_none());
     ports.first.give_up(near.number());
     assert!(rt; Carries::<ToPeer>::send(&mut ports.first, &mut near, b"PING x\r\n") == Ok(8));
+}
+
+// A number that was given up is not given again, so what came late for it reaches nobody.
+#[test]
+fn a_number_is_given_once(rt: HostRuntime) {
+    let (_listener, address) = listener(&rt);
+    let mut ports = two_ports(&rt, address);
+    let earlier = ports.first.dial(Dial::Peer(0)).expect(&rt, "a line");
+    ports.first.give_up(earlier);
+    let later = ports.first.dial(Dial::Peer(0)).expect(&rt, "a line");
+    assert!(rt; later != earlier);
+    ports.first.give_up(earlier);
+    assert!(rt; dialed(&rt, &mut ports.first).number() == later);
 }
 
 // Whether the peer is told to be refused.
