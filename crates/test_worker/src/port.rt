@@ -1,6 +1,5 @@
 //! A port of memory, which plays the acts of a case and tells what comes of them.
-ghost use Rattle.std.specs.Prelude.{◌≡◌, ◌≤◌, ◌++◌, [], length, take, IfOk, IfSome, OnErr};
-ghost use Rattle.bnc_ports.specs.Outgoing.{BeginsOf};
+ghost use Rattle.std.specs.Prelude.{take};
 
 use crate::act::{Act, act_in, range_in};
 use crate::connection::MemoryConnection;
@@ -206,6 +205,7 @@ impl MemoryPort {
         self.bring_stray(number)
     }
 
+    // (a field can't be lent by `&` from behind two references, as `Port::clocks` has it below)
     fn read_clocks(&self) -> Result<Clocks, PortFault> {
         self.times.read()
     }
