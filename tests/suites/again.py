@@ -21,6 +21,8 @@ MANY = 1 << 62
 REQUESTS = 60
 # After so many seconds it is over, and what waits to be published is tried again.
 OVER, LATER = 0.1, 1
+# Floors that are due are looked for once an hour.
+HOUR = 3600
 
 
 class Refusals:
@@ -110,6 +112,70 @@ def what_a_peer_brings_is_published_though_memory_was_short(fixture):
         raise Failed("no request for memory was refused: is the program built with a sanitizer, which has its own malloc?")
     fixture.notes.append(", ".join(f"{count} {what}" for what, count in sorted(counts.items())))
     expect("whether some waited", True, "published later" in counts)
+
+
+# So many floors fall due at once.
+TARGETS = ("#a", "#b", "#c")
+
+
+def shown(node):
+    """In how many of the buffers a message is there. A client's first question reads what is published."""
+    client = node.client("a client that asks").register(PAST)
+    count = sum(bool(client.ask(f"CHATHISTORY LATEST {target} * 1")) for target in TARGETS)
+    client.close()
+    return count
+
+
+def floors_told(node):
+    """How many floors the operator was told of."""
+    told = [line.partition(" ")[2] for line in node.log()]
+    return sum(int(line.split(" ")[2].rstrip(",")) for line in told if line.startswith("floors put: "))
+
+
+def floors_put(fixture, name, passed, refused):
+    """How many floors of three the operator is told of at first, and in how many buffers the message is gone by then, while so
+    many requests in a row are refused behind so many. What was told is so a second later though nothing else is put, and an
+    hour later all is. None where fewer are made."""
+    refusals = Refusals(fixture)
+    node = Node(
+        fixture, name, peers=[("n0", NOBODY, ("version", 2))], servers=[NOBODY], workers=1, retain_days=30, front=refusals.front
+    ).begin()
+    fixture.logs.pop()
+    peer = Peer.dial(node, version=2, told=2).greet()
+    at = refusals.clocks.now() - (30 * 24 * 60 - 30) * 60_000
+    peer.give(0, *(f"C POST demo net {target} m1 {at} P {target} bob!b@h :hi" for target in TARGETS))
+    peer.hear_acknowledged(len(TARGETS))
+    peer.close()
+    expect("how many messages are there", len(TARGETS), shown(node))
+    refusals.set(passed, refused)
+    refusals.clocks.skip(HOUR)
+    was_refused, told, gone = refusals.end(), floors_told(node), len(TARGETS) - shown(node)
+    where = f"{refused} refused behind {passed}"
+    if gone > told:
+        raise Failed(f"{gone} floors hold, and {told} were told: {where}")
+    refusals.clocks.skip(LATER)
+    expect(f"how many floors hold with {where}", told, len(TARGETS) - shown(node))
+    refusals.clocks.skip(HOUR)
+    expect(f"how many messages are there an hour after {where}", 0, shown(node))
+    node.kill()
+    return (told, gone) if was_refused else None
+
+
+@test
+def floors_that_the_operator_is_told_of_hold_though_memory_was_short(fixture):
+    """Two requests in a row are refused, at each place in turn. Where some floors only wait to be published, that is done a second
+    later though nothing else is put. The others are put an hour later."""
+    counts = {}
+    for passed in range(REQUESTS):
+        came = floors_put(fixture, f"x{passed}", passed, 2)
+        if came is None:
+            break
+        counts[came] = counts.get(came, 0) + 1
+    if not counts:
+        raise Failed("no request for memory was refused: is the program built with a sanitizer, which has its own malloc?")
+    fixture.notes.append(", ".join(f"{count} times {told} told and {gone} there" for (told, gone), count in sorted(counts.items())))
+    expect("whether some waited", True, any(gone < told for told, gone in counts))
+    expect("whether a part of them was told", True, any(0 < told < len(TARGETS) for told, _ in counts))
 
 
 def told(fixture, name, passed, line, refused):
