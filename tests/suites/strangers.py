@@ -2,6 +2,7 @@
 firewalls")."""
 
 import collections
+import signal
 import threading
 import time
 
@@ -85,6 +86,23 @@ def who_knows_the_secret_gets_in_while_strangers_take_each_place(fixture):
     if lines > 100:
         raise Failed(f"the operator was told {lines} times of a client that was refused")
     fixture.notes.append(f"{longest:.2f} seconds at most, {lines} lines")
+
+
+@test
+def strangers_who_come_all_at_once_keep_nobody_out(fixture):
+    """100 have connected by the time that a node comes to accept them, and there are three places. They give way one after
+    another, and nobody is told that each place is taken: who comes behind them waits until it is its turn."""
+    node = Node(fixture, servers=[NOBODY], places=3).begin()
+    node.process.send_signal(signal.SIGSTOP)
+    try:
+        strangers = [connect(fixture, node.clients) for _ in range(100)]
+        client = node.client("a client behind them")
+    finally:
+        node.process.send_signal(signal.SIGCONT)
+    client.register()
+    expect("whether a client was closed since each place is taken", False, any("each place is taken" in it for it in node.log()))
+    for stranger in strangers:
+        stranger.close()
 
 
 @test

@@ -84,9 +84,10 @@ impl<X: Attachment> Intake<X> {
         requires { F.IsAlwaysCallable boxed.now }
     {
         for _ in rt.forever() {
+            // (first, since the system doesn't tell once more of those whom a full queue left waiting)
+            self.seat_all(rt, boxed);
             let was_client = self.queue.take_client(rt, &mut self.listeners);
             let was_peer = self.take_peer(rt);
-            self.seat_all(rt, boxed);
             if !was_client && !was_peer && !self.queue.wait(&mut self.listeners) {
                 break;
             }

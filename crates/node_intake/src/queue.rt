@@ -10,7 +10,7 @@ use std::net::SocketAddr;
 use std::time::Clock;
 use worker_io::Shortage;
 
-// So many clients at most wait for a place.
+// So many clients at most wait for a place. Others wait in the queue of the system.
 pub(crate) const MOST_QUEUED: usize = 16;
 
 // After so many milliseconds it is looked whether a place is free by now.
@@ -45,12 +45,16 @@ impl Queue {
         self.clients.pop_front()
     }
 
-    // Takes in the next client that connected, which waits for a place from now on. False where none did.
+    // Takes in the next client that connected, which waits for a place from now on. False where none did, or no further one can
+    // wait here.
     pub(crate) fn take_client<R: Clock + Eprint>(
         &mut self,
         rt: &R,
         listeners: &mut Listeners,
     ) -> bool {
+        if self.clients.len() >= MOST_QUEUED {
+            return false;
+        }
         match listeners.accept(rt, Entrance::Clients) {
             Caller::Nobody => false,
             Caller::Gone => true,
@@ -61,11 +65,9 @@ impl Queue {
         }
     }
 
-    // A client waits for a place. Where too many do it is closed.
+    // A client waits for a place. Where there is no memory for that it is closed.
     fn push<R: Clock + Eprint>(&mut self, rt: &R, stream: TcpStream, address: SocketAddr) {
-        if self.clients.len() >= MOST_QUEUED {
-            self.tell_refused(rt, address, Reason::NoPlace);
-        } else if self.clients.push_back((stream, address)).is_err() {
+        if self.clients.push_back((stream, address)).is_err() {
             self.tell_refused(rt, address, Reason::NoMemory);
         }
     }
