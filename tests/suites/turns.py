@@ -71,7 +71,8 @@ class Ear:
         try:
             while True:
                 self.read()
-        except (Failed, OSError):
+        except (Failed, OSError, ValueError):
+            # (a socket that was closed at this end has no number any more)
             pass
 
     def beside(self):
