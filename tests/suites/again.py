@@ -149,14 +149,15 @@ def floors_put(fixture, name, passed, refused):
     expect("how many messages are there", len(TARGETS), shown(node))
     refusals.set(passed, refused)
     refusals.clocks.skip(HOUR)
-    was_refused, told, gone = refusals.end(), floors_told(node), len(TARGETS) - shown(node)
-    where = f"{refused} refused behind {passed}"
+    fixture.until("floors are put, or memory is refused", lambda: refusals.count() or floors_told(node))
+    was_refused, gone = refusals.end(), len(TARGETS) - shown(node)
+    refusals.clocks.skip(LATER)
+    told, where = floors_told(node), f"{refused} refused behind {passed}"
     if gone > told:
         raise Failed(f"{gone} floors hold, and {told} were told: {where}")
-    refusals.clocks.skip(LATER)
-    expect(f"how many floors hold with {where}", told, len(TARGETS) - shown(node))
+    fixture.until(f"{told} floors hold that were told: {where}", lambda: len(TARGETS) - shown(node) == told)
     refusals.clocks.skip(HOUR)
-    expect(f"how many messages are there an hour after {where}", 0, shown(node))
+    fixture.until(f"all floors hold an hour later: {where}", lambda: shown(node) == 0)
     node.kill()
     return (told, gone) if was_refused else None
 
