@@ -16,7 +16,7 @@ from harness.registry import test
 from harness.server import Server
 
 # So many strangers come in a second, and in all; so many of their connections are kept open on this side.
-RATE, STRANGERS, KEPT = 200, 10000, 200
+RATE, STRANGERS, KEPT = 200, 10000, 400
 # Within so many seconds a client is let in.
 LET_IN = 5
 NOBODY = ("127.0.0.1", 1)
@@ -59,10 +59,11 @@ def who_knows_the_secret_gets_in_while_strangers_take_each_place(fixture):
     """10,000 strangers come at 200 a second, say nothing and stay. Who sends its lines at once is let in within 5 seconds, and
     stays."""
     server = Server(fixture)
-    node = Node(fixture, servers=[server.address], places=64).begin()
+    # (so many that a second goes by before a client gives way, also where this test waits for a processor)
+    node = Node(fixture, servers=[server.address], places=256).begin()
     server.register()
     strangers, longest = Strangers(fixture, node.clients), 0.0
-    fixture.until("each place is taken", lambda: strangers.count > 100)
+    fixture.until("each place is taken", lambda: strangers.count > 300)
     clients = []
     while strangers.thread.is_alive():
         begun = time.monotonic()

@@ -64,6 +64,8 @@ def a_line_that_is_under_way_to_a_server_that_is_gone_reaches_nobody_else(fixtur
         speaker.say("PING over")
         while speaker.line("an answer") != ":bnc.example PONG bnc.example :over":
             pass
+        # (a minute counts from when the node has seen the end)
+        fixture.until("the session is over", lambda: sum("upstream down" in line for line in node.log()) == turn + 1)
         clocks.skip(60)
         session = server.register()
         for guest in guests:
