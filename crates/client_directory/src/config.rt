@@ -35,7 +35,7 @@ impl Channels {
 /// Whose session it is, with which network, and under which names. Where the account or the network is no name, nothing is
 /// kept, and all messages are passed on as they are.
 #[derive(Drop)]
-pub struct Config {
+pub struct SessionConfig {
     /// The name of the account: 1 to 32 bytes of `a-z`, `0-9`, `-` and `_`.
     pub account: Text,
     /// The name of the network, of the same form.

@@ -3,27 +3,27 @@ use Rattle.std.specs.Prelude.{ℕ, List, IsSomeAnd, codes}
 use Rattle.toml.specs.Data.{Members}
 use Rattle.toml.specs.Parse.{parse_document}
 use Rattle.node_config.specs.declared.config.Config.{Config}
-use Rattle.node_config.specs.declared.entries.Account.{Account}
-use Rattle.node_config.specs.declared.entries.Network.{Network}
-use Rattle.node_config.specs.declared.entries.Peer.{Peer}
+use Rattle.node_config.specs.declared.entries.AccountConfig.{AccountConfig}
+use Rattle.node_config.specs.declared.entries.NetworkConfig.{NetworkConfig}
+use Rattle.node_config.specs.declared.entries.PeerConfig.{PeerConfig}
 use Rattle.node_config.specs.declared.limits.Limits.{Limits}
 use Rattle.node_config.specs.declared.limits.TheConstants.{LEAST_MAXIMUM}
 use Rattle.node_config.specs.Values.{HasText, HasNumber, HasNumberOr, HasTime, HasAddress, HasTexts, HasVersion, HasEntries}
 
 -- a table of `peer` says this
-pub record IsPeerOf (t : Members) (peer : Peer) : Type 0 where
+pub record IsPeerOf (t : Members) (peer : PeerConfig) : Type 0 where
   pub name : HasText t (codes "name") peer.name
   pub address : HasAddress t (codes "address") peer.address
   pub version : HasVersion t (codes "version") peer.version
 
 -- a table of `account`
-pub record IsAccountOf (t : Members) (account : Account) : Type 0 where
+pub record IsAccountOf (t : Members) (account : AccountConfig) : Type 0 where
   pub name : HasText t (codes "name") account.name
   pub secret : HasText t (codes "secret") account.secret
   pub keep_from : HasTime t (codes "keep_from") account.keep_from
 
 -- a table of `network`
-pub record IsNetworkOf (t : Members) (network : Network) : Type 0 where
+pub record IsNetworkOf (t : Members) (network : NetworkConfig) : Type 0 where
   pub account : HasText t (codes "account") network.account
   pub name : HasText t (codes "name") network.name
   pub address : HasAddress t (codes "address") network.address
@@ -39,13 +39,13 @@ pub record AreLimitsOf (document : Members) (limits : Limits) : Type 0 where
   pub retain_days : HasNumber document (codes "retain_days") limits.retain_days
 
 -- the lists of a document
-abbrev pub ArePeersOf : Members → List Peer → Type 0
+abbrev pub ArePeersOf : Members → List PeerConfig → Type 0
 ArePeersOf document peers = HasEntries IsPeerOf document (codes "peer") peers
 
-abbrev pub AreAccountsOf : Members → List Account → Type 0
+abbrev pub AreAccountsOf : Members → List AccountConfig → Type 0
 AreAccountsOf document accounts = HasEntries IsAccountOf document (codes "account") accounts
 
-abbrev pub AreNetworksOf : Members → List Network → Type 0
+abbrev pub AreNetworksOf : Members → List NetworkConfig → Type 0
 AreNetworksOf document networks = HasEntries IsNetworkOf document (codes "network") networks
 
 -- the whole of a document

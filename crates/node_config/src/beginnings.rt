@@ -3,18 +3,17 @@ ghost use Rattle.std.specs.Prelude.{◌≡◌, ◌++◌, IfOk};
 ghost use Rattle.node_config.specs.Beginnings as spec;
 
 use crate::config::Config;
-use crate::entries::{Account, Network, Peer};
+use crate::entries::{AccountConfig, NetworkConfig, PeerConfig};
 use byte_text::{NoMemory, copies_of};
-use client_directory as directory;
-use client_directory::{Directory, Entry};
+use client_directory::{Account, Directory, Entry, Network};
 use node_terms::NodeName;
 use std::alloc::{AllocError, Global};
 
-impl Network {
+impl NetworkConfig {
     ghost use Rattle.node_config.specs.Beginnings.{IsCopy};
 
     /// A copy of a network, for a session with its server.
-    pub fn try_clone(&self, alloc: Global) -> Result<Network, NoMemory>
+    pub fn try_clone(&self, alloc: Global) -> Result<NetworkConfig, NoMemory>
         ensures { IfOk result (IsCopy self.now) }
     {
         let account = self.account.try_clone(alloc)?;
@@ -22,7 +21,7 @@ impl Network {
         let nick = self.nick.try_clone(alloc)?;
         let user = self.user.try_clone(alloc)?;
         let channels = copies_of(alloc, &self.channels)?;
-        Ok(Network {
+        Ok(NetworkConfig {
             account,
             name,
             address: self.address,
@@ -34,20 +33,20 @@ impl Network {
 }
 
 // A network of the directory, which isn't up.
-fn network_of(alloc: Global, network: &Network) -> Result<directory::Network, NoMemory>
+fn network_of(alloc: Global, network: &NetworkConfig) -> Result<Network, NoMemory>
     ensures { IfOk result (λ made. made ≡ spec.network_of network.now) }
 {
     let name = network.name.try_clone(alloc)?;
     let nick = network.nick.try_clone(alloc)?;
     let entry = Entry::new(false, nick, Vec::new(alloc), false);
-    Ok(directory::Network::new(name, entry))
+    Ok(Network::new(name, entry))
 }
 
 // Adds those of the networks that are of that account.
 fn add_networks(
     alloc: Global,
-    made: &mut directory::Account,
-    networks: &[Network],
+    made: &mut Account,
+    networks: &[NetworkConfig],
     account: &[u8],
 ) -> Result<(), NoMemory>
     ensures { IfOk result (λ _. made.new ≡ record made.old {
@@ -65,14 +64,14 @@ fn add_networks(
 // An account of the directory, with its networks.
 fn account_of(
     alloc: Global,
-    networks: &[Network],
-    account: &Account,
-) -> Result<directory::Account, NoMemory>
+    networks: &[NetworkConfig],
+    account: &AccountConfig,
+) -> Result<Account, NoMemory>
     ensures { IfOk result (λ made. made ≡ spec.account_of networks.now account.now) }
 {
     let name = account.name.try_clone(alloc)?;
     let secret = account.secret.try_clone(alloc)?;
-    let mut made = directory::Account::new(alloc, name, secret);
+    let mut made = Account::new(alloc, name, secret);
     match add_networks(alloc, &mut made, networks, account.name.as_bytes()) {
         Ok(()) => Ok(made),
         Err(NoMemory) => Err(NoMemory),
@@ -81,8 +80,8 @@ fn account_of(
 
 fn directory_of(
     alloc: Global,
-    accounts: &[Account],
-    networks: &[Network],
+    accounts: &[AccountConfig],
+    networks: &[NetworkConfig],
 ) -> Result<Directory, NoMemory>
     ensures { IfOk result (λ made. made ≡ spec.directory_of accounts.now networks.now) }
 {
@@ -93,7 +92,7 @@ fn directory_of(
     Ok(made)
 }
 
-fn names_of(alloc: Global, peers: &[Peer]) -> Result<Vec<NodeName>, NoMemory>
+fn names_of(alloc: Global, peers: &[PeerConfig]) -> Result<Vec<NodeName>, NoMemory>
     ensures { IfOk result (λ names. names.items ≡ spec.names_of peers.now) }
 {
     let mut names = Vec::new(alloc);

@@ -4,7 +4,7 @@ ghost use Rattle.node_config.specs.Names.{is_cluster_name};
 ghost use Rattle.node_config.specs.Differing as differing;
 ghost use Rattle.node_config.specs.declared.limits.TheConstants.{LEAST_MAXIMUM, MOST_MAXIMUM};
 
-use crate::entries::{Account, Network, Peer};
+use crate::entries::{AccountConfig, NetworkConfig, PeerConfig};
 use crate::limits::Limits;
 use byte_text::Text;
 use node_terms::{NodeName, SharedWord};
@@ -29,11 +29,11 @@ pub struct Config {
     /// The most messages or buffers of one page.
     pub maximum: u32,
     /// The other nodes.
-    pub peers: Vec<Peer>,
+    pub peers: Vec<PeerConfig>,
     /// The accounts.
-    pub accounts: Vec<Account>,
+    pub accounts: Vec<AccountConfig>,
     /// The networks, in their order, which says by whom each is served.
-    pub networks: Vec<Network>,
+    pub networks: Vec<NetworkConfig>,
     ghost named: { is_cluster_name name ≡ true },
     ghost some_messages: { LEAST_MAXIMUM ≤ maximum },
     ghost few_messages: { maximum ≤ MOST_MAXIMUM },

@@ -10,7 +10,7 @@ use std::net::SocketAddr;
 
 /// Another node of the cluster.
 #[derive(Drop)]
-pub struct Peer {
+pub struct PeerConfig {
     /// Its name.
     pub name: NodeName,
     /// Where it listens for peers.
@@ -21,7 +21,7 @@ pub struct Peer {
 
 /// An account of the cluster.
 #[derive(Drop)]
-pub struct Account {
+pub struct AccountConfig {
     /// Its name.
     pub name: Text,
     /// What lets a client in.
@@ -33,7 +33,7 @@ pub struct Account {
 
 /// A network of an account, with whose server the node keeps a session.
 #[derive(Drop)]
-pub struct Network {
+pub struct NetworkConfig {
     /// The name of the account.
     pub account: Text,
     /// The name of the network.

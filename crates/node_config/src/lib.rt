@@ -54,7 +54,7 @@ mod section;
 
 pub use allowed::Allowed;
 pub use config::Config;
-pub use entries::{Account, Network, Peer};
+pub use entries::{AccountConfig, NetworkConfig, PeerConfig};
 pub use fault::{ConfigFault, ConfigPlace, ListName, Wrong};
 pub use limits::Limits;
 pub use names::is_cluster_name;

@@ -6,12 +6,12 @@ ghost use Rattle.node_config.specs.Meaning.{AreAccountsOf, AreNetworksOf};
 ghost use Rattle.node_config.specs.Sections.{table_of};
 
 use crate::allowed::Allowed;
-use crate::entries::{Account, Network};
+use crate::entries::{AccountConfig, NetworkConfig};
 use crate::fault::{ListName, ValueFault};
 use crate::section::{Section, entry_of, push};
 use std::alloc::Global;
 
-fn has_account(accounts: &[Account], name: &[u8]) -> bool
+fn has_account(accounts: &[AccountConfig], name: &[u8]) -> bool
     ensures { result ≡ spec.has_account accounts.now name.now }
 {
     accounts
@@ -20,7 +20,10 @@ fn has_account(accounts: &[Account], name: &[u8]) -> bool
 }
 
 /// The accounts, no two of which have one name.
-pub(crate) fn read_accounts(alloc: Global, top: Section<'_>) -> Result<Vec<Account>, ValueFault>
+pub(crate) fn read_accounts(
+    alloc: Global,
+    top: Section<'_>,
+) -> Result<Vec<AccountConfig>, ValueFault>
     ensures differ { IfOk result (λ accounts.
         spec.all_differ spec.same_account accounts.items ≡ true) }
     ensures values { IfOk result (λ accounts.
@@ -40,8 +43,8 @@ pub(crate) fn read_accounts(alloc: Global, top: Section<'_>) -> Result<Vec<Accou
 fn read_account(
     alloc: Global,
     entry: Section<'_>,
-    before: &[Account],
-) -> Result<Account, ValueFault>
+    before: &[AccountConfig],
+) -> Result<AccountConfig, ValueFault>
     ensures new { IfOk result (λ account. spec.has_account before.now account.name ≡ false) }
     ensures values { IfOk result (λ account. IsAccountOf (table_of entry.entry) account) }
 {
@@ -55,14 +58,14 @@ fn read_account(
     if has_account(before, name.as_bytes()) {
         return Err(entry.wrong("name", Allowed::NewName));
     }
-    Ok(Account {
+    Ok(AccountConfig {
         name,
         secret,
         keep_from,
     })
 }
 
-fn has_network(networks: &[Network], account: &[u8], name: &[u8]) -> bool
+fn has_network(networks: &[NetworkConfig], account: &[u8], name: &[u8]) -> bool
     ensures { result ≡ spec.has_network networks.now account.now name.now }
 {
     networks.iter().any(|network| network.account.as_bytes() == account
@@ -73,8 +76,8 @@ fn has_network(networks: &[Network], account: &[u8], name: &[u8]) -> bool
 pub(crate) fn read_networks(
     alloc: Global,
     top: Section<'_>,
-    accounts: &[Account],
-) -> Result<Vec<Network>, ValueFault>
+    accounts: &[AccountConfig],
+) -> Result<Vec<NetworkConfig>, ValueFault>
     ensures differ { IfOk result (λ networks.
         spec.all_differ spec.same_network networks.items ≡ true) }
     ensures known { IfOk result (λ networks.
@@ -96,9 +99,9 @@ pub(crate) fn read_networks(
 fn read_network(
     alloc: Global,
     entry: Section<'_>,
-    accounts: &[Account],
-    before: &[Network],
-) -> Result<Network, ValueFault>
+    accounts: &[AccountConfig],
+    before: &[NetworkConfig],
+) -> Result<NetworkConfig, ValueFault>
     ensures known { IfOk result (λ n. spec.has_account accounts.now n.account ≡ true) }
     ensures new { IfOk result (λ n. spec.has_network before.now n.account n.name ≡ false) }
     ensures values { IfOk result (λ n. IsNetworkOf (table_of entry.entry) n) }
@@ -109,7 +112,7 @@ fn read_network(
 }
 
 // The network that a table says.
-fn network_in(alloc: Global, entry: Section<'_>) -> Result<Network, ValueFault>
+fn network_in(alloc: Global, entry: Section<'_>) -> Result<NetworkConfig, ValueFault>
     ensures { IfOk result (λ n. IsNetworkOf (table_of entry.entry) n) }
 {
     let account = entry.name(alloc, "account")?;
@@ -118,7 +121,7 @@ fn network_in(alloc: Global, entry: Section<'_>) -> Result<Network, ValueFault>
     let nick = entry.target(alloc, "nick")?;
     let user = entry.target(alloc, "user")?;
     let channels = entry.channels(alloc, "channels")?;
-    Ok(Network {
+    Ok(NetworkConfig {
         account,
         name,
         address,
@@ -131,9 +134,9 @@ fn network_in(alloc: Global, entry: Section<'_>) -> Result<Network, ValueFault>
 // Refuses a network of none of the accounts, and one that is among those before.
 fn check_network(
     entry: Section<'_>,
-    accounts: &[Account],
-    before: &[Network],
-    network: &Network,
+    accounts: &[AccountConfig],
+    before: &[NetworkConfig],
+    network: &NetworkConfig,
 ) -> Result<(), ValueFault>
     ensures known { OnOk result (spec.has_account accounts.now network.now.account ≡ true) }
     ensures new { OnOk result

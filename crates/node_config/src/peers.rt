@@ -6,13 +6,13 @@ ghost use Rattle.node_config.specs.Sections.{table_of};
 ghost use Rattle.node_terms.specs.Names.{same_name};
 
 use crate::allowed::Allowed;
-use crate::entries::Peer;
+use crate::entries::PeerConfig;
 use crate::fault::{ListName, ValueFault};
 use crate::section::{Section, entry_of, push};
 use node_terms::NodeName;
 use std::alloc::Global;
 
-fn has_peer(peers: &[Peer], name: &NodeName) -> bool
+fn has_peer(peers: &[PeerConfig], name: &NodeName) -> bool
     ensures { result ≡ spec.has_peer peers.now name.now }
 {
     peers.iter().any(|peer| peer.name.is_same(name))
@@ -23,7 +23,7 @@ pub(crate) fn read_peers(
     alloc: Global,
     top: Section<'_>,
     node: &NodeName,
-) -> Result<Vec<Peer>, ValueFault>
+) -> Result<Vec<PeerConfig>, ValueFault>
     ensures differ { IfOk result (λ peers. spec.all_differ spec.same_peer peers.items ≡ true) }
     ensures others { IfOk result (λ peers. spec.has_peer peers.items node.now ≡ false) }
     ensures values { IfOk result (λ peers. ArePeersOf (table_of top.entry) peers.items) }
@@ -43,8 +43,8 @@ fn read_peer(
     alloc: Global,
     entry: Section<'_>,
     node: &NodeName,
-    before: &[Peer],
-) -> Result<Peer, ValueFault>
+    before: &[PeerConfig],
+) -> Result<PeerConfig, ValueFault>
     ensures other { IfOk result (λ peer. same_name peer.name node.now ≡ false) }
     ensures new { IfOk result (λ peer. spec.has_peer before.now peer.name ≡ false) }
     ensures values { IfOk result (λ peer. IsPeerOf (table_of entry.entry) peer) }
@@ -58,7 +58,7 @@ fn read_peer(
     if has_peer(before, &name) {
         return Err(entry.wrong("name", Allowed::NewName));
     }
-    Ok(Peer {
+    Ok(PeerConfig {
         name,
         address,
         version,

@@ -10,7 +10,7 @@ ghost use Rattle.node_config.specs.Parts.{IsHeadOf, AreListsOf};
 ghost use Rattle.node_config.specs.Sections.{table_of};
 
 use crate::config::Config;
-use crate::entries::{Account, Network, Peer};
+use crate::entries::{AccountConfig, NetworkConfig, PeerConfig};
 use crate::fault::{ConfigFault, ConfigPlace, ValueFault};
 use crate::keys::check_keys;
 use crate::limits::{
@@ -75,9 +75,9 @@ struct Head {
 // The lists of a document.
 #[derive(Drop)]
 struct Lists {
-    peers: Vec<Peer>,
-    accounts: Vec<Account>,
-    networks: Vec<Network>,
+    peers: Vec<PeerConfig>,
+    accounts: Vec<AccountConfig>,
+    networks: Vec<NetworkConfig>,
 }
 
 fn read_values(alloc: Global, table: &Table) -> Result<Config, ValueFault>

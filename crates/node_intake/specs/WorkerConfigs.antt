@@ -7,13 +7,13 @@ use Rattle.chat_change.specs.declared.change.Change.TheVariants.{AccountFloor}
 use Rattle.node_terms.specs.Terms.{Terms}
 use Rattle.node_terms.specs.declared.terms.PeerTerms.{PeerTerms}
 use Rattle.node_config.specs.declared.config.Config.{Config}
-use Rattle.node_config.specs.declared.entries.Account.{Account}
-use Rattle.node_config.specs.declared.entries.Network.{Network}
-use Rattle.node_config.specs.declared.entries.Peer.{Peer}
-use Rattle.client_directory.specs.declared.config.Config as session
+use Rattle.node_config.specs.declared.entries.AccountConfig.{AccountConfig}
+use Rattle.node_config.specs.declared.entries.NetworkConfig.{NetworkConfig}
+use Rattle.node_config.specs.declared.entries.PeerConfig.{PeerConfig}
+use Rattle.client_directory.specs.declared.config.SessionConfig.{SessionConfig}
 
 -- the session with a network's server: with its account, its names and its channels
-abbrev pub session_of : Network → session.Config
+abbrev pub session_of : NetworkConfig → SessionConfig
 session_of n = record {
   account = n.account;
   network = n.name;
@@ -23,11 +23,11 @@ session_of n = record {
 }
 
 -- one for each network, in their order
-abbrev pub sessions_of : List Network → List session.Config
+abbrev pub sessions_of : List NetworkConfig → List SessionConfig
 sessions_of networks = map session_of networks
 
 -- what is said to a peer: the hello in its version
-abbrev pub peer_terms_of : Peer → PeerTerms
+abbrev pub peer_terms_of : PeerConfig → PeerTerms
 peer_terms_of p = record { name = p.name; version = p.version }
 
 -- the shared word, the node in this incarnation, and its peers in their order
@@ -39,9 +39,9 @@ terms_of config incarnation = record {
 }
 
 -- the floor of an account that keeps nothing before a moment
-abbrev pub floor_of : Account → Option Change
+abbrev pub floor_of : AccountConfig → Option Change
 floor_of a = option_map (AccountFloor a.name) a.keep_from
 
 -- one for each such account, in their order
-abbrev pub floors_of : List Account → List Change
+abbrev pub floors_of : List AccountConfig → List Change
 floors_of accounts = filter_map floor_of accounts

@@ -6,8 +6,8 @@ ghost use Rattle.node_intake.specs.WorkerConfigs as spec;
 use bnc_ports::{Event, ServeFault};
 use bnc_sockets::{now_ms, report};
 use byte_text::NoMemory;
-use chat_change::{Change, Moment};
-use node_config::Account;
+use chat_change::{Account, Change, Moment};
+use node_config::AccountConfig;
 use shared_node::{Naming, Pass, SharedNode};
 use std::alloc::Global;
 use std::io::Eprint;
@@ -15,17 +15,17 @@ use std::sync::Wait;
 use std::time::Clock;
 
 // The floor of an account. The maker refuses nothing here, since the name is that of an account: it can only want memory.
-fn floor_of(alloc: Global, account: &Account, at: Moment) -> Result<Change, NoMemory>
+fn floor_of(alloc: Global, account: &AccountConfig, at: Moment) -> Result<Change, NoMemory>
     ensures { IfOk result (λ floor. floor ≡ Change.AccountFloor account.now.name at) }
 {
-    match chat_change::Account::new(alloc, account.name.as_bytes()) {
+    match Account::new(alloc, account.name.as_bytes()) {
         Ok(account) => Ok(Change::AccountFloor { account, at }),
         Err(_) => Err(NoMemory),
     }
 }
 
 // Whether there was memory for the floor of an account, if it has one.
-fn push_floor(alloc: Global, floors: &mut Vec<Change>, account: &Account) -> bool
+fn push_floor(alloc: Global, floors: &mut Vec<Change>, account: &AccountConfig) -> bool
     ensures { IsTrue result →
         floors.new.items ≡ floors.old.items ++ option_to_list (spec.floor_of account.now) }
 {
@@ -39,7 +39,7 @@ fn push_floor(alloc: Global, floors: &mut Vec<Change>, account: &Account) -> boo
 }
 
 /// A floor for each account that keeps nothing before a moment, in their order.
-pub(crate) fn floors_of(alloc: Global, accounts: &[Account]) -> Result<Vec<Change>, NoMemory>
+pub(crate) fn floors_of(alloc: Global, accounts: &[AccountConfig]) -> Result<Vec<Change>, NoMemory>
     ensures { IfOk result (λ floors. floors.items ≡ spec.floors_of accounts.now) }
 {
     let mut floors = Vec::new(alloc);

@@ -5,17 +5,17 @@ ghost use Rattle.node_config.specs.Beginnings.{directory_of, names_of};
 
 use bnc_ports::Lobby;
 use byte_text::NoMemory;
-use client_directory::Channels;
+use client_directory::{Channels, SessionConfig};
 use client_places::Attachment;
-use node_config::{Config, Network, Peer};
+use node_config::{Config, NetworkConfig, PeerConfig};
 use node_terms::{Life, LinkFault, PeerTerms, SharedWord, Terms};
 use std::alloc::Global;
 use worker_io::WorkerConfig;
 
-fn session_of(alloc: Global, network: &Network) -> Result<client_directory::Config, NoMemory>
+fn session_of(alloc: Global, network: &NetworkConfig) -> Result<SessionConfig, NoMemory>
     ensures { IfOk result (λ session. session ≡ spec.session_of network.now) }
 {
-    let Network {
+    let NetworkConfig {
         account,
         name,
         nick,
@@ -23,7 +23,7 @@ fn session_of(alloc: Global, network: &Network) -> Result<client_directory::Conf
         channels,
         ..
     } = network.try_clone(alloc)?;
-    Ok(client_directory::Config {
+    Ok(SessionConfig {
         account,
         network: name,
         nick,
@@ -32,10 +32,7 @@ fn session_of(alloc: Global, network: &Network) -> Result<client_directory::Conf
     })
 }
 
-fn sessions_of(
-    alloc: Global,
-    networks: &[Network],
-) -> Result<Vec<client_directory::Config>, NoMemory>
+fn sessions_of(alloc: Global, networks: &[NetworkConfig]) -> Result<Vec<SessionConfig>, NoMemory>
     ensures { IfOk result (λ sessions. sessions.items ≡ spec.sessions_of networks.now) }
 {
     let mut sessions = Vec::new(alloc);
@@ -57,7 +54,7 @@ fn word_of(alloc: Global, word: &SharedWord) -> Result<SharedWord, NoMemory>
     }
 }
 
-fn peer_terms_of(alloc: Global, peer: &Peer) -> Result<PeerTerms, NoMemory>
+fn peer_terms_of(alloc: Global, peer: &PeerConfig) -> Result<PeerTerms, NoMemory>
     ensures { IfOk result (λ terms. terms ≡ spec.peer_terms_of peer.now) }
 {
     let name = peer.name.try_clone(alloc)?;
@@ -67,7 +64,7 @@ fn peer_terms_of(alloc: Global, peer: &Peer) -> Result<PeerTerms, NoMemory>
     })
 }
 
-fn all_peer_terms_of(alloc: Global, peers: &[Peer]) -> Result<Vec<PeerTerms>, NoMemory>
+fn all_peer_terms_of(alloc: Global, peers: &[PeerConfig]) -> Result<Vec<PeerTerms>, NoMemory>
     ensures { IfOk result (λ all. all.items ≡ map spec.peer_terms_of peers.now) }
 {
     let mut all = Vec::new(alloc);

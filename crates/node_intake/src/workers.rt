@@ -8,7 +8,7 @@ use bnc_sockets::{Addresses, Delivery, Mailbox, Newcomer, SocketPort, WorkerInta
 use client_places::Attachment;
 use crossbeam_channel::{Receiver, Sender, unbounded};
 use mio::Poll;
-use node_config::{Config, Network, Peer};
+use node_config::{Config, NetworkConfig, PeerConfig};
 use passed_lines::Mail;
 use rtrb::{Producer, RingBuffer};
 use std::alloc::{AllocError, Global};
@@ -98,7 +98,7 @@ fn copies_of(alloc: Global, mailboxes: &[Mailbox<Mail>]) -> Result<Vec<Mailbox<M
     Ok(copies)
 }
 
-fn networks_of(alloc: Global, networks: &[Network]) -> Result<Vec<SocketAddr>, AllocError>
+fn networks_of(alloc: Global, networks: &[NetworkConfig]) -> Result<Vec<SocketAddr>, AllocError>
     ensures { IfOk result (λ made. made.items ≡ map (λ n. n.address) networks.now) }
 {
     let mut addresses = Vec::new(alloc);
@@ -108,7 +108,7 @@ fn networks_of(alloc: Global, networks: &[Network]) -> Result<Vec<SocketAddr>, A
     Ok(addresses)
 }
 
-fn peers_of(alloc: Global, peers: &[Peer]) -> Result<Vec<SocketAddr>, AllocError>
+fn peers_of(alloc: Global, peers: &[PeerConfig]) -> Result<Vec<SocketAddr>, AllocError>
     ensures { IfOk result (λ made. made.items ≡ map (λ p. p.address) peers.now) }
 {
     let mut addresses = Vec::new(alloc);

@@ -8,7 +8,7 @@ use Rattle.chat_change.specs.declared.change.Change.TheVariants.{Post}
 use Rattle.upstream_session.specs.Events.{ServerEvent, run, after, step_by, effects_of}
 use Rattle.upstream_session.specs.Messages.{is_from}
 use Rattle.upstream_session.specs.Step.{new, ServerStep}
-use Rattle.client_directory.specs.declared.config.Config.{Config}
+use Rattle.client_directory.specs.declared.config.SessionConfig.{SessionConfig}
 use Rattle.upstream_session.specs.declared.connection.Connection.{Connection}
 use Rattle.upstream_session.specs.declared.effect.UpEffect.{UpEffect}
 use Rattle.upstream_session.specs.declared.effect.UpEffect.TheVariants.{Send, Put, Relay, Close}
@@ -24,7 +24,7 @@ all_then P [] event all is = (is, tt)
 all_then P (e ∷ events) event all is = (all.0, all_then P events event all.1 is)
 
 -- a new session of a configuration
-pub begun : {account network : List ℕ} {session : Connection} (config : Config) (node : List ℕ) (incarnation first_serial : ℕ) → account ≡ config.account → network ≡ config.network → session ≡ new config node incarnation first_serial → IsSessionOf account network session
+pub begun : {account network : List ℕ} {session : Connection} (config : SessionConfig) (node : List ℕ) (incarnation first_serial : ℕ) → account ≡ config.account → network ≡ config.network → session ≡ new config node incarnation first_serial → IsSessionOf account network session
 begun config node incarnation first_serial a n s = record {
   config = config;
   node = node;

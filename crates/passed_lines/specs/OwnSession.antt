@@ -4,7 +4,7 @@ use Rattle.upstream_session.specs.Events.{ServerEvent, Line, Saying}
 use Rattle.upstream_session.specs.Events as events
 use Rattle.upstream_session.specs.Refusal.{refusal_after}
 use Rattle.upstream_session.specs.Step.{new}
-use Rattle.client_directory.specs.declared.config.Config.{Config}
+use Rattle.client_directory.specs.declared.config.SessionConfig.{SessionConfig}
 use Rattle.upstream_session.specs.declared.connection.Connection.{Connection}
 
 pub record OwnSession : Type 0 where
@@ -14,7 +14,7 @@ pub record OwnSession : Type 0 where
   pub refusal : List ℕ  -- the words by which the server refused it last
 
 -- a new one
-abbrev pub begun : Config → List ℕ → ℕ → ℕ → OwnSession
+abbrev pub begun : SessionConfig → List ℕ → ℕ → ℕ → OwnSession
 begun config node incarnation first_serial = record {
   account = config.account;
   network = config.network;

@@ -8,7 +8,7 @@ use Rattle.chat_change.specs.declared.change.Change.TheVariants.{Post}
 use Rattle.upstream_session.specs.Events.{ServerEvent, Line, Saying, run, effects_of}
 use Rattle.upstream_session.specs.Messages.{is_from}
 use Rattle.upstream_session.specs.Step.{new}
-use Rattle.client_directory.specs.declared.config.Config.{Config}
+use Rattle.client_directory.specs.declared.config.SessionConfig.{SessionConfig}
 use Rattle.upstream_session.specs.declared.connection.Connection.{Connection}
 use Rattle.upstream_session.specs.declared.effect.UpEffect.{UpEffect}
 use Rattle.upstream_session.specs.declared.effect.UpEffect.TheVariants.{Send, Put, Relay, Close}
@@ -21,7 +21,7 @@ IsLineFor account network (Saying now bytes) = ∥ IsSaidFor account network byt
 
 -- a session with the server of that account's network, after some lines of the server and of its own clients for it
 pub record IsSessionOf (account network : List ℕ) (session : Connection) : Type 0 where
-  pub config : Config
+  pub config : SessionConfig
   pub node : List ℕ
   pub incarnation : ℕ
   pub first_serial : ℕ

@@ -18,7 +18,7 @@ use chat_change::{Change, Moment, Record};
 use std::alloc::Global;
 use std::marker::Model;
 use thiserror::Error;
-use upstream_session::{Config, Entry, Upstream, is_from};
+use upstream_session::{Entry, SessionConfig, Upstream, is_from};
 use worker_io::SharedLine;
 
 /// Why a line isn't said to a server.
@@ -61,7 +61,7 @@ impl NetworkSession {
     /// A session of that configuration, which isn't connected yet ([`Upstream::new`]).
     pub fn new(
         alloc: Global,
-        config: Config,
+        config: SessionConfig,
         node: Text,
         incarnation: u64,
         first_serial: u64,
@@ -241,7 +241,7 @@ impl NetworkSession {
 }
 
 // The account and the network of a configuration.
-fn names_of(alloc: Global, config: &Config) -> Result<(SharedLine, SharedLine), NoMemory>
+fn names_of(alloc: Global, config: &SessionConfig) -> Result<(SharedLine, SharedLine), NoMemory>
     ensures account { IfOk result (λ names. names.0 ≡ config.now.account) }
     ensures network { IfOk result (λ names. names.1 ≡ config.now.network) }
 {

@@ -21,27 +21,27 @@ use anyhow::Error;
 use byte_text::Text;
 use chat_change::Change;
 use gossip_delta::write_change;
-use node_config::Network;
+use node_config::NetworkConfig;
 use std::alloc::{AllocError, Global};
 use std::io::Write;
-use upstream_session::{Channels, Config, Recipients, UpEffect, Upstream};
+use upstream_session::{Channels, Recipients, SessionConfig, UpEffect, Upstream};
 
 const LAST_SERIAL: u64 = 18_446_744_073_709_551_615;
 
-fn first_of(alloc: Global, networks: &[Network]) -> Result<Network, Error> {
+fn first_of(alloc: Global, networks: &[NetworkConfig]) -> Result<NetworkConfig, Error> {
     match networks.first() {
         Some(network) => Ok(network.try_clone(alloc)?),
         None => Err(Error::from(AllocError)),
     }
 }
 
-fn network_of(alloc: Global) -> Result<Network, Error> {
+fn network_of(alloc: Global) -> Result<NetworkConfig, Error> {
     let config = config_of(alloc)?;
     first_of(alloc, &config.networks)
 }
 
-fn session_config(network: Network) -> Config {
-    Config {
+fn session_config(network: NetworkConfig) -> SessionConfig {
+    SessionConfig {
         account: network.account,
         network: network.name,
         nick: network.nick,

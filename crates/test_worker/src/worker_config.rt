@@ -9,7 +9,7 @@ use client_places::RingClient;
 use gossip_delta::read_change;
 use gossip_link::{Life, NodeName, PeerTerms, SharedWord, Terms, Version};
 use std::alloc::Global;
-use upstream_session::{Channels, Config};
+use upstream_session::{Channels, SessionConfig};
 
 const NETWORKS: [(&str, &str); 3] = [("demo", "net"), ("demo", "two"), ("eve", "net")];
 
@@ -61,10 +61,10 @@ pub fn names_at(network: usize) -> (&'static str, &'static str) {
 }
 
 /// The configuration of that network, or of the first where there is none, with that nick.
-pub fn config_at(alloc: Global, network: usize, nick: &str) -> Option<Config> {
+pub fn config_at(alloc: Global, network: usize, nick: &str) -> Option<SessionConfig> {
     let (account, network) = names_at(network);
     let (nick, user) = user_of(alloc, nick)?;
-    Some(Config {
+    Some(SessionConfig {
         account: text(alloc, account)?,
         network: text(alloc, network)?,
         nick,
@@ -73,7 +73,7 @@ pub fn config_at(alloc: Global, network: usize, nick: &str) -> Option<Config> {
     })
 }
 
-fn configs_of(alloc: Global, count: usize) -> Option<Vec<Config>> {
+fn configs_of(alloc: Global, count: usize) -> Option<Vec<SessionConfig>> {
     let mut configs = Vec::new(alloc);
     for network in 0..count.min(NETWORKS.len()) {
         configs.push(config_at(alloc, network, "al")?).ok()?;
@@ -120,7 +120,7 @@ fn terms_of(alloc: Global, peers: &str) -> Option<Terms> {
 }
 
 // The directory, and so many of its networks.
-fn networks_of(alloc: Global, count: usize) -> Option<(Directory, Vec<Config>)> {
+fn networks_of(alloc: Global, count: usize) -> Option<(Directory, Vec<SessionConfig>)> {
     let directory = directory_of(alloc)?;
     Some((directory, configs_of(alloc, count)?))
 }

@@ -14,7 +14,7 @@ use Rattle.chat_change.specs.Message.{Message}
 use Rattle.chat_change.specs.declared.change.Change.{Change}
 use Rattle.chat_change.specs.declared.change.Change.TheVariants as change
 use Rattle.upstream_session.specs.declared.connection.TheConstants.{LAST_SERIAL}
-use Rattle.client_directory.specs.declared.config.Config.{Config}
+use Rattle.client_directory.specs.declared.config.SessionConfig.{SessionConfig}
 use Rattle.upstream_session.specs.declared.connection.Home.{Home}
 use Rattle.upstream_session.specs.declared.connection.Connection.{Connection}
 use Rattle.upstream_session.specs.declared.effect.UpEffect.{UpEffect}
@@ -153,7 +153,7 @@ unheard_effects u (e ∷ events) down never =
     (unheard (IsWelcome e) (id_given e) (tags_given u e) u (step_by u e) down (course_of u e))
     (unheard_effects (after u e) events (stays_down (IsWelcome e) (id_given e) (tags_given u e) u (step_by u e) down never.0 (course_of u e)) never.1)
 
-pub unheard_from_new : (config : Config) (node : List ℕ) (incarnation first_serial : ℕ) (events : List ServerEvent)
+pub unheard_from_new : (config : SessionConfig) (node : List ℕ) (incarnation first_serial : ℕ) (events : List ServerEvent)
     → AllByRecursion (λ e. ¬ IsWelcome e) events → AllByRecursion IsUnheard (all_effects (new config node incarnation first_serial) events)
 unheard_from_new config node incarnation first_serial events never =
     unheard_effects (new config node incarnation first_serial) events (not_up false refl) never

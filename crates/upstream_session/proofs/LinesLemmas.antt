@@ -42,7 +42,7 @@ use Rattle.client_directory.specs.Entry.{Entry, is_same_channel, with_channel, a
 use Rattle.upstream_session.specs.Command.{command_of}
 use Rattle.upstream_session.specs.declared.command.ServerCommand.{ServerCommand}
 use Rattle.upstream_session.specs.declared.command.ServerCommand.TheVariants.{Cap, Welcome, Greeting, NickInUse, Ping, Nick, Join, Part, Kick, Error, Privmsg, Notice, Redact, Tagmsg, Other}
-use Rattle.client_directory.specs.declared.config.Config.{Config}
+use Rattle.client_directory.specs.declared.config.SessionConfig.{SessionConfig}
 use Rattle.upstream_session.specs.declared.connection.TheConstants.{LAST_SERIAL, MOST_TRIES}
 use Rattle.upstream_session.specs.declared.connection.Connection.{Connection}
 use Rattle.upstream_session.specs.declared.effect.UpEffect.{UpEffect}
@@ -515,7 +515,7 @@ run_stands : (u : Connection) (events : List ServerEvent) → Stands u → Stand
 run_stands u [] s = s
 run_stands u (e ∷ events) s = run_stands (after u e) events (stands_after u e s)
 
-module _ (config : Config) (node : List ℕ) (incarnation first_serial : ℕ) (can : ConfigStands config) where
+module _ (config : SessionConfig) (node : List ℕ) (incarnation first_serial : ℕ) (can : ConfigStands config) where
   new_stands : Stands (new config node incarnation first_serial)
   new_stands = record { entry = record { nick = can.nick; channels = refl }; user = can.user; channels = can.channels }
 
@@ -530,16 +530,16 @@ module _ (config : Config) (node : List ℕ) (incarnation first_serial : ℕ) (c
         ),
       )
 
-pub start_from_new : (config : Config) (node : List ℕ) (incarnation first_serial : ℕ) → ConfigStands config
+pub start_from_new : (config : SessionConfig) (node : List ℕ) (incarnation first_serial : ℕ) → ConfigStands config
     → AllByRecursion WritesOneLine (start (new config node incarnation first_serial))
 start_from_new config node incarnation first_serial can = opening_stands config node incarnation first_serial can
 
-pub lines_from_new : (config : Config) (node : List ℕ) (incarnation first_serial : ℕ) (events : List ServerEvent) → ConfigStands config → AllByRecursion EventStands events
+pub lines_from_new : (config : SessionConfig) (node : List ℕ) (incarnation first_serial : ℕ) (events : List ServerEvent) → ConfigStands config → AllByRecursion EventStands events
     → AllByRecursion WritesOneLine (all_effects (new config node incarnation first_serial) events)
 lines_from_new config node incarnation first_serial events can all =
     all_lines (new config node incarnation first_serial) events (new_stands config node incarnation first_serial can) all
 
-pub entry_from_new : (config : Config) (node : List ℕ) (incarnation first_serial : ℕ) (events : List ServerEvent) → ConfigStands config
+pub entry_from_new : (config : SessionConfig) (node : List ℕ) (incarnation first_serial : ℕ) (events : List ServerEvent) → ConfigStands config
     → EntryStands (run (new config node incarnation first_serial) events).entry
 entry_from_new config node incarnation first_serial events can =
     (run_stands (new config node incarnation first_serial) events (new_stands config node incarnation first_serial can)).entry

@@ -6,7 +6,7 @@ use Rattle.byte_text.specs.Bytes.{line_ending}
 use Rattle.irc_line.specs.CanStand.{HasNoBadByte}
 use Rattle.chat_change.specs.Words.{is_target}
 use Rattle.client_directory.specs.Entry.{Entry}
-use Rattle.client_directory.specs.declared.config.Config.{Config}
+use Rattle.client_directory.specs.declared.config.SessionConfig.{SessionConfig}
 use Rattle.upstream_session.specs.declared.effect.UpEffect.{UpEffect}
 use Rattle.upstream_session.specs.declared.effect.UpEffect.TheVariants.{Send, Put, Relay, Close}
 use Rattle.upstream_session.specs.Sayings.{without_ending}
@@ -25,7 +25,7 @@ WritesOneLine (Relay bytes to) = IsOneLine bytes
 WritesOneLine Close = Unit {0}
 
 -- a nick, a user name and channels such as a node's configuration has
-pub record ConfigStands (config : Config) : Type 0 where
+pub record ConfigStands (config : SessionConfig) : Type 0 where
   pub nick : is_target config.nick ≡ true
   pub user : is_target config.user ≡ true
   pub channels : list_all is_target config.channels ≡ true

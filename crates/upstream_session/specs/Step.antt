@@ -1,7 +1,7 @@
 -- What a line comes to, and how a session begins.
 use Rattle.std.specs.Prelude.{ℕ, true, false, List, [], ◌∷◌}
 use Rattle.irc_caps.specs.CapSet.{no_capabilities}
-use Rattle.client_directory.specs.declared.config.Config.{Config}
+use Rattle.client_directory.specs.declared.config.SessionConfig.{SessionConfig}
 use Rattle.upstream_session.specs.declared.connection.Connection.{Connection}
 use Rattle.upstream_session.specs.declared.effect.UpEffect.{UpEffect}
 use Rattle.upstream_session.specs.declared.effect.UpEffect.TheVariants.{Close}
@@ -19,7 +19,7 @@ abbrev pub closes : Connection → ServerStep
 closes u = record { session = record u { is_closed = true }; effects = Close ∷ [] }
 
 -- The network isn't up yet, its present nick is the configured one, and it is in no channel.
-abbrev pub new : Config → List ℕ → ℕ → ℕ → Connection
+abbrev pub new : SessionConfig → List ℕ → ℕ → ℕ → Connection
 new config node incarnation first_serial = record {
   home = record {
     account = config.account;

@@ -13,7 +13,7 @@ ghost use Rattle.upstream_session.specs.Refusal.{refuses, refusal_after, IsShown
 ghost use Rattle.upstream_session.specs.Passing.{is_passed_on, IsRelayAtMost};
 ghost use Rattle.upstream_session.specs.Events.{ServerEvent, Line, after, effects_of, run, all_effects, IsOwnEffect, IsUnheard, IsWelcome, id_given, IsIdOf, HasPost, ids_made, tags_given, HasTags, IsSentAsKept, HasClose, EndsAtClose};
 ghost use Rattle.upstream_session.specs.Standing.{WritesOneLine, ConfigStands, EntryStands, EventStands};
-ghost use Rattle.client_directory.specs.declared.config.Config.{Config};
+ghost use Rattle.client_directory.specs.declared.config.SessionConfig.{SessionConfig};
 ghost use Rattle.upstream_session.specs.declared.connection.Connection.{Connection};
 ghost use Rattle.upstream_session.specs.declared.connection.TheConstants.{LAST_SERIAL};
 
@@ -55,7 +55,7 @@ pub fn kept_tags_are_sent()
 
 /// Until the server has welcomed a new session (001), nothing is put and nothing is passed on.
 pub fn nothing_is_heard_before_the_welcome()
-    ensures { (config : Config) (node : List ℕ) (incarnation first_serial : ℕ)
+    ensures { (config : SessionConfig) (node : List ℕ) (incarnation first_serial : ℕ)
         (events : List ServerEvent) → AllByRecursion (λ e. ¬ IsWelcome e) events
         → AllByRecursion IsUnheard (all_effects (new config node incarnation first_serial) events) }
 {}
@@ -80,10 +80,10 @@ pub fn nothing_follows_close()
 /// has, and what clients say through it is single lines. How long a line is isn't said: a server cuts what is longer than
 /// 512 bytes, as a PONG or a REDACT may be by one.
 pub fn each_text_is_one_line()
-    ensures start { (config : Config) (node : List ℕ) (incarnation first_serial : ℕ)
+    ensures start { (config : SessionConfig) (node : List ℕ) (incarnation first_serial : ℕ)
         → ConfigStands config
         → AllByRecursion WritesOneLine (start (new config node incarnation first_serial)) }
-    ensures later { (config : Config) (node : List ℕ) (incarnation first_serial : ℕ)
+    ensures later { (config : SessionConfig) (node : List ℕ) (incarnation first_serial : ℕ)
         (events : List ServerEvent) → ConfigStands config → AllByRecursion EventStands events
         → AllByRecursion WritesOneLine
         (all_effects (new config node incarnation first_serial) events) }
@@ -92,7 +92,7 @@ pub fn each_text_is_one_line()
 /// In each state of a session its present nick and its channels are such as may stand in a line, whatever its server and
 /// the clients say.
 pub fn entries_stand()
-    ensures { (config : Config) (node : List ℕ) (incarnation first_serial : ℕ)
+    ensures { (config : SessionConfig) (node : List ℕ) (incarnation first_serial : ℕ)
         (events : List ServerEvent) → ConfigStands config
         → EntryStands (run (new config node incarnation first_serial) events).entry }
 {}

@@ -15,7 +15,7 @@ use crate::sayings::without_ending;
 use crate::scratch::Scratch;
 use byte_text::{NoMemory, Text};
 use chat_change::Moment;
-use client_directory::{Config, Entry};
+use client_directory::{Entry, SessionConfig};
 use irc_caps::CapSet;
 use irc_line::{Line, TagLimit, read_line};
 use irc_reply::to_server::{ls_line, nick_line, user_line};
@@ -53,7 +53,7 @@ impl Upstream {
     /// its incarnation and a serial number, of which this is the first. It takes no memory.
     pub fn new(
         alloc: Global,
-        config: Config,
+        config: SessionConfig,
         node: Text,
         incarnation: u64,
         first_serial: u64,

@@ -4,7 +4,7 @@ use Rattle.irc_line.specs.Stream.{Item}
 use Rattle.irc_line.specs.Stream.{line as whole_line}
 use Rattle.bnc_ports.specs.declared.event.Reason.{Reason}
 use Rattle.upstream_session.specs.Session.{start}
-use Rattle.client_directory.specs.declared.config.Config.{Config}
+use Rattle.client_directory.specs.declared.config.SessionConfig.{SessionConfig}
 use Rattle.upstream_session.specs.declared.effect.UpEffect.{UpEffect}
 use Rattle.passed_lines.specs.OwnSession.{OwnSession, begun}
 use Rattle.work_lines.specs.Incoming.{Unread, AreGiven}
@@ -13,7 +13,7 @@ use Rattle.work_servers.specs.Sending.{sends_of, IsSent}
 
 -- a new session of a configuration, and what it begins with
 pub record Begins (session : OwnSession) (effects : List UpEffect) : Type 0 where
-  pub config : Config
+  pub config : SessionConfig
   pub node : List ℕ
   pub incarnation : ℕ
   pub first_serial : ℕ

@@ -7,7 +7,7 @@ use Rattle.upstream_session.specs.Events.{ServerEvent, Line, Saying, run, all_ef
 use Rattle.upstream_session.specs.Passing.{is_passed_on}
 use Rattle.upstream_session.specs.Session.{start, opening, step, say}
 use Rattle.upstream_session.specs.Step.{new}
-use Rattle.client_directory.specs.declared.config.Config.{Config}
+use Rattle.client_directory.specs.declared.config.SessionConfig.{SessionConfig}
 use Rattle.upstream_session.specs.declared.connection.Connection.{Connection}
 use Rattle.upstream_session.specs.declared.effect.UpEffect.{UpEffect}
 use Rattle.upstream_session.specs.declared.effect.UpEffect.TheVariants.{Send}
@@ -47,7 +47,7 @@ pub data AreHeard : List Item → List ServerEvent → Type 0 where
 -- in order.
 pub record IsSent (account network : List ℕ) (came : List Item) (session : Connection)
     (bytes : List ℕ) : Type 0 where
-  pub config : Config
+  pub config : SessionConfig
   pub node : List ℕ
   pub incarnation : ℕ
   pub first_serial : ℕ

@@ -5,7 +5,7 @@ ghost use Rattle.worker_io.specs.Networks as spec;
 use bnc_ports::Clocks;
 use byte_text::{NoMemory, Text};
 use chat_change::Moment;
-use client_directory::{Channels, Config, Directory, Entry};
+use client_directory::{Channels, Directory, Entry, SessionConfig};
 use node_terms::Terms;
 use std::alloc::Global;
 use std::sync::Arc;
@@ -28,7 +28,7 @@ pub struct NodeView {
     /// The accounts with their networks, and how the sessions with these networks' servers stand.
     pub directory: Directory,
     /// The networks of all accounts.
-    pub networks: Vec<Config>,
+    pub networks: Vec<SessionConfig>,
     /// The shared word, the node's own life, and the terms with each peer. They never change, and connections share them.
     pub terms: Arc<Terms>,
     /// For how many days messages are kept; 0 is for ever.
@@ -65,7 +65,7 @@ impl NodeView {
     }
 
     /// The configuration of the network at that place, where there is one.
-    pub fn network_at(&self, network: Option<usize>) -> Option<&Config> {
+    pub fn network_at(&self, network: Option<usize>) -> Option<&SessionConfig> {
         self.networks.get(network?)
     }
 
@@ -89,14 +89,14 @@ impl NodeView {
     }
 
     /// A copy of the network's configuration.
-    pub fn config(&self, network: usize) -> Option<Config> {
+    pub fn config(&self, network: usize) -> Option<SessionConfig> {
         let config = self.networks.get(network)?;
         copy_of(self.alloc, config).ok()
     }
 }
 
 // Whether these are the names of the configuration's account and network.
-fn is_of(config: &Config, account: &[u8], network: &[u8]) -> bool
+fn is_of(config: &SessionConfig, account: &[u8], network: &[u8]) -> bool
     ensures { result ≡ spec.is_of config.now account.now network.now }
 {
     config.account.as_bytes() == account && config.network.as_bytes() == network
@@ -113,13 +113,13 @@ fn copies_of(alloc: Global, texts: &[Text]) -> Result<Vec<Text>, NoMemory> {
     Ok(copies)
 }
 
-fn copy_of(alloc: Global, config: &Config) -> Result<Config, NoMemory> {
+fn copy_of(alloc: Global, config: &SessionConfig) -> Result<SessionConfig, NoMemory> {
     let account = config.account.try_clone(alloc)?;
     let network = config.network.try_clone(alloc)?;
     let nick = config.nick.try_clone(alloc)?;
     let user = config.user.try_clone(alloc)?;
     let channels = copies_of(alloc, config.channels.names())?;
-    Ok(Config {
+    Ok(SessionConfig {
         account,
         network,
         nick,

@@ -1,7 +1,7 @@
 //! What a worker begins with, and how its work ends.
 use bnc_ports::Lobby;
 use byte_text::Text;
-use client_directory::{Config, Directory};
+use client_directory::{Directory, SessionConfig};
 use client_places::Boxed;
 use node_terms::{NodeName, Terms};
 
@@ -28,7 +28,7 @@ pub struct WorkerConfig<X = Boxed> {
     /// The accounts, with their networks, none of which is up.
     pub directory: Directory,
     /// The networks of all accounts. Worker i of n serves those whose place in this list, modulo n, is i.
-    pub networks: Vec<Config>,
+    pub networks: Vec<SessionConfig>,
     /// The shared word, the node's own life, and the terms with each peer.
     pub terms: Terms,
     /// The names of the peers, in the same order.

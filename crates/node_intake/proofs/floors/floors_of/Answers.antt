@@ -5,7 +5,7 @@ use Rattle.std.proofs.lemmas.List.Elements.{filter_map-append}
 use Rattle.std.specs.List.{filter_map, cons_option}
 use Rattle.std.specs.Option.{option_to_list}
 use Rattle.chat_change.specs.declared.change.Change.{Change}
-use Rattle.node_config.specs.declared.entries.Account.{Account}
+use Rattle.node_config.specs.declared.entries.AccountConfig.{AccountConfig}
 use Rattle.node_intake.specs.WorkerConfigs.{floor_of}
 use Rattle.node_intake.proofs.floors.floors_of.Goals as goal
 
@@ -14,7 +14,7 @@ lone None = refl
 lone (Some c) = refl
 
 -- the floors of one account more
-more : (all : List Account) (i : ℕ) (a : Account) → i < length all → a ≡ get_or all i a → filter_map floor_of (take i all) ++ option_to_list (floor_of a) ≡ filter_map floor_of (take (i + 1) all)
+more : (all : List AccountConfig) (i : ℕ) (a : AccountConfig) → i < length all → a ≡ get_or all i a → filter_map floor_of (take i all) ++ option_to_list (floor_of a) ≡ filter_map floor_of (take (i + 1) all)
 more all i a l is =
     let next : suc i ≡ i + 1 = omega arith in
     let longer : take (i + 1) all ≡ take i all ++ a ∷ [] = ap (λ n. take n all) (sym next) ∙ take-suc all i a l ∙ ap (λ x. take i all ++ x ∷ []) (sym is) in
