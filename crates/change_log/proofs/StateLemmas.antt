@@ -10,7 +10,7 @@ use Rattle.chat_history.specs.Numbering.{changes_that_count, counts_after, front
 use Rattle.chat_history.specs.Same.{same_history}
 use Rattle.chat_history.specs.StateValue.{StateValue, state_after, HasTaken}
 use Rattle.chat_history.proofs.CallerLemmas.{front_grows, same_history_decides}
-use Rattle.change_log.specs.declared.entry.Entry.{Entry}
+use Rattle.change_log.specs.declared.entry.LogEntry.{LogEntry}
 use Rattle.change_log.specs.Lists.{changes_in, state_of}
 use Rattle.change_log.proofs.CallerLemmas.{changes_in-append}
 
@@ -53,7 +53,7 @@ same_front start changes more le =
 -- ---- published lists
 
 -- a list that lies between two whose states have one front has their state
-pub state_between : (list after other : List Entry) → IsPrefix list after → IsPrefix after other → (state_of list).front ≡ (state_of other).front → state_of after ≡ state_of list
+pub state_between : (list after other : List LogEntry) → IsPrefix list after → IsPrefix after other → (state_of list).front ≡ (state_of other).front → state_of after ≡ state_of list
 state_between list after other p q fronts =
     let near : changes_in list ++ changes_in p.0 ≡ changes_in after = sym (changes_in-append list p.0) ∙ ap changes_in p.1 in
     let far : changes_in after ++ changes_in q.0 ≡ changes_in other = sym (changes_in-append after q.0) ∙ ap changes_in q.1 in
@@ -61,7 +61,7 @@ state_between list after other p q fronts =
     ap (state_after 0) (sym near) ∙ same_front 0 (changes_in list) (changes_in p.0) (omega (arith, ap (front 0) near, ap (front 0) far, grows, fronts))
 
 -- the state of a list takes one entry more
-pub state_taken : (list after : List Entry) (e : Entry) (old new : StateValue) (c : Change) → after ≡ list ++ e ∷ [] → old ≡ state_of list → c ≡ e.change → HasTaken old (c ∷ []) new → new ≡ state_of after
+pub state_taken : (list after : List LogEntry) (e : LogEntry) (old new : StateValue) (c : Change) → after ≡ list ++ e ∷ [] → old ≡ state_of list → c ≡ e.change → HasTaken old (c ∷ []) new → new ≡ state_of after
 state_taken list after e old new c longer made same held =
     held 0 (changes_in list) made
     ∙ ap (λ d. state_after 0 (changes_in list ++ d ∷ [])) same

@@ -3,7 +3,7 @@ ghost use Rattle.std.specs.Prelude.{◌≡◌, []};
 ghost use Rattle.change_log.specs.Rules.{head_of};
 ghost use Rattle.change_log.specs.Names.{IsNamed};
 
-use crate::entry::Entry;
+use crate::entry::LogEntry;
 use crate::prefix::Prefix;
 use crate::unnamed::Unnamed;
 use logbook::{Gain, Plain, Play, Rule, Word};
@@ -13,7 +13,7 @@ use std::sync::ledger::{Book, Ledger, Share};
 /// The rule of the history.
 pub(crate) struct Law;
 
-impl Rule<Entry, u64> for Law {
+impl Rule<LogEntry, u64> for Law {
     ghost use Rattle.std.specs.Prelude.{[]};
     ghost use base.Fml.{ftrue};
     ghost use Rattle.change_log.specs.Rules.{IsKept};
@@ -34,7 +34,7 @@ impl Rule<Entry, u64> for Law {
 /// Callers trade nothing.
 pub(crate) struct Nothing;
 
-impl Gain<Entry, u64> for Nothing {
+impl Gain<LogEntry, u64> for Nothing {
     ghost use base.Fml.{ftrue};
 
     ghost after = { λ names about answer. ftrue };
@@ -43,13 +43,13 @@ impl Gain<Entry, u64> for Nothing {
 /// A step that adds an entry.
 pub(crate) struct Add;
 
-impl Play<Entry, u64> for Add {
+impl Play<LogEntry, u64> for Add {
     ghost use Rattle.change_log.specs.Rules.{Adds};
 
     ghost then = { Adds };
 }
 
-impl Plain<Entry, Entry, u64> for Add {
+impl Plain<LogEntry, LogEntry, u64> for Add {
     ghost use Rattle.std.specs.Prelude.{None};
 
     ghost ask = { λ entry. entry };
@@ -71,7 +71,7 @@ impl Naming for Brand {
 /// The word that holds the length of the history.
 #[derive(Drop)]
 pub struct History<J: Naming> {
-    pub(crate) head: Word<Entry, u64, Law>,
+    pub(crate) head: Word<LogEntry, u64, Law>,
     of: PhantomData<J>,
     ghost head_is: { head ≡ head_of J.book },
 }

@@ -15,7 +15,7 @@ mod unnamed;
 mod version;
 
 pub use entrance::{Entrance, Visit};
-pub use entry::Entry;
+pub use entry::LogEntry;
 pub use history::{History, Naming};
 pub use log_writer::LogWriter;
 pub use prefix::Prefix;

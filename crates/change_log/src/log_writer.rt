@@ -5,7 +5,7 @@ ghost use Rattle.change_log.specs.Versions.{held, latest};
 ghost use Rattle.change_log.specs.Log.{all_put, log_value, total};
 
 use crate::entrance::Entrance;
-use crate::entry::Entry;
+use crate::entry::LogEntry;
 use crate::history::{History, Naming};
 use crate::prefix::Prefix;
 use crate::version::{Operation, Version};
@@ -166,7 +166,7 @@ impl<J: Naming> LogWriter<J> {
             return Err(AllocError);
         }
         let change = change.try_clone()?;
-        let entry = Entry { by, change };
+        let entry = LogEntry { by, change };
         if !self.list.add(&self.history, &entry) {
             return Err(AllocError);
         }

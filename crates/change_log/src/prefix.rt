@@ -2,7 +2,7 @@
 ghost use Rattle.std.specs.Prelude.{◌≡◌, ◌+◌, ◌<◌, ◌^◌, ◌++◌, ◌∷◌, ◌⊎◌, [], length, MatchBool};
 ghost use mathlib.Core.List.{IsPrefix};
 
-use crate::entry::Entry;
+use crate::entry::LogEntry;
 use crate::history::{Add, History, Law, Naming, Nothing};
 use logbook::{Offer, Seen};
 use std::marker::{Model, PhantomData};
@@ -11,15 +11,15 @@ use std::marker::{Model, PhantomData};
 #[derive(Drop)]
 pub struct Prefix<J: Naming> {
     count: u64,
-    seen: Seen<Entry, u64, Law>,
+    seen: Seen<LogEntry, u64, Law>,
     of: PhantomData<J>,
 }
 
 impl<J: Naming> Model for Prefix<J> {
     ghost use Rattle.std.specs.Prelude.{◌≡◌, List, length};
-    ghost use Rattle.change_log.specs.declared.entry.Entry.{Entry};
+    ghost use Rattle.change_log.specs.declared.entry.LogEntry.{LogEntry};
 
-    ghost Value = { List Entry };
+    ghost Value = { List LogEntry };
 
     ghost view = { λ p. p.seen.log };
 
@@ -27,7 +27,7 @@ impl<J: Naming> Model for Prefix<J> {
 }
 
 impl<J: Naming> Prefix<J> {
-    pub(crate) fn empty(seen: Seen<Entry, u64, Law>) -> Prefix<J>
+    pub(crate) fn empty(seen: Seen<LogEntry, u64, Law>) -> Prefix<J>
         requires { (seen.log ≡ []) × (seen.book ≡ J.book) }
         ensures { result ≡ [] }
     {
@@ -83,12 +83,14 @@ impl<J: Naming> Prefix<J> {
     }
 
     /// Adds an entry to the history, and says whether it did. It doesn't where the history is longer than this prefix.
-    pub(crate) fn add(&mut self, history: &History<J>, entry: &Entry) -> bool
+    pub(crate) fn add(&mut self, history: &History<J>, entry: &LogEntry) -> bool
         requires { length self.old + 1 < 2 ^ 64 }
         ensures { MatchBool result (self.new ≡ self.old ++ entry.now ∷ []) (self.new ≡ self.old) }
     {
         let mut seen = self.seen.again();
-        let mut offer: Offer<Entry, u64, Law, Nothing> = seen.plain::<Nothing, Entry, Add>(entry);
+        let mut offer: Offer<LogEntry, u64, Law, Nothing> = seen.plain::<Nothing, LogEntry, Add>(
+            entry,
+        );
         let mut pen = seen.no_pen();
         let count = self.count;
         let found = history

@@ -2,7 +2,7 @@
 ghost use Rattle.std.specs.Prelude.{◌≡◌, []};
 ghost use Rattle.change_log.specs.Rules.{head_of};
 
-use crate::entry::Entry;
+use crate::entry::LogEntry;
 use crate::history::Law;
 use logbook::{Seen, Start, Word};
 use std::sync::ledger::Blank;
@@ -11,8 +11,8 @@ use std::sync::ledger::Blank;
 /// have passes.
 #[derive(Drop)]
 pub struct Unnamed {
-    pub(crate) head: Word<Entry, u64, Law>,
-    pub(crate) seen: Seen<Entry, u64, Law>,
+    pub(crate) head: Word<LogEntry, u64, Law>,
+    pub(crate) seen: Seen<LogEntry, u64, Law>,
     pub(crate) blank: Blank,
     pub(crate) passes: usize,
     pub ghost empty: { seen.log ≡ [] },

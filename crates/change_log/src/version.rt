@@ -3,7 +3,7 @@ ghost use Rattle.std.specs.Prelude.{◌≡◌, ◌∷◌, []};
 ghost use mathlib.Core.List.{IsSuffix};
 ghost use Rattle.change_log.specs.Lists.{state_of};
 
-use crate::entry::Entry;
+use crate::entry::LogEntry;
 use crate::history::Naming;
 use crate::prefix::Prefix;
 use chat_change::{Buffer, ChangeRef, Extent, MsgId, Record};
@@ -21,10 +21,10 @@ pub(crate) struct Version<J: Naming> {
 
 impl<J: Naming> Model for Version<J> {
     ghost use Rattle.std.specs.Prelude.{◌≡◌, List};
-    ghost use Rattle.change_log.specs.declared.entry.Entry.{Entry};
+    ghost use Rattle.change_log.specs.declared.entry.LogEntry.{LogEntry};
     ghost use Rattle.change_log.specs.Lists.{state_of};
 
-    ghost Value = { List Entry };
+    ghost Value = { List LogEntry };
 
     ghost view = { λ v. v.list };
 
@@ -59,16 +59,16 @@ impl<J: Naming> Version<J> {
 /// An entry to be published, and the list that has it last. Contracts see it as the list.
 #[derive(Drop)]
 pub(crate) struct Operation<J: Naming> {
-    entry: Entry,
+    entry: LogEntry,
     after: Prefix<J>,
 }
 
 impl<J: Naming> Model for Operation<J> {
     ghost use Rattle.std.specs.Prelude.{List, ◌∷◌, []};
     ghost use mathlib.Core.List.{IsSuffix};
-    ghost use Rattle.change_log.specs.declared.entry.Entry.{Entry};
+    ghost use Rattle.change_log.specs.declared.entry.LogEntry.{LogEntry};
 
-    ghost Value = { List Entry };
+    ghost Value = { List LogEntry };
 
     ghost view = { λ o. o.after };
 
@@ -76,7 +76,7 @@ impl<J: Naming> Model for Operation<J> {
 }
 
 impl<J: Naming> Operation<J> {
-    pub(crate) fn new(entry: Entry, after: Prefix<J>) -> Operation<J>
+    pub(crate) fn new(entry: LogEntry, after: Prefix<J>) -> Operation<J>
         requires { IsSuffix (entry ∷ []) after }
         ensures { result ≡ after }
     {

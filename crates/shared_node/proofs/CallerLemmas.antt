@@ -6,7 +6,7 @@ use mathlib.Core.List.{IsPrefix}
 use Rattle.chat_change.specs.Buffer.{Buffer}
 use Rattle.chat_change.specs.declared.change.Change.{Change}
 use Rattle.chat_history.specs.History.{mark}
-use Rattle.change_log.specs.declared.entry.Entry.{Entry}
+use Rattle.change_log.specs.declared.entry.LogEntry.{LogEntry}
 use Rattle.change_log.specs.Lists.{changes_in, under}
 use Rattle.shared_node.specs.Passes.{PassValue, Reads}
 use Rattle.change_log.proofs.CallerLemmas.{changes_in-append}
@@ -20,12 +20,12 @@ changes_in-under by [] = refl
 changes_in-under by (c ∷ cs) = ap (λ l. c ∷ l) (changes_in-under by cs)
 
 -- the changes of a longer list are those of its prefix and others
-pub seen_further : (old new : List Entry) → IsPrefix old new → (list : List Change) → list ≡ changes_in old → (others : List Change) × (list ++ others ≡ changes_in new)
+pub seen_further : (old new : List LogEntry) → IsPrefix old new → (list : List Change) → list ≡ changes_in old → (others : List Change) × (list ++ others ≡ changes_in new)
 seen_further old new p list is = (changes_in p.0, ap (λ l. l ++ changes_in p.0) is ∙ sym (changes_in-append old p.0) ∙ ap changes_in p.1)
 
 module _ (old new : PassValue) where
   -- a put that was published
-  pub taken_all : (by : ℕ) (changes : List Change) (before : List Entry) → IsPrefix old.list before → new.list ≡ before ++ under by changes
+  pub taken_all : (by : ℕ) (changes : List Change) (before : List LogEntry) → IsPrefix old.list before → new.list ≡ before ++ under by changes
       → (start : ℕ) (list : List Change) → HasSeen old start list
       → (others : List Change) × Unit {0} × HasSeen new start ((list ++ others) ++ changes)
   taken_all by changes before p is start list held =

@@ -1,17 +1,17 @@
 -- Passes: what they have put, seen and been told of.
 use Rattle.std.specs.Prelude.{◌≡◌, ◌⊎◌, ◌<◌, ℕ, zero, suc, List, [], ◌∷◌, ◌++◌}
 use mathlib.Core.List.{IsPrefix}
-use Rattle.change_log.specs.declared.entry.Entry.{Entry}
+use Rattle.change_log.specs.declared.entry.LogEntry.{LogEntry}
 
 -- a pass: its number, how many changes it put, the list that it has seen, and the longest list that
 -- it was told of
 pub record PassValue : Type 0 where
   pub number : ℕ
   pub count : ℕ
-  pub list : List Entry
-  pub told : List Entry
+  pub list : List LogEntry
+  pub told : List LogEntry
 
-abbrev pub pass_value : ℕ → ℕ → List Entry → List Entry → PassValue
+abbrev pub pass_value : ℕ → ℕ → List LogEntry → List LogEntry → PassValue
 pass_value number count list told =
     record { number = number; count = count; list = list; told = told }
 
@@ -20,7 +20,7 @@ abbrev pub IsSamePut : PassValue → PassValue → Type 0
 IsSamePut old new = (new.number ≡ old.number) × (new.count ≡ old.count)
 
 -- a list follows all that a pass has seen or was told of
-abbrev pub FollowsAll : PassValue → List Entry → Type 0
+abbrev pub FollowsAll : PassValue → List LogEntry → Type 0
 FollowsAll pass list = IsPrefix pass.list list × IsPrefix pass.told list
 
 -- a read: the pass has seen a list that follows all that it had seen or was told of, and nothing

@@ -20,7 +20,7 @@ mod pass;
 mod reads;
 mod seats;
 
-pub use change_log::{Entry, Naming, Unnamed};
+pub use change_log::{LogEntry, Naming, Unnamed};
 pub use chat_batch::AskFault;
 pub use faults::{NodeFault, PutFault};
 pub use node::{MOST_PASSES, SharedNode};

@@ -41,9 +41,9 @@ pub struct Receipt<J: Naming> {
 
 impl<J: Naming> Model for Receipt<J> {
     ghost use Rattle.std.specs.Prelude.{List};
-    ghost use Rattle.change_log.specs.declared.entry.Entry.{Entry};
+    ghost use Rattle.change_log.specs.declared.entry.LogEntry.{LogEntry};
 
-    ghost Value = { List Entry };
+    ghost Value = { List LogEntry };
 
     ghost view = { λ r. r.list };
 }

@@ -2,14 +2,14 @@ use Rattle.std.proofs.Common.{List, sym, ◌∙◌, ap, subst, arith, length-app
 use Rattle.std.specs.Prelude.{Contains}
 use Rattle.std.proofs.Math.ListN.{get_or-append}
 use Rattle.chat_history.specs.History.{mark, IsAtMost}
-use Rattle.change_log.specs.declared.entry.Entry.{Entry}
+use Rattle.change_log.specs.declared.entry.LogEntry.{LogEntry}
 use Rattle.change_log.specs.Lists.{changes_in}
 use Rattle.change_log.proofs.CallerLemmas.{changes_in-append}
 use Rattle.shared_node.proofs.laws.later_lists_keep_what_was_put.Goals as goal
 
 pub returns-clause-entries : goal.returns-clause-entries
 returns-clause-entries c old new e later held =
-    subst (λ (l : List Entry). Contains l e) later.1 (held.0, omega (arith, held.1, length-append old later.0), get_or-append old later.0 e held.0 held.1 ∙ held.2)
+    subst (λ (l : List LogEntry). Contains l e) later.1 (held.0, omega (arith, held.1, length-append old later.0), get_or-append old later.0 e held.0 held.1 ∙ held.2)
 
 pub returns-clause-markers : goal.returns-clause-markers
 returns-clause-markers c old new b later =

@@ -1,11 +1,11 @@
 use Rattle.std.proofs.Common.{List, ◌++◌, length, drop, ap, sym, ◌∙◌}
-use Rattle.change_log.specs.declared.entry.Entry.{Entry}
+use Rattle.change_log.specs.declared.entry.LogEntry.{LogEntry}
 use Rattle.change_log.specs.Log.{log_value}
 use Rattle.change_log.proofs.log_writer.LogWriter.over.Goals as goal
 
 pub invariant_of-result : goal.invariant_of-result
 invariant_of-result g c = (
-  (c.args.list, ap (λ (l : List Entry). l ++ c.args.list) c.requires.writer.0),
+  (c.args.list, ap (λ (l : List LogEntry). l ++ c.args.list) c.requires.writer.0),
   rw c.requires.writer.1 (c.requires.list ∙ sym c.requires.writer.0),
 )
 

@@ -1,6 +1,6 @@
 use Rattle.std.proofs.Common.{◌≡◌, List, [], ◌++◌, length, drop, ap, sym, ◌∙◌}
 use Rattle.std.proofs.lemmas.List.{append-nil}
-use Rattle.change_log.specs.declared.entry.Entry.{Entry}
+use Rattle.change_log.specs.declared.entry.LogEntry.{LogEntry}
 use Rattle.change_log.specs.Log.{all_put, log_value}
 use Rattle.change_log.specs.Versions.{held, latest}
 use Rattle.change_log.proofs.PrefixLemmas.{prefix_rest, rest_none}
@@ -9,11 +9,11 @@ use Rattle.change_log.proofs.log_writer.LogWriter.publish.Goals as goal
 
 pub invariant_of-self-2 : goal.invariant_of-self-2
 invariant_of-self-2 g c =
-    let list : List Entry = c.self.inside.list in
-    let shown : List Entry = c.self.inside.writer.desk.shown.value in
-    let next : List Entry = c.replace_with-published.new.dest.desk.shown.value in
-    let waits : List (List Entry) = drop c.self.inside.writer.behind c.self.inside.writer.log.items ++ held c.self.inside.stuck in
-    let pending : List (List Entry) = drop c.unstick.new.writer.behind c.unstick.new.writer.log.items in
+    let list : List LogEntry = c.self.inside.list in
+    let shown : List LogEntry = c.self.inside.writer.desk.shown.value in
+    let next : List LogEntry = c.replace_with-published.new.dest.desk.shown.value in
+    let waits : List (List LogEntry) = drop c.self.inside.writer.behind c.self.inside.writer.log.items ++ held c.self.inside.stuck in
+    let pending : List (List LogEntry) = drop c.unstick.new.writer.behind c.unstick.new.writer.log.items in
     let all = all_pending pending waits c.unstick.new.stuck c.if-not-unstick.ensures.moved c.unstick.ensures.waiting in
     let is : next ≡ list =
     c.in-Ok.ensures.0 ∙ ap (λ d. latest d.shown.value pending) c.unstick.ensures.published ∙ ap (latest shown) all ∙ sym c.self.invariant.1 in
@@ -21,14 +21,14 @@ invariant_of-self-2 g c =
 
 pub returns : goal.returns
 returns g c =
-    let list : List Entry = c.self.inside.list in
-    let shown : List Entry = c.self.inside.writer.desk.shown.value in
-    let next : List Entry = c.replace_with-published.new.dest.desk.shown.value in
-    let waits : List (List Entry) = drop c.self.inside.writer.behind c.self.inside.writer.log.items ++ held c.self.inside.stuck in
-    let pending : List (List Entry) = drop c.unstick.new.writer.behind c.unstick.new.writer.log.items in
+    let list : List LogEntry = c.self.inside.list in
+    let shown : List LogEntry = c.self.inside.writer.desk.shown.value in
+    let next : List LogEntry = c.replace_with-published.new.dest.desk.shown.value in
+    let waits : List (List LogEntry) = drop c.self.inside.writer.behind c.self.inside.writer.log.items ++ held c.self.inside.stuck in
+    let pending : List (List LogEntry) = drop c.unstick.new.writer.behind c.unstick.new.writer.log.items in
     let all = all_pending pending waits c.unstick.new.stuck c.if-not-unstick.ensures.moved c.unstick.ensures.waiting in
     let is : next ≡ list =
     c.in-Ok.ensures.0 ∙ ap (λ d. latest d.shown.value pending) c.unstick.ensures.published ∙ ap (latest shown) all ∙ sym c.self.invariant.1 in
     let shows : next ≡ all_put c.args.self.now = is ∙ sym (prefix_rest shown list c.self.invariant.0) ∙ ap all_put c.self.view_is in
-    let rest : drop (length next) list ≡ [] = ap (λ (l : List Entry). drop (length l) list) is ∙ rest_none list in
+    let rest : drop (length next) list ≡ [] = ap (λ (l : List LogEntry). drop (length l) list) is ∙ rest_none list in
     λ i. log_value (shows i) (rest i)

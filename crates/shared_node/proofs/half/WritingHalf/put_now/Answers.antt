@@ -1,13 +1,13 @@
 use Rattle.std.proofs.Common.{append_assoc, ◌≡◌, ℕ, ◌+◌, ◌-◌, ◌<◌, ◌≤◌, List, [], ◌++◌, length, take, refl, sym, ap, ◌∙◌, arith}
 use Rattle.std.proofs.lemmas.List.{take_all, length-append, length-map, length-take-le}
 use Rattle.chat_change.specs.declared.change.Change.{Change}
-use Rattle.change_log.specs.declared.entry.Entry.{Entry}
+use Rattle.change_log.specs.declared.entry.LogEntry.{LogEntry}
 use Rattle.change_log.specs.Lists.{entry, under}
 use Rattle.change_log.specs.Log.{LogValue, all_put, log_value, total}
 use Rattle.shared_node.proofs.half.WritingHalf.put_now.Goals as goal
 
 -- whether there is a number for each of n changes more
-module _ (log old : LogValue) (list : List Entry) (len n : ℕ) (view : log ≡ old) (counted : len ≡ length list) (is : list ≡ all_put log) (fits : len < 18446744073709551616) where
+module _ (log old : LogValue) (list : List LogEntry) (len n : ℕ) (view : log ≡ old) (counted : len ≡ length list) (is : list ≡ all_put log) (fits : len < 18446744073709551616) where
   len_is : len ≡ total old
   len_is = counted ∙ ap length is ∙ length-append log.published log.waiting ∙ ap total view
 

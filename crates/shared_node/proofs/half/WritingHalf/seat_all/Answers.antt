@@ -1,9 +1,9 @@
 use Rattle.std.proofs.Common.{◌≡◌, ◌+◌, ℕ, List, [], ◌∷◌, ◌++◌, add-one, sym, ap, ◌∙◌, arith}
-use Rattle.change_log.specs.declared.entry.Entry.{Entry}
+use Rattle.change_log.specs.declared.entry.LogEntry.{LogEntry}
 use Rattle.shared_node.specs.Passes.{PassValue, pass_value, newcomers}
 use Rattle.shared_node.proofs.half.WritingHalf.seat_all.Goals as goal
 
-one_more : (pushed seated : List PassValue) (n : ℕ) (pass : PassValue) (list : List Entry) → seated ≡ newcomers n → pass ≡ pass_value n 0 list list → list ≡ []
+one_more : (pushed seated : List PassValue) (n : ℕ) (pass : PassValue) (list : List LogEntry) → seated ≡ newcomers n → pass ≡ pass_value n 0 list list → list ≡ []
     → pushed ≡ seated ++ pass ∷ [] → pushed ≡ newcomers (n + 1)
 one_more pushed seated n pass list all is none last =
     last ∙ (λ i. all i ++ (is ∙ ap (λ l. pass_value n 0 l l) none) i ∷ []) ∙ ap newcomers (sym (add-one n))

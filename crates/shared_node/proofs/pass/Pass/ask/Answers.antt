@@ -1,14 +1,14 @@
 use Rattle.std.proofs.Common.{◌≡◌, List, Result, Ok, Err, ap, subst}
 use mathlib.Core.List.{IsPrefix}
 use Rattle.chat_query.specs.declared.facts.Answered.{Answered}
-use Rattle.change_log.specs.declared.entry.Entry.{Entry}
+use Rattle.change_log.specs.declared.entry.LogEntry.{LogEntry}
 use Rattle.chat_past.specs.declared.past.AskFault.{AskFault}
 use Rattle.chat_past.specs.declared.past.AskFault.TheVariants.{NoEntry, NoMemory, Write}
 use Rattle.shared_node.specs.Passes.{PassValue, FollowsAll, IsSamePut}
 use Rattle.shared_node.proofs.pass.Pass.ask.Goals.{in-Ok, in-Err-NoMemory, in-Err-Write}
 use Rattle.shared_node.proofs.pass.Pass.ask.Goals as goal
 
-has_read : (at old : PassValue) (seen : List Entry) → at ≡ old → IsPrefix at.list seen → IsPrefix at.told seen → FollowsAll old seen × (at.told ≡ old.told) × IsSamePut old at
+has_read : (at old : PassValue) (seen : List LogEntry) → at ≡ old → IsPrefix at.list seen → IsPrefix at.told seen → FollowsAll old seen × (at.told ≡ old.told) × IsSamePut old at
 has_read at old seen is list told = (
   (subst (λ (p : PassValue). IsPrefix p.list seen) is list, subst (λ (p : PassValue). IsPrefix p.told seen) is told),
   ap (λ p. p.told) is,
