@@ -20,7 +20,7 @@ use Rattle.node_terms.specs.declared.version.Version.{Version}
 use Rattle.node_terms.specs.Names.{same_name}
 use Rattle.gossip_link.specs.declared.link.Heard.{Heard}
 use Rattle.gossip_link.specs.Peer.{Peer, is_news, hello_is_news, after_hello, packet_of, after_packet, packet_is_mine, ack_of, is_known, ack_is_mine, ack_is_too_high, after_ack}
-use Rattle.gossip_link.specs.Cluster.{Node, Made, World, Event, Make, Take, Ask, Greet, Hello_comes, Send, Packet_comes, Part_comes, Ack_comes, Restart, with_value, life, with_node, with_peer, with_used, with_taken, new_node, take_made, hear, with_packet, send, packet_comes, part_comes, ack_comes, happens, run, start, IsFresh, LivesDiffer}
+use Rattle.gossip_link.specs.Cluster.{Node, Made, World, ClusterEvent, Make, Take, Ask, Greet, Hello_comes, Send, Packet_comes, Part_comes, Ack_comes, Restart, with_value, life, with_node, with_peer, with_used, with_taken, new_node, take_made, hear, with_packet, send, packet_comes, part_comes, ack_comes, happens, run, start, IsFresh, LivesDiffer}
 use Rattle.gossip_link.specs.Promises.{ComesFrom, incarnation_of, Knows, PeerIncludes, IsAcknowledged}
 use Rattle.node_terms.proofs.CallerLemmas.{same_name_is, both_true}
 use Rattle.gossip_link.proofs.NameLemmas.{same_life_is, equal_is, changed_here, at_each, Begins, shorter_begins, All-got}
@@ -358,7 +358,7 @@ module _ (w : World) (name peer : List ℕ) (first : List Change) (begins : Begi
 
 -- ---- every event, and every schedule
 
-IsSound-happens : (w : World) (e : Event) → IsFresh w e → IsSound w → IsSound (happens w e)
+IsSound-happens : (w : World) (e : ClusterEvent) → IsFresh w e → IsSound w → IsSound (happens w e)
 IsSound-happens w (Make name changes) f s = IsSound-make w (record { by = name; changes = changes }) s
 IsSound-happens w (Take name which count) f s = IsSound-take w name which count s
 IsSound-happens w (Ask name) f s = s
@@ -381,7 +381,7 @@ IsSound-happens w (Restart name incarnation version) f s =
     let new = new_node incarnation (x.incarnation ∷ x.earlier) version in
     IsSound-node w name new s (restart_goes_on x incarnation version f) refl (All-nil (ComesFrom w.made)) (λ peer. omega arith) (λ peer known e. cc e)
 
-pub IsSound-run : (events : List Event) (w : World) → LivesDiffer events w → IsSound w → IsSound (run events w)
+pub IsSound-run : (events : List ClusterEvent) (w : World) → LivesDiffer events w → IsSound w → IsSound (run events w)
 IsSound-run [] w d s = s
 IsSound-run (e ∷ es) w d s = IsSound-run es (happens w e) d.1 (IsSound-happens w e d.0 s)
 

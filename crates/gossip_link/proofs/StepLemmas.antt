@@ -8,7 +8,7 @@ use Rattle.chat_history.specs.Numbering.{delta}
 use Rattle.peer_lines.specs.Packet.{Packet, Ack}
 use Rattle.node_terms.specs.declared.version.Version.{Version}
 use Rattle.gossip_link.specs.Peer.{after_hello, packet_of, packet_is_mine, ack_of, after_ack}
-use Rattle.gossip_link.specs.Cluster.{World, Event, Make, Take, Greet, Hello_comes, Send, Packet_comes, Ack_comes, Restart, with_value, life, with_node, with_peer, with_taken, new_node, with_packet, packet_comes, ack_comes, happens, run, start, has_lived, LivesDiffer}
+use Rattle.gossip_link.specs.Cluster.{World, ClusterEvent, Make, Take, Greet, Hello_comes, Send, Packet_comes, Ack_comes, Restart, with_value, life, with_node, with_peer, with_taken, new_node, with_packet, packet_comes, ack_comes, happens, run, start, has_lived, LivesDiffer}
 use Rattle.gossip_link.specs.Promises.{IsReached}
 use Rattle.node_terms.proofs.CallerLemmas.{same_name_itself}
 use Rattle.gossip_link.proofs.SoundLemmas.{IsSound}
@@ -16,18 +16,18 @@ use Rattle.gossip_link.proofs.EventLemmas.{IsSound-run, IsSound-start}
 
 -- some events lead from one world to another, and each restart among them has an incarnation that its node never had
 pub record Leads (old new : World) : Type 0 where
-  pub events : List Event
+  pub events : List ClusterEvent
   pub differ : LivesDiffer events old
   pub ends : run events old ≡ new
 
 pub nothing_happens : (w : World) → Leads w w
 nothing_happens w = record { events = []; differ = tt; ends = refl }
 
-run-append : (es fs : List Event) (w : World) → run (es ++ fs) w ≡ run fs (run es w)
+run-append : (es fs : List ClusterEvent) (w : World) → run (es ++ fs) w ≡ run fs (run es w)
 run-append [] fs w = refl
 run-append (e ∷ es) fs w = run-append es fs (happens w e)
 
-differ-append : (es fs : List Event) (w : World) → LivesDiffer es w → LivesDiffer fs (run es w) → LivesDiffer (es ++ fs) w
+differ-append : (es fs : List ClusterEvent) (w : World) → LivesDiffer es w → LivesDiffer fs (run es w) → LivesDiffer (es ++ fs) w
 differ-append [] fs w p q = q
 differ-append (e ∷ es) fs w p q = (p.0, differ-append es fs (happens w e) p.1 q)
 

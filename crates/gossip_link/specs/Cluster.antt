@@ -44,17 +44,17 @@ pub record World : Type 0 where
 --   Part_comes    so does one of which it takes no more than so many changes
 --   Ack_comes     an acknowledgement reaches its link with a peer
 --   Restart       it starts again, in another incarnation, and perhaps in another version
-pub data Event : Type 0 where
-  Make : (node : List ℕ) (changes : List Change) → Event
-  Take : (node : List ℕ) (which count : ℕ) → Event
-  Ask : (node : List ℕ) → Event
-  Greet : (node : List ℕ) (version : Version) → Event
-  Hello_comes : (node peer : List ℕ) (which : ℕ) → Event
-  Send : (node peer : List ℕ) (count : ℕ) → Event
-  Packet_comes : (node peer : List ℕ) (which : ℕ) → Event
-  Part_comes : (node peer : List ℕ) (which count : ℕ) → Event
-  Ack_comes : (node peer : List ℕ) (which : ℕ) → Event
-  Restart : (node : List ℕ) (incarnation : ℕ) (version : Version) → Event
+pub data ClusterEvent : Type 0 where
+  Make : (node : List ℕ) (changes : List Change) → ClusterEvent
+  Take : (node : List ℕ) (which count : ℕ) → ClusterEvent
+  Ask : (node : List ℕ) → ClusterEvent
+  Greet : (node : List ℕ) (version : Version) → ClusterEvent
+  Hello_comes : (node peer : List ℕ) (which : ℕ) → ClusterEvent
+  Send : (node peer : List ℕ) (count : ℕ) → ClusterEvent
+  Packet_comes : (node peer : List ℕ) (which : ℕ) → ClusterEvent
+  Part_comes : (node peer : List ℕ) (which count : ℕ) → ClusterEvent
+  Ack_comes : (node peer : List ℕ) (which : ℕ) → ClusterEvent
+  Restart : (node : List ℕ) (incarnation : ℕ) (version : Version) → ClusterEvent
 
 -- ---- parts of a world
 
@@ -156,7 +156,7 @@ ack_comes w name peer (Some a) =
     let x = w.nodes name in
     with_node w name (with_peer x peer (after_ack (life name x) peer (x.peers peer) a))
 
-abbrev pub happens : World → Event → World
+abbrev pub happens : World → ClusterEvent → World
 happens w (Make name changes) =
     record w { made = record { by = name; changes = changes } ∷ w.made }
 happens w (Take name which count) = take_made w name count (slice_get w.made which)
@@ -174,7 +174,7 @@ happens w (Restart name incarnation version) =
     with_node w name (new_node incarnation (x.incarnation ∷ x.earlier) version)
 
 -- a whole schedule
-abbrev pub run : List Event → World → World
+abbrev pub run : List ClusterEvent → World → World
 run [] w = w
 run (e ∷ es) w = run es (happens w e)
 
@@ -194,7 +194,7 @@ start incarnations versions = record {
 abbrev pub has_lived : Node → ℕ → Bool
 has_lived x i = list_any (λ j. j == i) (x.incarnation ∷ x.earlier)
 
-abbrev pub IsFresh : World → Event → Type 0
+abbrev pub IsFresh : World → ClusterEvent → Type 0
 IsFresh w (Make name changes) = ⊤
 IsFresh w (Take name which count) = ⊤
 IsFresh w (Ask name) = ⊤
@@ -207,6 +207,6 @@ IsFresh w (Ack_comes name peer which) = ⊤
 IsFresh w (Restart name incarnation version) = has_lived (w.nodes name) incarnation ≡ false
 
 -- each restart has an incarnation that the node never had before
-abbrev pub LivesDiffer : List Event → World → Type 0
+abbrev pub LivesDiffer : List ClusterEvent → World → Type 0
 LivesDiffer [] w = ⊤
 LivesDiffer (e ∷ es) w = IsFresh w e × LivesDiffer es (happens w e)

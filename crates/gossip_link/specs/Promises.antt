@@ -12,7 +12,7 @@ use Rattle.chat_history.specs.Numbering.{Delta, delta, front, number}
 use Rattle.node_terms.specs.declared.version.Version.{Version}
 use Rattle.gossip_link.specs.declared.link.Heard.{Heard}
 use Rattle.gossip_link.specs.Peer.{is_served}
-use Rattle.gossip_link.specs.Cluster.{Made, World, Event, run, start, LivesDiffer}
+use Rattle.gossip_link.specs.Cluster.{Made, World, ClusterEvent, run, start, LivesDiffer}
 
 -- some node made the change
 abbrev pub IsMade : List Made → Change → Type 0
@@ -66,6 +66,6 @@ next_delta w name peer = delta 0 (w.nodes name).taken ((w.nodes name).peers peer
 pub record IsReached (w : World) : Type 0 where
   pub incarnations : List ℕ → ℕ
   pub versions : List ℕ → Version
-  pub events : List Event
+  pub events : List ClusterEvent
   pub differ : LivesDiffer events (start incarnations versions)
   pub ends : run events (start incarnations versions) ≡ w

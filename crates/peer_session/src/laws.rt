@@ -18,14 +18,14 @@ ghost use Rattle.peer_session.specs.declared.pace.TheConstants.{MOST_UNANSWERED}
 
 /// Nothing is made before the peer's hello.
 pub fn nothing_before_the_hello()
-    ensures { (events : List course.Event) → list_any course.is_hello events ≡ false →
+    ensures { (events : List course.PaceEvent) → list_any course.is_hello events ≡ false →
         pace.is_due (course.after_all events pace.new) ≡ false }
 {}
 
 /// Never are two packets under way: after one was made, the next is due only once that one was acknowledged, or had waited
 /// long enough.
 pub fn one_packet_at_a_time()
-    ensures { (p : Pace) (to since : ℕ) (events : List course.Event) →
+    ensures { (p : Pace) (to since : ℕ) (events : List course.PaceEvent) →
         list_any course.is_making events ≡ false →
         pace.is_due (course.after_all events (pace.made (Some to) since p)) ≡ true →
         list_any (course.ends_wait to since) events ≡ true }
@@ -33,7 +33,7 @@ pub fn one_packet_at_a_time()
 
 /// No publish is forgotten: until the next packet was to be made, one is due as soon as none is under way.
 pub fn no_publish_is_forgotten()
-    ensures { (p : Pace) (events : List course.Event) → p.is_greeted ≡ true →
+    ensures { (p : Pace) (events : List course.PaceEvent) → p.is_greeted ≡ true →
         list_any course.is_making events ≡ false →
         (course.after_all events (pace.published p)).under_way ≡ None →
         pace.is_due (course.after_all events (pace.published p)) ≡ true }
@@ -42,9 +42,9 @@ pub fn no_publish_is_forgotten()
 /// A peer has caught up only once it has said hello. And whenever it says hello, something is published, it acknowledges a
 /// number or a packet is made, it has caught up only once a further packet was to be made and nothing was new.
 pub fn caught_up_once_nothing_is_new()
-    ensures hello { (events : List course.Event) → list_any course.is_hello events ≡ false →
+    ensures hello { (events : List course.PaceEvent) → list_any course.is_hello events ≡ false →
         pace.is_caught_up (course.after_all events pace.new) ≡ false }
-    ensures news { (p : Pace) (event : course.Event) (events : List course.Event) →
+    ensures news { (p : Pace) (event : course.PaceEvent) (events : List course.PaceEvent) →
         course.is_news event ≡ true → list_any course.finds_nothing events ≡ false →
         pace.is_caught_up (course.after_all (event ∷ events) p) ≡ false }
 {}
@@ -53,7 +53,7 @@ pub fn caught_up_once_nothing_is_new()
 /// them has waited long enough.
 pub fn closed_after_three_packets()
     ensures none { (p : Pace) (upto : ℕ) → (pace.acknowledged upto p).unanswered ≡ 0 }
-    ensures closed { (p : Pace) (events : List course.Event) (now : ℕ) → p.unanswered ≡ 0 →
+    ensures closed { (p : Pace) (events : List course.PaceEvent) (now : ℕ) → p.unanswered ≡ 0 →
         list_any course.is_acknowledgement events ≡ false →
         let q = course.after_all events p in
         pace.is_over now q
