@@ -31,7 +31,7 @@ use Rattle.client_session.proofs.CallerLemmas.{EffectStands, EffectsStand, IsSou
 use Rattle.bnc_server.specs.Node.{Node, Reply, after_taking, with_session, answer_to, reply_to_effect, reply_to_effects, reply_to_step, is_shown, step_of}
 use Rattle.client_session.specs.Lookup.{name_sought}
 use Rattle.bnc_server.specs.Request.{Request, of_change, of_command, of_client, over_long, request_of}
-use Rattle.bnc_server.specs.Command.{Command, select, exchange, lose, hold_back, hand_over, restart, bad_form}
+use Rattle.bnc_server.specs.Command.{NodeCommand, select, exchange, lose, hold_back, hand_over, restart, bad_form}
 use Rattle.bnc_server.specs.Links.{after_making, after_packet, after_ack_of, ack_answer, late_ack, with_late, new_node, hearing}
 use Rattle.bnc_server.specs.World.{World, node_at, after_sending, packet_of, delivering, after_packet_of, ack_of, refusal_of, ack_text, taking_ack, holding_back, after_restart, next_life, life_of, lives_with, after_command}
 use Rattle.bnc_server.specs.Script.{start, cluster, session_of, first_lives, none_late, selected_node, outcome, text_of, script}
@@ -163,7 +163,7 @@ restarted_sound w sound place life = record {
       (new_node (stage.Registered w.facts) life (lives_with w place life) (node_at w place).late) (record { taken = tt; session = sound.facts });
 }
 
-command_printed : (w : World) (command : Command) → IsPrinted limit (after_command w command).text
+command_printed : (w : World) (command : NodeCommand) → IsPrinted limit (after_command w command).text
 command_printed w (select node) = no_print limit
 command_printed w (exchange sender receiver) = acked_printed (after_packet_of w sender receiver) sender receiver (ack_of w sender receiver)
 command_printed w (lose sender receiver) = no_print limit
@@ -172,7 +172,7 @@ command_printed w (hand_over sender receiver) = acked_printed w sender receiver 
 command_printed w (restart node) = no_print limit
 command_printed w bad_form = bad_form_printed
 
-command_sound : (w : World) → IsSoundWorld w → (command : Command) → IsSoundWorld (after_command w command).world
+command_sound : (w : World) → IsSoundWorld w → (command : NodeCommand) → IsSoundWorld (after_command w command).world
 command_sound w sound (select node) = record { directory = sound.directory; facts = sound.facts; nodes = sound.nodes }
 command_sound w sound (exchange sender receiver) = acked_sound (after_packet_of w sender receiver) (exchanged_sound w sound sender receiver) sender receiver (ack_of w sender receiver)
 command_sound w sound (lose sender receiver) = sent_sound w sound sender receiver

@@ -12,7 +12,7 @@ use Rattle.gossip_link.specs.Cluster as cluster
 use Rattle.gossip_link.specs.Cluster.{has_lived}
 use Rattle.gossip_link.specs.Promises.{IsReached}
 use Rattle.gossip_link.proofs.CallerLemmas.{equal_is}
-use Rattle.bnc_server.specs.Command.{Command, select, exchange, lose, hold_back, hand_over, restart, bad_form, is_node_digit, index_of, on_node, on_pair, between, between_and, command_of}
+use Rattle.bnc_server.specs.Command.{NodeCommand, select, exchange, lose, hold_back, hand_over, restart, bad_form, is_node_digit, index_of, on_node, on_pair, between, between_and, command_of}
 use Rattle.client_session.specs.declared.stage.Stage.{Stage}
 use Rattle.client_session.specs.declared.stage.Stage.TheVariants.{Registered}
 use Rattle.bnc_server.specs.Links.{link_with, no_link, late_ack}
@@ -134,7 +134,7 @@ begun_shown v session is =
 -- ---- commands
 
 -- the nodes of a command are nodes, and those of a pair differ
-abbrev pub IsCommand : Command → Type 0
+abbrev pub IsCommand : NodeCommand → Type 0
 IsCommand (select node) = node < node_count
 IsCommand (exchange sender receiver) = ArePlaces sender receiver
 IsCommand (lose sender receiver) = ArePlaces sender receiver
@@ -150,14 +150,14 @@ digit_place d e =
     let high : d ≤ 57 = (let b = both.1 in grind (arith, nat_tests)) in
     (omega (arith, low, high), low)
 
-node_command : (d : ℕ) (c : ℕ → Command) → ((n : ℕ) → n < node_count → IsCommand (c n)) → IsCommand (on_node d c)
+node_command : (d : ℕ) (c : ℕ → NodeCommand) → ((n : ℕ) → n < node_count → IsCommand (c n)) → IsCommand (on_node d c)
 node_command d c is =
     elim (is_node_digit d) as (λ t. is_node_digit d ≡ t → IsCommand (cond t (c (index_of d)) bad_form)) [
       | true ↦ λ e. is (index_of d) (digit_place d e).0
       | false ↦ λ e. tt
     ] refl
 
-pair_command : (one two : ℕ) (c : ℕ → ℕ → Command) → ((s r : ℕ) → ArePlaces s r → IsCommand (c s r)) → IsCommand (on_pair one two c)
+pair_command : (one two : ℕ) (c : ℕ → ℕ → NodeCommand) → ((s r : ℕ) → ArePlaces s r → IsCommand (c s r)) → IsCommand (on_pair one two c)
 pair_command one two c is =
     elim (is_node_digit one && (is_node_digit two && not (one == two))) as (λ t. (is_node_digit one && (is_node_digit two && not (one == two))) ≡ t → IsCommand (cond t (c (index_of one) (index_of two)) bad_form)) [
       | true ↦ λ e.
@@ -234,7 +234,7 @@ pub record Goes (v : World) : Type 0 where
   pub selected : v.selected < node_count
   pub shown : IsShownBySome v
 
-pub command_goes : (v : World) (c : Command) → IsCommand c → Goes v → Goes (after_command v c).world
+pub command_goes : (v : World) (c : NodeCommand) → IsCommand c → Goes v → Goes (after_command v c).world
 command_goes v (select node) is g = record { selected = is; shown = (g.shown.0, record { reached = g.shown.1.reached; count = g.shown.1.count; agree = g.shown.1.agree }) }
 command_goes v (exchange sender receiver) is g = record { selected = subst (λ n. n < node_count) (sym (sent_selected v sender receiver)) g.selected; shown = exchange_shown v sender receiver is g.shown }
 command_goes v (lose sender receiver) is g = record { selected = g.selected; shown = loss_shown v sender receiver is g.shown }

@@ -11,7 +11,7 @@ use Rattle.client_session.specs.declared.effect.Effect.TheVariants.{Send, Put, A
 use Rattle.bnc_server.specs.declared.fault.ReplayFault.{ReplayFault}
 use Rattle.bnc_server.specs.declared.fault.ReplayFault.TheVariants.{NoMemory, Read, Write}
 use Rattle.bnc_server.specs.Request.{Request, of_change, of_command, of_client, over_long}
-use Rattle.bnc_server.specs.Command.{Command, select, exchange, lose, hold_back, hand_over, restart, bad_form}
+use Rattle.bnc_server.specs.Command.{NodeCommand, select, exchange, lose, hold_back, hand_over, restart, bad_form}
 use Rattle.bnc_server.specs.Node.{Node, with_session, reply_to_effect, step_of}
 use Rattle.bnc_server.specs.World.{World, node_at, life_of, packet_of, after_sending, after_command}
 use Rattle.bnc_server.specs.Script.{selected_node}
@@ -66,13 +66,13 @@ MayStopSending w sender receiver fault =
     × MayCutShort (node_at (after_sending w sender receiver) receiver) packet.changes fault)
 
 -- only what prints something can fail to write
-abbrev pub MayFailToPrint : World → Command → ReplayFault → Type 0
+abbrev pub MayFailToPrint : World → NodeCommand → ReplayFault → Type 0
 MayFailToPrint w command fault = (fault ≡ Write) × ((after_command w command).text ≢ [])
 
 abbrev pub greatest_incarnation : ℕ
 greatest_incarnation = 2 ^ 64 - 1
 
-abbrev pub MayEndCommand : World → Command → ReplayFault → Type 0
+abbrev pub MayEndCommand : World → NodeCommand → ReplayFault → Type 0
 MayEndCommand w (select node) fault = ⊥
 MayEndCommand w (exchange sender receiver) fault =
     MayStopSending w sender receiver fault

@@ -17,11 +17,11 @@ use Rattle.bnc_server.specs.Node.{Node}
 use Rattle.bnc_server.specs.Links.{after_ack_of, late_ack}
 use Rattle.bnc_server.specs.World.{World}
 use Rattle.bnc_server.specs.Schedule.{node_count, ArePlaces}
-use Rattle.bnc_server.specs.Command.{Command, select, exchange, lose, hold_back, hand_over, restart, bad_form}
+use Rattle.bnc_server.specs.Command.{NodeCommand, select, exchange, lose, hold_back, hand_over, restart, bad_form}
 use Rattle.bnc_server.specs.declared.fault.ReplayFault.{ReplayFault}
 use Rattle.bnc_server.specs.declared.fault.ReplayFault.TheVariants.{NoMemory, Read}
-use Rattle.bnc_server.specs.declared.command.Command as code
-use Rattle.bnc_server.specs.declared.command.Command.TheVariants as variant
+use Rattle.bnc_server.specs.declared.command.NodeCommand as code
+use Rattle.bnc_server.specs.declared.command.NodeCommand.TheVariants as variant
 
 pub record HeldNode : Type 0 where
   pub life : Life
@@ -94,7 +94,7 @@ of_state state_fault.NoMemory = NoMemory
 
 -- ---- commands
 
-abbrev pub value_of : code.Command → Command
+abbrev pub value_of : code.NodeCommand → NodeCommand
 value_of (variant.Select node) = select node
 value_of (variant.Exchange sender receiver) = exchange sender receiver
 value_of (variant.Lose sender receiver) = lose sender receiver
@@ -104,7 +104,7 @@ value_of (variant.Restart node) = restart node
 value_of variant.BadForm = bad_form
 
 -- the nodes of a command are there, and two of them differ
-abbrev pub HasNodes : code.Command → Type 0
+abbrev pub HasNodes : code.NodeCommand → Type 0
 HasNodes (variant.Select node) = node < node_count
 HasNodes (variant.Exchange sender receiver) = ArePlaces sender receiver
 HasNodes (variant.Lose sender receiver) = ArePlaces sender receiver

@@ -6,11 +6,11 @@ use Rattle.chat_change.specs.declared.change.Change.{Change}
 use Rattle.change_lines.specs.Words.{is_text}
 use Rattle.change_lines.specs.ChangeLine.{read_change}
 use Rattle.change_lines.specs.declared.fault.ChangeLineFault.{ChangeLineFault}
-use Rattle.bnc_server.specs.Command.{Command, command_of}
+use Rattle.bnc_server.specs.Command.{NodeCommand, command_of}
 
 pub data Request : Type 0 where
   of_change : Result Change ChangeLineFault → Request
-  of_command : Command → Request
+  of_command : NodeCommand → Request
   of_client : (bytes : List ℕ) → Request  -- a line of the client
   over_long : Request  -- a line that was too long
 

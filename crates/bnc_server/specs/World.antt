@@ -9,7 +9,7 @@ use Rattle.peer_lines.specs.Packet.{Packet, Ack}
 use Rattle.node_terms.specs.declared.fault.LinkFault.{LinkFault}
 use Rattle.node_terms.specs.declared.fault.LinkFault.TheVariants.{WrongLife}
 use Rattle.bnc_server.specs.Node.{Node}
-use Rattle.bnc_server.specs.Command.{Command, select, exchange, lose, hold_back, hand_over, restart, bad_form}
+use Rattle.bnc_server.specs.Command.{NodeCommand, select, exchange, lose, hold_back, hand_over, restart, bad_form}
 use Rattle.bnc_server.specs.Links.{new_node, packet_for, after_making, ack_for, after_packet, ack_answer, after_ack_of, late_ack, with_late, hearing}
 
 pub record World : Type 0 where
@@ -118,7 +118,7 @@ after_restart w place life = record w {
 abbrev pub bad_form_text : List ℕ
 bad_form_text = codes "% BadForm" ++ line_ending
 
-abbrev pub after_command : World → Command → Outcome
+abbrev pub after_command : World → NodeCommand → Outcome
 after_command w (select node) = printing (record w { selected = node }) []
 after_command w (exchange sender receiver) =
     taking_ack (after_packet_of w sender receiver) sender receiver (ack_of w sender receiver)

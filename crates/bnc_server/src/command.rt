@@ -5,7 +5,7 @@ ghost use Rattle.bnc_server.specs.HeldNode.{value_of, HasNodes};
 
 /// What a line that begins with `%` asks of the nodes, which are told by their places from 0 on.
 #[derive(Clone, Copy)]
-pub(crate) enum Command {
+pub(crate) enum NodeCommand {
     /// The client talks to that node.
     Select(usize),
     /// A node makes a packet for another, which takes it; then the first takes the acknowledgement.
@@ -34,73 +34,73 @@ fn are_node_digits(one: u8, two: u8) -> bool
     is_node_digit(one) && (is_node_digit(two) && one != two)
 }
 
-fn select_of(one: u8) -> Command
+fn select_of(one: u8) -> NodeCommand
     ensures value { value_of result ≡ spec.on_node one spec.select }
     ensures nodes { HasNodes result }
 {
     if is_node_digit(one) {
-        Command::Select((one - b'1') as usize)
+        NodeCommand::Select((one - b'1') as usize)
     } else {
-        Command::BadForm
+        NodeCommand::BadForm
     }
 }
 
-fn restart_of(one: u8) -> Command
+fn restart_of(one: u8) -> NodeCommand
     ensures value { value_of result ≡ spec.on_node one spec.restart }
     ensures nodes { HasNodes result }
 {
     if is_node_digit(one) {
-        Command::Restart((one - b'1') as usize)
+        NodeCommand::Restart((one - b'1') as usize)
     } else {
-        Command::BadForm
+        NodeCommand::BadForm
     }
 }
 
-fn exchange_of(one: u8, two: u8) -> Command
+fn exchange_of(one: u8, two: u8) -> NodeCommand
     ensures value { value_of result ≡ spec.on_pair one two spec.exchange }
     ensures nodes { HasNodes result }
 {
     if are_node_digits(one, two) {
-        Command::Exchange((one - b'1') as usize, (two - b'1') as usize)
+        NodeCommand::Exchange((one - b'1') as usize, (two - b'1') as usize)
     } else {
-        Command::BadForm
+        NodeCommand::BadForm
     }
 }
 
-fn lose_of(one: u8, two: u8) -> Command
+fn lose_of(one: u8, two: u8) -> NodeCommand
     ensures value { value_of result ≡ spec.on_pair one two spec.lose }
     ensures nodes { HasNodes result }
 {
     if are_node_digits(one, two) {
-        Command::Lose((one - b'1') as usize, (two - b'1') as usize)
+        NodeCommand::Lose((one - b'1') as usize, (two - b'1') as usize)
     } else {
-        Command::BadForm
+        NodeCommand::BadForm
     }
 }
 
-fn hold_back_of(one: u8, two: u8) -> Command
+fn hold_back_of(one: u8, two: u8) -> NodeCommand
     ensures value { value_of result ≡ spec.on_pair one two spec.hold_back }
     ensures nodes { HasNodes result }
 {
     if are_node_digits(one, two) {
-        Command::HoldBack((one - b'1') as usize, (two - b'1') as usize)
+        NodeCommand::HoldBack((one - b'1') as usize, (two - b'1') as usize)
     } else {
-        Command::BadForm
+        NodeCommand::BadForm
     }
 }
 
-fn hand_over_of(one: u8, two: u8) -> Command
+fn hand_over_of(one: u8, two: u8) -> NodeCommand
     ensures value { value_of result ≡ spec.on_pair one two spec.hand_over }
     ensures nodes { HasNodes result }
 {
     if are_node_digits(one, two) {
-        Command::HandOver((one - b'1') as usize, (two - b'1') as usize)
+        NodeCommand::HandOver((one - b'1') as usize, (two - b'1') as usize)
     } else {
-        Command::BadForm
+        NodeCommand::BadForm
     }
 }
 
-fn between(one: u8, sign: u8, two: u8) -> Command
+fn between(one: u8, sign: u8, two: u8) -> NodeCommand
     ensures value { value_of result ≡ spec.between one sign two }
     ensures nodes { HasNodes result }
 {
@@ -109,11 +109,11 @@ fn between(one: u8, sign: u8, two: u8) -> Command
     } else if sign == b'<' {
         hand_over_of(one, two)
     } else {
-        Command::BadForm
+        NodeCommand::BadForm
     }
 }
 
-fn between_and(one: u8, two: u8, last: u8) -> Command
+fn between_and(one: u8, two: u8, last: u8) -> NodeCommand
     ensures value { value_of result ≡ spec.between_and one two last }
     ensures nodes { HasNodes result }
 {
@@ -122,12 +122,12 @@ fn between_and(one: u8, two: u8, last: u8) -> Command
     } else if last == b'-' {
         hold_back_of(one, two)
     } else {
-        Command::BadForm
+        NodeCommand::BadForm
     }
 }
 
 /// What the text behind a `%` asks for.
-pub(crate) fn command_of(text: &[u8]) -> Command
+pub(crate) fn command_of(text: &[u8]) -> NodeCommand
     ensures value { value_of result ≡ spec.command_of text.now }
     ensures nodes { HasNodes result }
 {
@@ -136,6 +136,6 @@ pub(crate) fn command_of(text: &[u8]) -> Command
         [one, b'*'] => restart_of(*one),
         [one, sign, two] => between(*one, *sign, *two),
         [one, b'>', two, last] => between_and(*one, *two, *last),
-        _ => Command::BadForm,
+        _ => NodeCommand::BadForm,
     }
 }

@@ -16,7 +16,7 @@ ghost use Rattle.bnc_server.specs.HeldNode.{WritesTextOf, Becomes, EndsBy, IsFau
 ghost use Rattle.bnc_server.specs.Faults.{MayRefuse, MayStopSending};
 ghost use Rattle.bnc_server.specs.Faults.{MayEnd, MayEndCommand, greatest_incarnation};
 
-use crate::command::{Command, command_of};
+use crate::command::{NodeCommand, command_of};
 use crate::fault::ReplayFault;
 use crate::node::{Node, all_hear, lives_of, push};
 use crate::reply::{put_bad_field, put_bad_form, put_link_fault};
@@ -463,7 +463,7 @@ impl World {
     fn serve_command<W: Write>(
         &mut self,
         alloc: Global,
-        command: Command,
+        command: NodeCommand,
         writer: &mut W,
     ) -> Result<(), ReplayFault>
         requires { HasNodes command }
@@ -475,16 +475,18 @@ impl World {
             (λ w. MayEndCommand w (value_of command)) }
     {
         match command {
-            Command::Select(node) => {
+            NodeCommand::Select(node) => {
                 self.selected = node;
                 Ok(())
             }
-            Command::Exchange(sender, receiver) => self.exchange(alloc, sender, receiver, writer),
-            Command::Lose(sender, receiver) => self.lose(alloc, sender, receiver),
-            Command::HoldBack(sender, receiver) => self.hold_back(alloc, sender, receiver),
-            Command::HandOver(sender, receiver) => self.hand_over(sender, receiver, writer),
-            Command::Restart(node) => self.restart(alloc, node),
-            Command::BadForm => put_bad_form(writer),
+            NodeCommand::Exchange(sender, receiver) => self.exchange(
+                alloc, sender, receiver, writer,
+            ),
+            NodeCommand::Lose(sender, receiver) => self.lose(alloc, sender, receiver),
+            NodeCommand::HoldBack(sender, receiver) => self.hold_back(alloc, sender, receiver),
+            NodeCommand::HandOver(sender, receiver) => self.hand_over(sender, receiver, writer),
+            NodeCommand::Restart(node) => self.restart(alloc, node),
+            NodeCommand::BadForm => put_bad_form(writer),
         }
     }
 

@@ -2,7 +2,7 @@ use Rattle.std.proofs.Common.{◌≡◌, ◌-◌, ℕ, true, false, List, length
 use Rattle.std.proofs.lemmas.List.{take_all}
 use Rattle.byte_text.specs.Bytes.{begins_with}
 use Rattle.change_lines.specs.ChangeLine.{read_change}
-use Rattle.bnc_server.specs.Command.{Command, command_of}
+use Rattle.bnc_server.specs.Command.{NodeCommand, command_of}
 use Rattle.bnc_server.specs.Request.{of_change, of_command, of_client, is_change_line, request_in}
 use Rattle.bnc_server.proofs.world.World.serve_line.Goals as goal
 
@@ -10,7 +10,7 @@ change_asked : (bytes : List ℕ) → is_change_line bytes ≡ true → request_
 unfolding request_in
 change_asked bytes h = rw h refl
 
-command_asked : (bytes : List ℕ) (command : Command) → command ≡ command_of (take (length bytes - 1) (drop 1 bytes)) → is_change_line bytes ≡ false → begins_with 37 bytes ≡ true
+command_asked : (bytes : List ℕ) (command : NodeCommand) → command ≡ command_of (take (length bytes - 1) (drop 1 bytes)) → is_change_line bytes ≡ false → begins_with 37 bytes ≡ true
     → request_in bytes ≡ of_command command
 unfolding request_in
 command_asked bytes command is h k = rw (h, k) (ap of_command (sym (is ∙ ap command_of (take_all (length bytes - 1) (drop 1 bytes) (omega (arith, length-drop 1 bytes))))))
