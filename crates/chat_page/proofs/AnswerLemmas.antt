@@ -78,9 +78,9 @@ pub shown : {Z E : Type 0} (found : Result (Vec (Bor Record) Z) E) (result : Res
 shown (Ok page) result records e o n = subst (λ r. AreRecords (Some records) r) (sym o) (ap Some (sym e))
 shown (Err x) result records e o n = subst (λ r. AreRecords (Some records) r) (sym n) tt
 
--- the records that a point asks for, at the place that was found
-pub at_point : {Z E : Type 0} (cut : Point → List Record) (wanted place : Option Point) (found : Result (Vec (Bor Record) Z) E) (result : Result (Vec (Bor Record) Z) PageFault)
-    → wanted ≡ place → IsSome place → ((p : Point) → place ≡ Some p → IfOk found (λ page. map (λ r. r.now) page.items ≡ cut p))
+-- the records that a point asks for, at the point that was found
+pub at_point : {Z E : Type 0} (cut : Point → List Record) (wanted point : Option Point) (found : Result (Vec (Bor Record) Z) E) (result : Result (Vec (Bor Record) Z) PageFault)
+    → wanted ≡ point → IsSome point → ((p : Point) → point ≡ Some p → IfOk found (λ page. map (λ r. r.now) page.items ≡ cut p))
     → IfOk found (λ page. result ≡ Ok page) → OnErr found (result ≡ Err NoMemory) → AreRecords (option_map cut wanted) result
 at_point cut wanted None found result e some is o n = absurd (false≢true some)
 at_point cut wanted (Some p) found result e some is o n =

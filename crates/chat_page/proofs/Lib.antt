@@ -1,6 +1,6 @@
 mod LastLemmas
 mod CutLemmas
-mod PlaceLemmas
+mod PointLemmas
 mod AnswerLemmas
 mod KnownLemmas
 mod KeptLemmas

@@ -10,7 +10,7 @@ ghost use Rattle.chat_page.specs.Answer.{IsAnswer, IsRefusal, IsAnswerIfMemory, 
 use crate::known::has_page;
 use crate::listed_buffer::listed_between;
 use crate::pages::{Page, PageFault};
-use crate::place::{SelectorPlace, over, place_of, under};
+use crate::point::{SelectorPoint, over, point_of, under};
 use crate::walk::{first_between, last_between};
 use chat_change::{Buffer, ChangeFault, Moment, Record};
 use chat_query::{Query, Scope, Selector, Target};
@@ -30,59 +30,59 @@ enum Side {
     Around,
 }
 
-ghost use Rattle.chat_page.specs.Place.{value_of};
+ghost use Rattle.chat_page.specs.Point.{value_of};
 ghost use Rattle.chat_page.specs.Answer.{side_cut};
 
-/// The records around a place.
+/// The records around a point.
 fn around<'a>(
     alloc: Global,
     state: &'a State,
     buffer: &Buffer,
-    place: &SelectorPlace,
+    point: &SelectorPoint,
     n: usize,
 ) -> Result<Vec<&'a Record>, AllocError>
-    ensures { (p : spec.Point) → value_of place.now ≡ Some p → IfOk result (λ page.
+    ensures { (p : spec.Point) → value_of point.now ≡ Some p → IfOk result (λ page.
         map (λ r. r.now) page.items ≡ spec.around_cut n
         (records_in state.now.history buffer.now) p) }
 {
     // Without it the prover doesn't find the types that a cut may hold.
     let _held: (Option<Moment>, Option<&Spot>) = (None, None);
-    let cut = under(place);
+    let cut = under(point);
     let mut page = last_between(alloc, state, buffer, &Cut::Bottom, &cut, n / 2)?;
     let mut rest = first_between(alloc, state, buffer, &cut, &Cut::Top, n - n / 2)?;
     page.append(&mut rest)?;
     Ok(page)
 }
 
-/// The records on a side of a place.
+/// The records on a side of a point.
 fn beside<'a>(
     alloc: Global,
     state: &'a State,
     buffer: &Buffer,
-    place: &SelectorPlace,
+    point: &SelectorPoint,
     side: Side,
     n: usize,
 ) -> Result<Vec<&'a Record>, AllocError>
-    ensures { (p : spec.Point) → value_of place.now ≡ Some p → IfOk result (λ page.
+    ensures { (p : spec.Point) → value_of point.now ≡ Some p → IfOk result (λ page.
         map (λ r. r.now) page.items ≡ side_cut side n (records_in state.now.history buffer.now) p) }
 {
     // Without it the prover doesn't find the type of the spots that a cut may hold.
     let _held: Option<&Spot> = None;
     match side {
-        Side::LatestAfter => last_between(alloc, state, buffer, &over(place), &Cut::Top, n),
-        Side::Before => last_between(alloc, state, buffer, &Cut::Bottom, &under(place), n),
-        Side::After => first_between(alloc, state, buffer, &over(place), &Cut::Top, n),
-        Side::Around => around(alloc, state, buffer, place, n),
+        Side::LatestAfter => last_between(alloc, state, buffer, &over(point), &Cut::Top, n),
+        Side::Before => last_between(alloc, state, buffer, &Cut::Bottom, &under(point), n),
+        Side::After => first_between(alloc, state, buffer, &over(point), &Cut::Top, n),
+        Side::Around => around(alloc, state, buffer, point, n),
     }
 }
 
-/// The records between two places.
-fn between_places<'a>(
+/// The records between two points.
+fn between_points<'a>(
     alloc: Global,
     state: &'a State,
     buffer: &Buffer,
-    one: &SelectorPlace,
-    other: &SelectorPlace,
+    one: &SelectorPoint,
+    other: &SelectorPoint,
     n: usize,
 ) -> Result<Vec<&'a Record>, AllocError>
     ensures { (p q : spec.Point) → value_of one.now ≡ Some p → value_of other.now ≡ Some q
@@ -124,9 +124,9 @@ fn selected<'a>(
     ensures { (changes : List Change) → state.now.history ≡ norm changes
         → AreRecords (side_of (norm changes) buffer.now selector.now side n) result }
 {
-    let place = place_of(alloc, state, buffer, selector)?;
-    let found = beside(alloc, state, buffer, &place, side, n);
-    drop(place);
+    let point = point_of(alloc, state, buffer, selector)?;
+    let found = beside(alloc, state, buffer, &point, side, n);
+    drop(point);
     or_no_memory(found)
 }
 
@@ -142,17 +142,17 @@ fn between<'a>(
     ensures { (changes : List Change) → state.now.history ≡ norm changes
         → AreRecords (between_of (norm changes) buffer.now one.now other.now n) result }
 {
-    let place = place_of(alloc, state, buffer, one)?;
-    let place_after = match place_of(alloc, state, buffer, other) {
+    let point = point_of(alloc, state, buffer, one)?;
+    let point_after = match point_of(alloc, state, buffer, other) {
         Ok(found) => found,
         Err(fault) => {
-            drop(place);
+            drop(point);
             return Err(fault);
         }
     };
-    let found = between_places(alloc, state, buffer, &place, &place_after, n);
-    drop(place);
-    drop(place_after);
+    let found = between_points(alloc, state, buffer, &point, &point_after, n);
+    drop(point);
+    drop(point_after);
     or_no_memory(found)
 }
 
@@ -346,7 +346,7 @@ fn refusal_of(state: &State, scope: &Scope<'_>, query: &Query<'_>) -> PageFault
 ///
 /// Refused with [`PageFault::UnknownMessage`] exactly where a selector names a message for which the buffer has no
 /// position: a redacted one has its position still. So [`PageFault::NoMemory`] comes only where each selector has its
-/// place. A message is looked up by a buffer and an id that own their memory. Where these find none, the buffers and the
+/// point. A message is looked up by a buffer and an id that own their memory. Where these find none, the buffers and the
 /// ids are gone through one by one, which takes longer.
 pub fn page<'a>(
     alloc: Global,

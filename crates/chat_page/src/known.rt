@@ -7,8 +7,8 @@ ghost use Rattle.chat_past.specs.Page.{buffer_of, page, point_of};
 use chat_query::{Query, Scope, Selector, Target};
 use chat_state::State;
 
-/// Whether a selector has a place in the buffer of a target.
-fn has_place(state: &State, scope: &Scope<'_>, target: &Target<'_>, selector: &Selector<'_>) -> bool
+/// Whether a selector has a point in the buffer of a target.
+fn has_point(state: &State, scope: &Scope<'_>, target: &Target<'_>, selector: &Selector<'_>) -> bool
     ensures { (changes : List Change) → state.now.history ≡ norm changes → result ≡ is_some
         (point_of (norm changes) (buffer_of scope.now target.now) selector.now) }
 {
@@ -30,29 +30,29 @@ pub(crate) fn has_page(state: &State, scope: &Scope<'_>, query: &Query<'_>) -> b
     match query {
         Query::Latest { target, after, .. } => match after {
             None => true,
-            Some(selector) => has_place(state, scope, target, selector),
+            Some(selector) => has_point(state, scope, target, selector),
         },
         Query::Before {
             target,
             selector,
             ..
-        } => has_place(state, scope, target, selector),
+        } => has_point(state, scope, target, selector),
         Query::After {
             target,
             selector,
             ..
-        } => has_place(state, scope, target, selector),
+        } => has_point(state, scope, target, selector),
         Query::Around {
             target,
             selector,
             ..
-        } => has_place(state, scope, target, selector),
+        } => has_point(state, scope, target, selector),
         Query::Between {
             target,
             one,
             other,
             ..
-        } => has_place(state, scope, target, one) && has_place(state, scope, target, other),
+        } => has_point(state, scope, target, one) && has_point(state, scope, target, other),
         Query::Targets { .. } => true,
     }
 }

@@ -11,7 +11,7 @@ mod known;
 pub mod laws;
 mod listed_buffer;
 mod pages;
-mod place;
+mod point;
 mod walk;
 
 pub use answer::page;

@@ -14,40 +14,40 @@ returns-in-None c changes h =
 
 pub returns-in-Some : goal.returns-in-Some
 returns-in-Some c changes h =
-    c.has_place.ensures changes h ∙ sym (latest_known changes c.args.scope.now c.in-Latest.target c.in-Some.selector c.in-Latest.limit)
+    c.has_point.ensures changes h ∙ sym (latest_known changes c.args.scope.now c.in-Latest.target c.in-Some.selector c.in-Latest.limit)
     ∙ ap (λ o. is_some (page changes c.args.scope.now (Latest c.in-Latest.target o c.in-Latest.limit))) (sym c.in-Some.is)
     ∙ ap (λ q. is_some (page changes c.args.scope.now q)) (sym c.in-Latest.is)
 
 pub returns-in-Before : goal.returns-in-Before
 returns-in-Before c changes h =
-    c.has_place-in-Before.ensures changes h ∙ sym (before_known changes c.args.scope.now c.in-Before.target c.in-Before.selector _)
+    c.has_point-in-Before.ensures changes h ∙ sym (before_known changes c.args.scope.now c.in-Before.target c.in-Before.selector _)
     ∙ ap (λ q. is_some (page changes c.args.scope.now q)) (sym c.in-Before.is)
 
 pub returns-in-After : goal.returns-in-After
 returns-in-After c changes h =
-    c.has_place-in-After.ensures changes h ∙ sym (after_known changes c.args.scope.now c.in-After.target c.in-After.selector _)
+    c.has_point-in-After.ensures changes h ∙ sym (after_known changes c.args.scope.now c.in-After.target c.in-After.selector _)
     ∙ ap (λ q. is_some (page changes c.args.scope.now q)) (sym c.in-After.is)
 
 pub returns-in-Around : goal.returns-in-Around
 returns-in-Around c changes h =
-    c.has_place-in-Around.ensures changes h ∙ sym (around_known changes c.args.scope.now c.in-Around.target c.in-Around.selector _)
+    c.has_point-in-Around.ensures changes h ∙ sym (around_known changes c.args.scope.now c.in-Around.target c.in-Around.selector _)
     ∙ ap (λ q. is_some (page changes c.args.scope.now q)) (sym c.in-Around.is)
 
-pub returns-then-has_place : goal.returns-then-has_place
-returns-then-has_place c changes h =
+pub returns-then-has_point : goal.returns-then-has_point
+returns-then-has_point c changes h =
     let b = buffer_of c.args.scope.now c.in-Between.target in
     let other = is_some (point_of (norm changes) b c.in-Between.other) in
-    c.has_place-then-has_place.ensures changes h
-    ∙ ap (λ one. one && other) (sym c.if-has_place.true ∙ c.has_place-in-Between.ensures changes h)
+    c.has_point-then-has_point.ensures changes h
+    ∙ ap (λ one. one && other) (sym c.if-has_point.true ∙ c.has_point-in-Between.ensures changes h)
     ∙ sym (between_known changes c.args.scope.now c.in-Between.target c.in-Between.one c.in-Between.limit c.in-Between.other)
     ∙ ap (λ q. is_some (page changes c.args.scope.now q)) (sym c.in-Between.is)
 
-pub returns-else-has_place : goal.returns-else-has_place
-returns-else-has_place c changes h =
+pub returns-else-has_point : goal.returns-else-has_point
+returns-else-has_point c changes h =
     let b = buffer_of c.args.scope.now c.in-Between.target in
     let other = is_some (point_of (norm changes) b c.in-Between.other) in
-    c.if-has_place.false
-    ∙ ap (λ one. one && other) (sym c.if-has_place.false ∙ c.has_place-in-Between.ensures changes h)
+    c.if-has_point.false
+    ∙ ap (λ one. one && other) (sym c.if-has_point.false ∙ c.has_point-in-Between.ensures changes h)
     ∙ sym (between_known changes c.args.scope.now c.in-Between.target c.in-Between.one c.in-Between.limit c.in-Between.other)
     ∙ ap (λ q. is_some (page changes c.args.scope.now q)) (sym c.in-Between.is)
 

@@ -5,7 +5,7 @@ use Rattle.std.specs.Map.Iter.{deref}
 use Rattle.chat_history.specs.Visible.{records_in}
 use Rattle.chat_past.specs.Page.{last}
 use Rattle.chat_page.proofs.AnswerLemmas.{between_is, turns, goes_on}
-use Rattle.chat_page.proofs.answer.between_places.Goals as goal
+use Rattle.chat_page.proofs.answer.between_points.Goals as goal
 
 pub returns-then-is_empty : goal.returns-then-is_empty
 returns-then-is_empty c p q e f =

@@ -14,29 +14,29 @@ use std::alloc::Global;
 
 /// A moment, or the spot of a message.
 #[derive(Drop)]
-pub(crate) enum SelectorPlace {
+pub(crate) enum SelectorPoint {
     Moment(Moment),
     Message(Spot),
 }
 
-ghost use Rattle.chat_page.specs.Place.{value_of};
+ghost use Rattle.chat_page.specs.Point.{value_of};
 
-/// The place of a selector. Refused where the buffer has no position for the message, and for want of memory.
-pub(crate) fn place_of(
+/// The point of a selector. Refused where the buffer has no position for the message, and for want of memory.
+pub(crate) fn point_of(
     alloc: Global,
     state: &State,
     buffer: &Buffer,
     selector: &Selector<'_>,
-) -> Result<SelectorPlace, PageFault>
-    ensures place { (changes : List Change) → state.now.history ≡ norm changes
-        → IfOk result (λ place. point_of (norm changes) buffer.now selector.now ≡ value_of place) }
-    ensures some { IfOk result (λ place. IsSome (value_of place)) }
+) -> Result<SelectorPoint, PageFault>
+    ensures point { (changes : List Change) → state.now.history ≡ norm changes
+        → IfOk result (λ point. point_of (norm changes) buffer.now selector.now ≡ value_of point) }
+    ensures some { IfOk result (λ point. IsSome (value_of point)) }
     ensures unknown { (changes : List Change) → state.now.history ≡ norm changes
         → result ≡ Err PageFault.UnknownMessage → point_of (norm changes) buffer.now selector.now
         ≡ None }
 {
     match selector {
-        Selector::Timestamp(at) => Ok(SelectorPlace::Moment(*at)),
+        Selector::Timestamp(at) => Ok(SelectorPoint::Moment(*at)),
         Selector::Message(id) => {
             let Ok(id) = MsgId::new(alloc, id.as_bytes()) else {
                 return Err(PageFault::NoMemory);
@@ -44,29 +44,29 @@ pub(crate) fn place_of(
             let Some(at) = state.position(buffer, &id) else {
                 return Err(PageFault::UnknownMessage);
             };
-            Ok(SelectorPlace::Message(Spot { at, id: Some(id) }))
+            Ok(SelectorPoint::Message(Spot { at, id: Some(id) }))
         }
     }
 }
 
-/// The cut below what stands at the place.
-pub(crate) fn under(place: &SelectorPlace) -> Cut<'_>
-    ensures { (p : Point) → value_of place.now ≡ Some p → (r : Record) → not
+/// The cut below what stands at the point.
+pub(crate) fn under(point: &SelectorPoint) -> Cut<'_>
+    ensures { (p : Point) → value_of point.now ≡ Some p → (r : Record) → not
         (is_after_cut result r) ≡ is_before p r }
 {
-    match place {
-        SelectorPlace::Moment(at) => Cut::UnderTime(*at),
-        SelectorPlace::Message(spot) => Cut::UnderMsg(spot),
+    match point {
+        SelectorPoint::Moment(at) => Cut::UnderTime(*at),
+        SelectorPoint::Message(spot) => Cut::UnderMsg(spot),
     }
 }
 
-/// The cut above what stands at the place.
-pub(crate) fn over(place: &SelectorPlace) -> Cut<'_>
-    ensures { (p : Point) → value_of place.now ≡ Some p → (r : Record) → is_after_cut result r
+/// The cut above what stands at the point.
+pub(crate) fn over(point: &SelectorPoint) -> Cut<'_>
+    ensures { (p : Point) → value_of point.now ≡ Some p → (r : Record) → is_after_cut result r
         ≡ is_after p r }
 {
-    match place {
-        SelectorPlace::Moment(at) => Cut::OverTime(*at),
-        SelectorPlace::Message(spot) => Cut::OverMsg(spot),
+    match point {
+        SelectorPoint::Moment(at) => Cut::OverTime(*at),
+        SelectorPoint::Message(spot) => Cut::OverMsg(spot),
     }
 }

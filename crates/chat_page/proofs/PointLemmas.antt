@@ -1,4 +1,4 @@
--- What stands before and after the place of a selector.
+-- What stands before and after the point of a selector.
 use Rattle.std.proofs.Common.{◌≡◌, ℕ, not, List, Option, None, Some, refl, sym, ◌∙◌, ap}
 use Rattle.std.specs.declared.cmp.Ordering.{Ordering}
 use Rattle.std.specs.declared.cmp.Ordering.TheVariants.{Less, Equal, Greater}
