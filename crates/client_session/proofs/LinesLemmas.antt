@@ -22,7 +22,7 @@ use Rattle.irc_caps.specs.declared.capability.Capability.{Capability}
 use Rattle.irc_caps.specs.declared.capability.Capability.TheVariants.{Batch, Chathistory as History, MessageRedaction, ReadMarker, EchoMessage, MessageTags, ServerTime}
 use Rattle.irc_caps.specs.Capability.{capabilities, name_of}
 use Rattle.irc_caps.specs.CapSet.{all_capabilities, holds, names}
-use Rattle.irc_caps.specs.Negotiation.{Negotiation, Answer, registered, cap_line, ls, list, ack, nak, req_words, req, list_in, ended, invalid, is_same_word, cap_answer}
+use Rattle.irc_caps.specs.Negotiation.{Negotiation, NegotiationStep, registered, cap_line, ls, list, ack, nak, req_words, req, list_in, ended, invalid, is_same_word, cap_answer}
 use Rattle.irc_reply.specs.Echo.{echoed}
 use Rattle.irc_caps.specs.Words.{joined, words_of, is_word, list_limit, is_acknowledged, wish_of}
 use Rattle.irc_reply.specs.Reply.{reply, unknown_text, need_more_params}
@@ -267,10 +267,10 @@ module _ (limit : TagLimit) (cluster : List ℕ) (is : IsCluster cluster) where
     cap_line_stands : (subcommand text : List ℕ) → CanBeMiddle subcommand → length subcommand ≤ 4 → HasNoBadByte text → length text ≤ 200 → AreLines limit (cap_line cluster nick subcommand text)
     cap_line_stands subcommand text s few t short = (let long = n.1 in two_words (codes "CAP") nick subcommand text refl n.0 s t (omega arith))
 
-    abbrev IsTold : Answer → Type 0
+    abbrev IsTold : NegotiationStep → Type 0
     IsTold a = IfSome a.line (AreLines limit)
 
-    either_told : (b : Bool) (one two : Answer) → (b ≡ true → IsTold one) → IsTold two → IsTold (cond b one two)
+    either_told : (b : Bool) (one two : NegotiationStep) → (b ≡ true → IsTold one) → IsTold two → IsTold (cond b one two)
     either_told true one two p q = p refl
     either_told false one two p q = q
 

@@ -39,7 +39,7 @@ released Held = Free
 released Done = Done
 
 -- what a line comes to: the negotiation after it, and the line that answers it
-pub record Answer : Type 0 where
+pub record NegotiationStep : Type 0 where
   pub negotiation : Negotiation
   pub line : Option (List ℕ)
 
@@ -48,34 +48,34 @@ cap_line cluster nick subcommand list =
     reply cluster (codes "CAP") (nick ∷ subcommand ∷ []) (Some list)
 
 -- `CAP LS`
-abbrev pub ls : List ℕ → List ℕ → Negotiation → Answer
+abbrev pub ls : List ℕ → List ℕ → Negotiation → NegotiationStep
 ls cluster nick n = record {
   negotiation = record n { registration = held_back n.registration };
   line = Some (cap_line cluster nick (codes "LS") (joined (names all_capabilities)));
 }
 
 -- `CAP LIST`
-abbrev pub list : List ℕ → List ℕ → Negotiation → Answer
+abbrev pub list : List ℕ → List ℕ → Negotiation → NegotiationStep
 list cluster nick n = record {
   negotiation = n;
   line = Some (cap_line cluster nick (codes "LIST") (joined (names n.caps)));
 }
 
 -- `CAP REQ` of a list of which each word is taken
-abbrev pub ack : List ℕ → List ℕ → Negotiation → List (List ℕ) → Answer
+abbrev pub ack : List ℕ → List ℕ → Negotiation → List (List ℕ) → NegotiationStep
 ack cluster nick n words = record {
   negotiation = record { caps = with_words n.caps words; registration = held_back n.registration };
   line = Some (cap_line cluster nick (codes "ACK") (joined words));
 }
 
 -- `CAP REQ` of a list of which no word is taken
-abbrev pub nak : List ℕ → List ℕ → Negotiation → List ℕ → Answer
+abbrev pub nak : List ℕ → List ℕ → Negotiation → List ℕ → NegotiationStep
 nak cluster nick n list = record {
   negotiation = record n { registration = held_back n.registration };
   line = Some (cap_line cluster nick (codes "NAK") (take list_limit list));
 }
 
-abbrev pub req_words : List ℕ → List ℕ → Negotiation → List (List ℕ) → Answer
+abbrev pub req_words : List ℕ → List ℕ → Negotiation → List (List ℕ) → NegotiationStep
 req_words cluster nick n words =
     if is_acknowledged words then ack cluster nick n words else nak cluster nick n (joined words)
 
@@ -85,15 +85,15 @@ list_in [] = []
 list_in (text ∷ more) = text
 
 -- `CAP REQ`
-abbrev pub req : List ℕ → List ℕ → Negotiation → List (List ℕ) → Answer
+abbrev pub req : List ℕ → List ℕ → Negotiation → List (List ℕ) → NegotiationStep
 req cluster nick n parameters = req_words cluster nick n (words_of (list_in parameters))
 
 -- `CAP END`
-abbrev pub ended : Negotiation → Answer
+abbrev pub ended : Negotiation → NegotiationStep
 ended n = record { negotiation = record n { registration = released n.registration }; line = None }
 
 -- another subcommand (ERR_INVALIDCAPCMD)
-abbrev pub invalid : List ℕ → List ℕ → Negotiation → List ℕ → Answer
+abbrev pub invalid : List ℕ → List ℕ → Negotiation → List ℕ → NegotiationStep
 invalid cluster nick n subcommand = record {
   negotiation = n;
   line = Some (reply cluster (codes "410") (nick ∷ echoed subcommand ∷ [])
@@ -104,7 +104,7 @@ invalid cluster nick n subcommand = record {
 abbrev pub is_same_word : List ℕ → List ℕ → Bool
 is_same_word a b = str_eq_ignore_ascii_case a b
 
-abbrev pub subcommand_answer : List ℕ → List ℕ → Negotiation → List ℕ → List (List ℕ) → Answer
+abbrev pub subcommand_answer : List ℕ → List ℕ → Negotiation → List ℕ → List (List ℕ) → NegotiationStep
 subcommand_answer cluster nick n subcommand parameters =
     if is_same_word subcommand (codes "LS") then ls cluster nick n
     else if is_same_word subcommand (codes "LIST") then list cluster nick n
@@ -113,7 +113,7 @@ subcommand_answer cluster nick n subcommand parameters =
     else invalid cluster nick n subcommand
 
 -- the answer to the parameters of a CAP
-abbrev pub cap_answer : List ℕ → List ℕ → Negotiation → List (List ℕ) → Answer
+abbrev pub cap_answer : List ℕ → List ℕ → Negotiation → List (List ℕ) → NegotiationStep
 cap_answer cluster nick n [] = record {
   negotiation = n;
   line = Some (need_more_params cluster nick (codes "CAP"));
@@ -122,7 +122,7 @@ cap_answer cluster nick n (subcommand ∷ parameters) =
     subcommand_answer cluster nick n subcommand parameters
 
 -- any other command is no matter of the negotiation's
-abbrev pub answer : List ℕ → List ℕ → Negotiation → Reading → Answer
+abbrev pub answer : List ℕ → List ℕ → Negotiation → Reading → NegotiationStep
 answer cluster nick n line =
     if is_same_word line.command (codes "CAP")
     then cap_answer cluster nick n line.parameters

@@ -1,6 +1,5 @@
 //! The capabilities that the cluster offers, by their names.
 ghost use Rattle.std.specs.Prelude.{◌≡◌};
-ghost use Rattle.std.specs.Str.{bytes_eq};
 ghost use Rattle.irc_caps.specs.Capability.{name_of, capability_of};
 
 /// A capability that the cluster offers.
@@ -20,12 +19,6 @@ pub enum Capability {
     MessageTags,
     /// `server-time` (IRCv3 server-time).
     ServerTime,
-}
-
-fn is_same(a: &[u8], b: &[u8]) -> bool
-    ensures { result ≡ bytes_eq a.now b.now }
-{
-    a == b
 }
 
 impl Capability {
@@ -60,19 +53,19 @@ impl Capability {
     pub fn named(name: &[u8]) -> Option<Capability>
         ensures { result ≡ capability_of name.now }
     {
-        if is_same(name, b"batch") {
+        if name == b"batch".as_slice() {
             Some(Capability::Batch)
-        } else if is_same(name, b"draft/chathistory") {
+        } else if name == b"draft/chathistory".as_slice() {
             Some(Capability::Chathistory)
-        } else if is_same(name, b"draft/message-redaction") {
+        } else if name == b"draft/message-redaction".as_slice() {
             Some(Capability::MessageRedaction)
-        } else if is_same(name, b"draft/read-marker") {
+        } else if name == b"draft/read-marker".as_slice() {
             Some(Capability::ReadMarker)
-        } else if is_same(name, b"echo-message") {
+        } else if name == b"echo-message".as_slice() {
             Some(Capability::EchoMessage)
-        } else if is_same(name, b"message-tags") {
+        } else if name == b"message-tags".as_slice() {
             Some(Capability::MessageTags)
-        } else if is_same(name, b"server-time") {
+        } else if name == b"server-time".as_slice() {
             Some(Capability::ServerTime)
         } else {
             None
