@@ -40,7 +40,7 @@ fn digit_value(b: u8) -> u64
 const FEW: usize = 19;
 
 // The value of few digits.
-fn value_of_few(text: &[u8]) -> u64
+fn short_decimal_value(text: &[u8]) -> u64
     requires few { length text.now ≤ FEW }
     requires digits { list_all spec.is_digit text.now ≡ true }
     ensures { result ≡ spec.value text.now }
@@ -53,12 +53,12 @@ fn value_of_few(text: &[u8]) -> u64
 }
 
 // The value of digits, where it is below 2^64.
-fn value_of(text: &[u8]) -> Option<u64>
+fn decimal_value(text: &[u8]) -> Option<u64>
     requires { list_all spec.is_digit text.now ≡ true }
     ensures { SomeIff result (spec.value text.now < 2 ^ 64) (spec.value text.now) }
 {
     if text.len() <= FEW {
-        return Some(value_of_few(text));
+        return Some(short_decimal_value(text));
     }
     let mut n = 0u64;
     'digits: for b in text {
@@ -76,6 +76,6 @@ pub fn number_to(most: u64, text: &[u8]) -> Option<u64>
     if !is_digits(text) || has_leading_zero(text) {
         return None;
     }
-    let n = value_of(text)?;
+    let n = decimal_value(text)?;
     if n <= most { Some(n) } else { None }
 }

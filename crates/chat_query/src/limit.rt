@@ -14,7 +14,7 @@ fn digit_value(byte: u8) -> usize
 }
 
 /// The value of the digits, or the greatest number where it is above that.
-fn value_of(text: &[u8]) -> usize
+fn decimal_value(text: &[u8]) -> usize
     ensures { result ≡ min usize.MAX (value text.now) }
 {
     let mut n = 0usize;
@@ -32,6 +32,6 @@ pub(crate) fn read_limit(text: &[u8]) -> Option<usize>
     if !is_digits(text) {
         return None;
     }
-    let n = value_of(text);
+    let n = decimal_value(text);
     if n > 0 { Some(n) } else { None }
 }

@@ -2,7 +2,7 @@ use Rattle.std.proofs.Common.{◌≡◌, ℕ, ◌+◌, ◌-◌, ◌*◌, ◌<◌
 use Rattle.byte_text.specs.Number.{value}
 use Rattle.byte_text.proofs.CallerLemmas.{one_digit_more}
 use Rattle.chat_query.specs.Limit.{greatest_limit}
-use Rattle.chat_query.proofs.limit.value_of.Goals as goal
+use Rattle.chat_query.proofs.limit.decimal_value.Goals as goal
 
 one_more : (text : List ℕ) (i d most n m k digit : ℕ) → i < length text → n ≡ min most (value (take i text)) → digit ≡ get_or text i d - 48
     → k ≡ min (n * 10) most → m ≡ min (k + digit) most → m ≡ min most (value (take (i + 1) text))

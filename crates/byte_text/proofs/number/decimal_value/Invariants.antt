@@ -1,6 +1,6 @@
 use Rattle.std.proofs.Common.{◌≡◌, ◌<◌, ◌^◌, take}
 use Rattle.byte_text.specs.Number.{value}
-use Rattle.byte_text.proofs.number.value_of.Given as goal
+use Rattle.byte_text.proofs.number.decimal_value.Given as goal
 
 -- the value of the digits so far
 abbrev pub invariant-digits : goal.invariant-digits

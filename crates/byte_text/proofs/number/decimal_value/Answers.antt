@@ -3,7 +3,7 @@ use Rattle.std.specs.Prelude.{SomeIff}
 use Rattle.std.proofs.lemmas.List.{take_all}
 use Rattle.byte_text.specs.Number.{value, value_from}
 use Rattle.byte_text.proofs.NumberLemmas.{value_from-append, one_digit_more}
-use Rattle.byte_text.proofs.number.value_of.Goals as goal
+use Rattle.byte_text.proofs.number.decimal_value.Goals as goal
 
 at_least : (n : ℕ) (xs : List ℕ) → n ≤ value_from n xs
 at_least n [] = omega arith

@@ -7,7 +7,7 @@ use Rattle.std.proofs.lemmas.Bool.Decides.{nat_tests}
 use Rattle.std.proofs.lemmas.List.Folds.{list_all_at}
 use Rattle.byte_text.specs.Number.{is_digit}
 use Rattle.byte_text.proofs.NumberLemmas.{one_digit_more}
-use Rattle.byte_text.proofs.number.value_of_few.Goals as goal
+use Rattle.byte_text.proofs.number.short_decimal_value.Goals as goal
 
 -- ---- powers of ten
 
