@@ -26,14 +26,14 @@ abbrev pub Lines : Type 0
 Lines = List (Option PeerLine)
 
 -- the place of the peer that said hello
-abbrev pub place_of : Stage → Option ℕ
-place_of (Introduced place) = Some place
-place_of (Known place) = Some place
-place_of _ = None
+abbrev pub index_in : Stage → Option ℕ
+index_in (Introduced place) = Some place
+index_in (Known place) = Some place
+index_in _ = None
 
 -- a stage at which lines are handed up
 abbrev pub IsKnown : Stage → Type 0
-IsKnown s = (place : ℕ) × (place_of s ≡ Some place)
+IsKnown s = (place : ℕ) × (index_in s ≡ Some place)
 
 -- ---- the place of a peer
 
@@ -117,10 +117,10 @@ module _ (t : Terms) where
   kept peer place at (Some (Change change) ∷ lines) k = kept peer place at lines k.1
   kept peer place at (Some (Ack ack) ∷ lines) k = kept peer place at lines k.1
 
-  kept_first : (peer : Life) (place : ℕ) → index_of t peer.node ≡ Some place → (lines : Lines) → AllByRecursion (KeepsTo peer) lines → place_of (after_all t (Introduced place) lines) ≡ Some place
+  kept_first : (peer : Life) (place : ℕ) → index_of t peer.node ≡ Some place → (lines : Lines) → AllByRecursion (KeepsTo peer) lines → index_in (after_all t (Introduced place) lines) ≡ Some place
   kept_first peer place at [] k = refl
   kept_first peer place at (None ∷ lines) k = absurd k.0
-  kept_first peer place at (Some line ∷ lines) k = ap place_of (kept peer place at (Some line ∷ lines) k)
+  kept_first peer place at (Some line ∷ lines) k = ap index_in (kept peer place at (Some line ∷ lines) k)
 
   -- ---- a trusted node
 
@@ -171,10 +171,10 @@ module _ (t : Terms) where
       ∙ ap (λ stage. after_all t stage (Some (Hello h.peer h.version) ∷ h.more)) right_word
       ∙ ap (λ o. after_all t (introduced_at o) h.more) place.1
 
-  peers_known_at : (lines : Lines) (h : ArePeers t lines) → place_of (after_all t Silent lines) ≡ Some (place_from h.peer.node h.is_peer).0
+  peers_known_at : (lines : Lines) (h : ArePeers t lines) → index_in (after_all t Silent lines) ≡ Some (place_from h.peer.node h.is_peer).0
   peers_known_at lines h =
       let place = place_from h.peer.node h.is_peer in
-      ap place_of (introduced_then lines h) ∙ kept_first h.peer place.0 place.1 h.more h.keeps
+      ap index_in (introduced_then lines h) ∙ kept_first h.peer place.0 place.1 h.more h.keeps
 
   pub peers_are_known : (lines : Lines) → ArePeers t lines → IsKnown (after_all t Silent lines)
   peers_are_known lines h = ((place_from h.peer.node h.is_peer).0, peers_known_at lines h)
@@ -183,7 +183,7 @@ module _ (t : Terms) where
 
 module _ (t : Terms) where
   -- a line is handed up to the place of the peer that said hello
-  handed_at : (side : Side) (s : Stage) → handed_to (action side s) ≡ place_of s
+  handed_at : (side : Side) (s : Stage) → handed_to (action side s) ≡ index_in s
   handed_at (Opener to) Silent = refl
   handed_at Acceptor Silent = refl
   handed_at (Opener to) Trusted = refl
@@ -297,7 +297,7 @@ module _ (t : Terms) where
   greets side lines = (
     λ h.
         let g = greets_at side (after_all t Silent lines) h in
-        (g.0, known_are_peers t lines (g.1.0, ap place_of g.1.1), two_lines g.1.0 lines g.1.1),
+        (g.0, known_are_peers t lines (g.1.0, ap index_in g.1.1), two_lines g.1.0 lines g.1.1),
     λ h.
         ap (λ s. does_greet (last_action t s lines)) h.0
         ∙ ap (λ stage. does_greet (action Acceptor stage)) (introduced lines h.1 h.2),

@@ -9,25 +9,25 @@ use chat_change::{Buffer, lawful_buffer};
 use std::alloc::{AllocError, Global};
 use std::array;
 
-// How many conversations have a place.
-const PLACES: usize = 64;
+// How many conversations have a slot.
+const SLOTS: usize = 64;
 
 /// The buffers of late conversations, so that the messages of a conversation share one.
 ///
-/// The target of a conversation tells its place. Of two with one place the later has it.
+/// The target of a conversation tells its slot. Of two with one slot the later has it.
 #[derive(Drop)]
 pub(crate) struct KnownBuffers {
-    places: [Option<Buffer>; PLACES],
+    slots: [Option<Buffer>; SLOTS],
 }
 
-fn place_of(target: &[u8]) -> usize
-    ensures { result < PLACES }
+fn slot_of(target: &[u8]) -> usize
+    ensures { result < SLOTS }
 {
     let mut sum = 0u32;
     for byte in target {
         sum = sum.rotate_left(5) ^ u32::from(byte.to_ascii_lowercase());
     }
-    sum as usize % PLACES
+    sum as usize % SLOTS
 }
 
 // All buffers that are kept are of the session's account and network; that they are compared spares an invariant.
@@ -44,17 +44,17 @@ impl KnownBuffers {
     /// No buffers yet.
     pub(crate) fn none() -> KnownBuffers {
         KnownBuffers {
-            places: array::from_fn(|_| None),
+            slots: array::from_fn(|_| None),
         }
     }
 
-    // A clone of the buffer at that place, if it is that of the conversation.
-    fn held(&self, place: usize, home: &Home, target: &[u8]) -> Result<Option<Buffer>, AllocError>
-        requires { place < PLACES }
+    // A clone of the buffer at that slot, if it is that of the conversation.
+    fn held(&self, slot: usize, home: &Home, target: &[u8]) -> Result<Option<Buffer>, AllocError>
+        requires { slot < SLOTS }
         ensures { IfOk result (λ held. IfSome held (λ buffer. buffer
             ≡ buffer_of home.now.account home.now.network target.now)) }
     {
-        match &self.places[place] {
+        match &self.slots[slot] {
             Some(buffer) if is_buffer_of(buffer, home, target) => {
                 let buffer = buffer.try_clone()?;
                 Ok(Some(buffer))
@@ -63,7 +63,7 @@ impl KnownBuffers {
         }
     }
 
-    /// The buffer of a conversation that has one. It takes memory where the place of the conversation has
+    /// The buffer of a conversation that has one. It takes memory where the slot of the conversation has
     /// another.
     pub(crate) fn buffer_for(
         &mut self,
@@ -75,14 +75,14 @@ impl KnownBuffers {
         ensures { IfOk result (λ buffer. buffer
             ≡ buffer_of home.now.account home.now.network target.now) }
     {
-        let place = place_of(target);
-        if let Some(buffer) = self.held(place, home, target)? {
+        let slot = slot_of(target);
+        if let Some(buffer) = self.held(slot, home, target)? {
             return Ok(buffer);
         }
         let account = home.account.as_bytes();
         let buffer = lawful_buffer(alloc, account, home.network.as_bytes(), target)?;
         let kept = buffer.try_clone()?;
-        self.places[place] = Some(kept);
+        self.slots[slot] = Some(kept);
         Ok(buffer)
     }
 }

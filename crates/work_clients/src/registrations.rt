@@ -17,10 +17,10 @@ pub(crate) struct Registrations {
 }
 
 // Where the registration stands in the list, or would.
-fn place_of(list: &[Registration], registration: &Registration) -> usize {
+fn index_of(list: &[Registration], registration: &Registration) -> usize {
     match list.binary_search(registration) {
-        Ok(place) => place,
-        Err(place) => place,
+        Ok(index) => index,
+        Err(index) => index,
     }
 }
 
@@ -36,7 +36,7 @@ impl Registrations {
     pub(crate) fn enter(&mut self, registration: Registration) -> Result<(), NoMemory> {
         match self.all.binary_search(&registration) {
             Ok(_) => Ok(()),
-            Err(place) => match self.all.insert(place, registration) {
+            Err(index) => match self.all.insert(index, registration) {
                 Ok(()) => Ok(()),
                 Err(_) => Err(NoMemory),
             },
@@ -45,8 +45,8 @@ impl Registrations {
 
     /// A client isn't registered any more. It takes no memory.
     pub(crate) fn leave(&mut self, registration: Registration) {
-        if let Ok(place) = self.all.binary_search(&registration) {
-            self.all.remove(place);
+        if let Ok(index) = self.all.binary_search(&registration) {
+            self.all.remove(index);
         }
     }
 
@@ -60,10 +60,10 @@ impl Registrations {
             network,
             number: usize::MAX,
         };
-        let Some(rest) = self.all.get(place_of(&self.all, &first)..) else {
+        let Some(rest) = self.all.get(index_of(&self.all, &first)..) else {
             return &[];
         };
-        match rest.get(..place_of(rest, &last)) {
+        match rest.get(..index_of(rest, &last)) {
             Some(those) => those,
             None => rest,
         }
