@@ -334,7 +334,7 @@ impl<'a, 'b> fmt::Display for Detail<'a, 'b> {
             | Event::PeerLevel { node }
             | Event::PeerAbsent { node }
             | Event::PeerDown { node, .. } => {
-                write!(f, "{}{}", BStr::new(node), Standing(self.0))
+                write!(f, "{}{}", BStr::new(node), PeerDetail(self.0))
             }
         }
     }
@@ -342,9 +342,9 @@ impl<'a, 'b> fmt::Display for Detail<'a, 'b> {
 
 // What stands behind the name of a peer.
 #[derive(Clone, Copy)]
-struct Standing<'a, 'b>(&'b Event<'a>);
+struct PeerDetail<'a, 'b>(&'b Event<'a>);
 
-impl<'a, 'b> fmt::Display for Standing<'a, 'b> {
+impl<'a, 'b> fmt::Display for PeerDetail<'a, 'b> {
     fn fmt<W: fmt::Write>(&self, f: &mut fmt::Formatter<W>) -> fmt::Result {
         match *self.0 {
             Event::PeerGreeted { incarnation, .. } => write!(f, " (incarnation {incarnation})"),

@@ -8,11 +8,11 @@
 #![tactic(auto)]
 
 mod client_turns;
+mod entries;
 mod gated_node;
 mod marker_turns;
 mod peer_turns;
 mod server_turns;
-mod standings;
 mod starting;
 mod work_port;
 mod worker;

@@ -1,6 +1,6 @@
 //! The turns of networks' servers.
+use crate::entries::spread;
 use crate::marker_turns::tell_mark_to_all;
-use crate::standings::spread;
 use crate::work_port::{PortClients, PortServers, WorkPort};
 use bnc_ports::{Carries, Connection, Port, Reason};
 use byte_text::NoMemory;
@@ -47,8 +47,8 @@ pub(crate) fn serve_server<N: Node, X: Attachment, P: WorkPort>(
         }
     }
     put_queued(publisher, context, clients, servers, number);
-    let standing = servers.end_turn(context, number, over, has_more);
-    spread(context, clients, standing, false);
+    let update = servers.end_turn(context, number, over, has_more);
+    spread(context, clients, update, false);
     Ok(())
 }
 
@@ -129,8 +129,8 @@ fn close_server<
     number: usize,
     reason: Reason,
 ) {
-    let standing = servers.close(context, number, reason);
-    spread(context, clients, standing, false);
+    let update = servers.close(context, number, reason);
+    spread(context, clients, update, false);
 }
 
 /// Does what a client's line comes to at the network's server.
@@ -165,8 +165,8 @@ pub(crate) fn do_server<N: Node, X: Attachment, P: WorkPort>(
     number: usize,
     effects: ServerEffects,
 ) -> Result<(), WorkEnd> {
-    let standing = servers.note_entry(context, number);
-    spread(context, clients, standing, effects.has_passed_on());
+    let update = servers.note_entry(context, number);
+    spread(context, clients, update, effects.has_passed_on());
     if do_effects(publisher, context, clients, servers, number, &effects) {
         servers.recycle(number, effects);
         return tell_joined(&mut publisher.node, context, clients, servers, number);

@@ -1,10 +1,10 @@
 //! One worker: what comes, and who has something to do.
 use crate::client_turns::serve_clients;
+use crate::entries::{spread, tell_entry};
 use crate::gated_node::GatedNode;
 use crate::marker_turns::tell_mark;
 use crate::peer_turns::serve_peers;
 use crate::server_turns::{do_said, do_server, serve_server};
-use crate::standings::{spread, tell_entry};
 use crate::work_port::{PortClients, PortPeers, PortServers, WorkPort};
 use bnc_ports::{Connection, Dial, Gate, Happening, Port};
 use byte_text::NoMemory;
@@ -362,8 +362,8 @@ fn look_after_timers<N: Node, X: Attachment, P: WorkPort>(
         match timer {
             Timer::RetryNetwork(network) => servers.dial(context, network),
             Timer::QuietUpstream(number) => {
-                let standing = servers.check_quiet(context, number);
-                spread(context, clients, standing, false);
+                let update = servers.check_quiet(context, number);
+                spread(context, clients, update, false);
             }
             Timer::Unregistered(number) => {
                 clients.check_registered(context, number);

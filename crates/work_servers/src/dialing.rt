@@ -3,10 +3,10 @@ ghost use Rattle.std.specs.Prelude.{◌≡◌, [], IfOk};
 ghost use Rattle.work_servers.specs.Owing.{Begins};
 
 use crate::dialogue::Dialogue;
+use crate::entry_update::EntryUpdate;
 use crate::kind::ToServer;
 use crate::server::Server;
 use crate::servers::Servers;
-use crate::standing::Standing;
 use bnc_ports::{Carries, Connection, Dial, Event, Port, Reason};
 use byte_text::{NoMemory, Text};
 use passed_lines::{NetworkEntry, NetworkSession, ServerEffects};
@@ -168,7 +168,7 @@ impl<C: Connection> Servers<C> {
         &mut self,
         context: &mut Context<P>,
         number: usize,
-    ) -> Option<Standing> {
+    ) -> Option<EntryUpdate> {
         let until = self.connections.get(number)?.heard_at.saturating_add(QUIET);
         if until <= context.view.now {
             return self.close(context, number, Reason::Silent);
@@ -184,7 +184,7 @@ impl<C: Connection> Servers<C> {
         context: &mut Context<P>,
         number: usize,
         reason: Reason,
-    ) -> Option<Standing> {
+    ) -> Option<EntryUpdate> {
         let Server {
             dialogue,
             network,
@@ -197,6 +197,6 @@ impl<C: Connection> Servers<C> {
         put_off(context, network, reason, words_of(&session));
         drop(session);
         let entry = entry.into_down(context.view.alloc);
-        Some(Standing { network, entry })
+        Some(EntryUpdate { network, entry })
     }
 }

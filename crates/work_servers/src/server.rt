@@ -1,8 +1,8 @@
 //! One connection with the server of a network.
 use crate::dialogue::{Dialogue, Hearing};
+use crate::entry_update::is_same_entry;
 use crate::kept_line::LineRoom;
 use crate::kind::ToServer;
-use crate::standing::is_same_entry;
 use bnc_ports::{Carries, Connection, Port, Reason};
 use byte_text::Text;
 use passed_lines::{NetworkEntry, ServerEffects};

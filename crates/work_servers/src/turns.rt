@@ -1,9 +1,9 @@
 //! The turns of networks' servers: their lines, lines for them, and what is written to them.
 use crate::dialogue::Dialogue;
+use crate::entry_update::EntryUpdate;
 use crate::kind::ToServer;
 use crate::server::ServerStep;
 use crate::servers::Servers;
-use crate::standing::Standing;
 use bnc_ports::{Carries, Connection, Event, Port, Reason};
 use byte_text::NoMemory;
 use passed_lines::{Said, SayFault, ServerEffects};
@@ -104,7 +104,7 @@ impl<C: Connection> Servers<C> {
         number: usize,
         over: Option<Reason>,
         has_more: bool,
-    ) -> Option<Standing> {
+    ) -> Option<EntryUpdate> {
         match over {
             Some(reason) => self.close(context, number, reason),
             None => self.finish(context, number, has_more),
@@ -118,7 +118,7 @@ impl<C: Connection> Servers<C> {
         context: &mut Context<P>,
         number: usize,
         has_more: bool,
-    ) -> Option<Standing> {
+    ) -> Option<EntryUpdate> {
         if has_more {
             self.connections.wake(number);
         }
@@ -171,7 +171,7 @@ impl<C: Connection> Servers<C> {
         &mut self,
         context: &mut Context<P>,
         number: usize,
-    ) -> Option<Standing> {
+    ) -> Option<EntryUpdate> {
         let server = self.connections.get_mut(number)?;
         if !server.has_changed() {
             return None;
@@ -187,6 +187,6 @@ impl<C: Connection> Servers<C> {
                 entry.entry.nick(),
             );
         }
-        Some(Standing { network, entry })
+        Some(EntryUpdate { network, entry })
     }
 }

@@ -5,7 +5,7 @@ use passed_lines::NetworkEntry;
 
 /// How the session with a network's server stands from now on, which all workers are to learn.
 #[derive(Drop)]
-pub struct Standing {
+pub struct EntryUpdate {
     /// The place of the network among those of the node.
     pub network: usize,
     pub entry: NetworkEntry,

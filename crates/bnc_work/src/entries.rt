@@ -3,7 +3,7 @@ use bnc_ports::{Carries, Connection, Port};
 use client_places::Attachment;
 use passed_lines::{Mail, NetworkEntry, News, mail_others};
 use work_clients::{Clients, ToClient};
-use work_servers::Standing;
+use work_servers::EntryUpdate;
 use worker_io::Context;
 
 /// The sessions of a network learn their nick from how the session with its server stands now.
@@ -28,10 +28,10 @@ pub(crate) fn spread<
 >(
     context: &mut Context<P>,
     clients: &mut Clients<X, C>,
-    standing: Option<Standing>,
+    update: Option<EntryUpdate>,
     is_passed_on: bool,
 ) {
-    let Some(Standing { network, entry }) = standing else {
+    let Some(EntryUpdate { network, entry }) = update else {
         return;
     };
     mail_others(
