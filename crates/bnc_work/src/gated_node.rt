@@ -39,6 +39,8 @@ impl<'a, J: Naming, R: Wait + Drop, W: Wait, G: Gate> Node for GatedNode<'a, J, 
 
     ghost may_add = { λ _ _. Unit {0} };
 
+    ghost put_count = { λ n. n.taker.pass.count };
+
     type Reader = Pass<J>;
 
     fn reader(&mut self) -> &mut Pass<J> {

@@ -26,7 +26,7 @@ fn is_further(now: Option<u64>, before: Option<u64>) -> bool {
     }
 }
 
-fn has_buffer(marks: &[MarkAhead], buffer: &Buffer) -> bool {
+fn has_mark_of(marks: &[MarkAhead], buffer: &Buffer) -> bool {
     marks.iter().any(|mark| mark.buffer.is_same(buffer))
 }
 
@@ -46,7 +46,7 @@ fn note_ahead<N: Node>(
     at: u64,
 ) -> Result<(), AllocError> {
     let before = mark_now(node, buffer);
-    if is_further(Some(at), before) && !has_buffer(ahead, buffer) {
+    if is_further(Some(at), before) && !has_mark_of(ahead, buffer) {
         let buffer = buffer.try_clone()?;
         ahead.push(MarkAhead { buffer, before })?;
     }

@@ -1,5 +1,5 @@
 //! What a worker asks of its node.
-ghost use Rattle.std.specs.Prelude.{◌≡◌, ◌⊎◌, ◌++◌, length, List, ℕ, Some, IsTrue, IsFalse, IfSome, IfOk, OnErr};
+ghost use Rattle.std.specs.Prelude.{◌≡◌, ◌⊎◌, ◌++◌, ◌+◌, length, List, ℕ, Some, IsTrue, IsFalse, IfSome, IfOk, OnErr};
 ghost use Rattle.chat_change.specs.declared.change.Change.{Change as Piece};
 ghost use Rattle.chat_history.specs.Growth.{AfterOthers};
 ghost use Rattle.chat_history.specs.History.{mark};
@@ -41,6 +41,9 @@ pub trait Node: Wait + Drop {
     /// What others may give it meanwhile.
     ghost may_add: { Self → List Piece → Type 0 };
 
+    /// How many changes were put by it, which the node has published or that wait for it.
+    ghost put_count: { Self → ℕ };
+
     /// What the worker reads by.
     type Reader: Past + Peek + Source;
 
@@ -64,7 +67,8 @@ pub trait Node: Wait + Drop {
             (λ start all. holds self.new start (all ++ changes.now)) }
         ensures kept { IsFalse result.is_published → AfterOthers holds may_add self.old
             (λ start all. holds self.new start all) }
-        ensures count { IsTrue result.is_published → result.count ≡ length changes.now };
+        ensures count { IsTrue result.is_published → result.count ≡ length changes.now }
+        ensures counted { put_count self.new ≡ put_count self.old + result.count };
 
     /// Takes what a peer sent over that connection, once the two have greeted each other ([`Peers::arrive`]).
     fn take<C: Connection, P: Port>(
