@@ -107,6 +107,23 @@ def strangers_who_come_all_at_once_keep_nobody_out(fixture):
 
 
 @test
+def who_has_said_who_it_is_stays(fixture):
+    """A client has connected and sent its lines by the time that a node comes to accept it, and so have 100 strangers behind it,
+    who say nothing. There are three places. It is the first to be asked to go, and what it sent is read before that."""
+    node = Node(fixture, servers=[NOBODY], places=3).begin()
+    node.process.send_signal(signal.SIGSTOP)
+    try:
+        client = node.client("a client before them")
+        client.say("PASS s3cret", "NICK al", "USER demo/net 0 * :Al", "PING here")
+        strangers = [connect(fixture, node.clients) for _ in range(100)]
+    finally:
+        node.process.send_signal(signal.SIGCONT)
+    client.hear(*greeting(), ":bnc.example PONG bnc.example :here")
+    for stranger in strangers:
+        stranger.close()
+
+
+@test
 def who_has_waited_longest_gives_way(fixture):
     """And nobody who is registered does: where each place is such a client's, the next one is closed."""
     node = Node(fixture, servers=[NOBODY], places=3).begin()

@@ -278,7 +278,7 @@ fn act_on<N: Node, X: Attachment, P: WorkPort>(
         Happening::Client { number, ticket } => {
             clients.admit(context, *number, *ticket);
         }
-        Happening::Leave { ticket } => clients.give_way(context, *ticket),
+        Happening::Leave { ticket } => clients.give_way(*ticket),
         Happening::Peer { number } => peers.begin(context, *number, None),
         Happening::Opened { number, what } => match what {
             Dial::Network(network) => {

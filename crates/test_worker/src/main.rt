@@ -33,6 +33,7 @@
 //!     ahead 60000         the wall clock alone is set ahead by so many milliseconds
 //!     back 60000          it is set back by so many
 //!     mail ..             another worker tells something
+//!     leave 1             others wait for the place of the client that came under that ticket
 //!     behind 2000         so much mail waits for the other worker from now on
 //!     together 3          the next three acts happen at once
 //!     fail                the port fails

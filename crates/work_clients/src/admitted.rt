@@ -15,6 +15,8 @@ pub struct Admitted<X: Attachment, C: Connection> {
     pub(crate) turned_away: TurnedAway,
     /// The ticket under which it came.
     pub(crate) ticket: u64,
+    /// Whether others wait for its place.
+    pub(crate) is_awaited: bool,
 }
 
 impl<X: Attachment, C: Connection> Admitted<X, C> {
@@ -26,7 +28,13 @@ impl<X: Attachment, C: Connection> Admitted<X, C> {
             closing: Closing::Open,
             turned_away: TurnedAway::No,
             ticket,
+            is_awaited: false,
         }
+    }
+
+    /// Whether it goes now that it had its turn: others wait for its place, and it isn't registered.
+    pub(crate) fn gives_way(&self) -> bool {
+        self.is_awaited && self.network.is_none()
     }
 
     /// Whether the session is told of read markers of the network's account.

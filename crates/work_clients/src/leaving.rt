@@ -1,20 +1,19 @@
 //! Clients that give way to others before they are registered.
 use crate::clients::Clients;
-use bnc_ports::{Carries, Connection, Reason};
-use client_connection::ToClient;
+use bnc_ports::Connection;
 use client_places::Attachment;
-use worker_io::Context;
 
 impl<X: Attachment, C: Connection> Clients<X, C> {
-    /// The client that came under the ticket is closed, if it isn't registered: others wait for its place.
-    pub fn give_way<P: Carries<ToClient, Connection = C>>(
-        &mut self,
-        context: &mut Context<P>,
-        ticket: u64,
-    ) {
-        if let Some(number) = self.unregistered(ticket) {
-            self.close(context, number, Reason::GaveWay);
+    /// Others wait for the place of the client that came under the ticket. If it isn't registered it has one more turn, in
+    /// which what it has sent by now is read, and is closed then, unless that registers it.
+    pub fn give_way(&mut self, ticket: u64) {
+        let Some(number) = self.unregistered(ticket) else {
+            return;
+        };
+        if let Some(admitted) = self.connections.get_mut(number) {
+            admitted.is_awaited = true;
         }
+        self.connections.mark(number, true, false);
     }
 
     // The connection of the client that came under the ticket, if it isn't registered.
@@ -26,5 +25,13 @@ impl<X: Attachment, C: Connection> Clients<X, C> {
             }
         }
         None
+    }
+
+    // Whether the client goes now that it had its turn.
+    pub(crate) fn gives_way(&self, number: usize) -> bool {
+        match self.connections.get(number) {
+            Some(admitted) => admitted.gives_way(),
+            None => false,
+        }
     }
 }

@@ -86,14 +86,19 @@ impl<X: Attachment, C: Connection> Clients<X, C> {
         }
     }
 
-    /// Writes what the client's turn came to. Further lines of it may be there already.
+    /// Writes what the client's turn came to. Further lines of it may be there already. Whose place others wait for is closed
+    /// now, if it isn't registered.
     pub fn finish<P: Carries<ToClient, Connection = C>>(
         &mut self,
         context: &mut Context<P>,
         number: usize,
         has_more: bool,
     ) {
-        let reason = match self.write_out(context, number) {
+        let written = self.write_out(context, number);
+        if self.gives_way(number) {
+            return self.close(context, number, Reason::GaveWay);
+        }
+        let reason = match written {
             Pumped::All if !has_more => return,
             Pumped::All | Pumped::Some => return self.connections.wake(number),
             Pumped::Blocked => return,
