@@ -56,37 +56,40 @@ def a_connection_whose_far_end_is_gone_is_noticed(fixture):
 PACKETS, MARKERS, FEW, MANY = 40, 50, 250, 30000
 
 
+class Taking:
+    """A node with a client and a peer, which has taken so many messages of that peer."""
+
+    def __init__(self, fixture, messages):
+        # (one of an older version is told nothing else but acknowledgements)
+        self.node = Node(fixture, peers=[("n0", NOBODY, ("version", 2))], servers=[NOBODY], workers=1).begin()
+        self.node.client().register("draft/read-marker")
+        self.peer, self.front = Peer.dial(self.node, version=2, told=2).greet(), 0
+        for first in range(0, messages, 250):
+            self.give([f"C POST demo net #a m{first + number} {number} P #a bob!b@h :hi" for number in range(250)])
+
+    def give(self, changes):
+        self.peer.give(self.front, *changes)
+        self.front += len(changes)
+        self.peer.hear_acknowledged(self.front)
+
+    def seconds(self):
+        """The processor time that packets of markers take."""
+        before = self.node.processor_seconds()
+        for _ in range(PACKETS):
+            self.give([f"C MARK demo net #m{number} {self.front + 1}" for number in range(MARKERS)])
+        return self.node.processor_seconds() - before
+
+
 @test
 def a_packet_of_markers_costs_the_same_however_much_is_held(fixture):
     """Which of them are new is found by their conversations. Beside 30,000 messages it takes less than twice the processor time."""
-    # (one of an older version is told nothing else but acknowledgements)
-    node = Node(fixture, peers=[("n0", NOBODY, ("version", 2))], servers=[NOBODY], workers=1).begin()
-    node.client().register("draft/read-marker")
-    peer, front = Peer.dial(node, version=2, told=2).greet(), 0
-
-    def give(changes):
-        nonlocal front
-        peer.give(front, *changes)
-        front += len(changes)
-        peer.hear_acknowledged(front)
-
-    def hold(messages):
-        for first in range(0, messages, 250):
-            give([f"C POST demo net #a m{front + number} {number} P #a bob!b@h :hi" for number in range(250)])
-
-    def seconds():
-        before = node.processor_seconds()
-        for _ in range(PACKETS):
-            give([f"C MARK demo net #m{number} {front + 1}" for number in range(MARKERS)])
-        return node.processor_seconds() - before
-
-    hold(FEW)
-    few = min(seconds() for _ in range(3))
-    hold(MANY)
-    many = min(seconds() for _ in range(3))
-    fixture.notes.append(f"{many / few:.2f} times the time beside {FEW} messages")
-    if many > 2 * few:
-        raise Failed(f"{PACKETS} packets take {many:.4f} seconds beside {MANY} messages, and {few:.4f} beside {FEW}")
+    few, many = Taking(fixture, FEW), Taking(fixture, MANY)
+    # (by turns, since the machine may be slower for a while)
+    times = [(few.seconds(), many.seconds()) for _ in range(20)]
+    least, most = min(time for time, _ in times), min(time for _, time in times)
+    fixture.notes.append(f"{most / least:.2f} times the time beside {FEW} messages")
+    if most > 2 * least:
+        raise Failed(f"{PACKETS} packets take {most:.4f} seconds beside {MANY} messages, and {least:.4f} beside {FEW}")
 
 
 # How many messages there are, how many seconds lie between two of them, and the seconds after which a minute is over.
