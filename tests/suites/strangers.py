@@ -150,13 +150,31 @@ def a_peer_says_hello_while_strangers_stay_at_its_door(fixture):
     node = Node(fixture, peers=[("n0", NOBODY)]).begin()
     strangers = []
     for number in range(50):
-        # (who came first goes by milliseconds)
-        time.sleep(0.005)
         strangers.append(Connection(fixture, connect(fixture, node.peers), f"stranger {number}"))
         if number >= 10:
             strangers[number - 10].hear_end()
     Peer.dial(node).greet()
     node.wait_for("peer greeted: n0")
+
+
+@test
+def a_peer_that_has_said_hello_stays(fixture):
+    """It has connected and said hello by the time that a node comes to accept it, and so have 100 strangers behind it, who say
+    nothing. There are ten of them at most. It is the first to make way, and what it sent is read before that."""
+    node = Node(fixture, peers=[("n0", NOBODY)]).begin()
+    node.process.send_signal(signal.SIGSTOP)
+    try:
+        peer = Peer.dial(node)
+        peer.say("W green", peer.hello())
+        strangers = [connect(fixture, node.peers) for _ in range(100)]
+    finally:
+        node.process.send_signal(signal.SIGCONT)
+    peer.hear("W green")
+    peer.hear_hello()
+    peer.give(0, "C MARK demo net #a 5000")
+    peer.hear_acknowledged(1)
+    for stranger in strangers:
+        stranger.close()
 
 
 @test

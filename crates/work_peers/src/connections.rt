@@ -19,7 +19,7 @@ impl<C: Connection> Peers<C> {
         // Where the port gives a number again, the connection that bore it before is closed.
         self.close(context, number, Reason::Replaced);
         if dialed.is_none() {
-            self.make_way(context);
+            self.make_way();
         }
         let Some(connection) = context.port.open(number) else {
             return match dialed {

@@ -22,6 +22,8 @@ pub struct Peer<C: Connection> {
     pub(crate) is_judged: bool,
     /// Whether the operator was told that the peer knows a later life of this node.
     pub(crate) is_behind: bool,
+    /// Whether it is to make way for others.
+    pub(crate) is_awaited: bool,
 }
 
 impl<C: Connection> Peer<C> {
@@ -46,6 +48,7 @@ impl<C: Connection> Peer<C> {
             heard_at: view.now,
             is_judged: false,
             is_behind: false,
+            is_awaited: false,
         })
     }
 
@@ -57,6 +60,11 @@ impl<C: Connection> Peer<C> {
     /// Whether the other end opened it, and no peer has said hello over it.
     pub(crate) fn is_stranger(&self) -> bool {
         self.dialed.is_none() && self.talk.noted().is_none()
+    }
+
+    /// Whether it goes now that it had its turn: it is to make way for others, and is a stranger still.
+    pub(crate) fn gives_way(&self) -> bool {
+        self.is_awaited && self.is_stranger()
     }
 
     /// The peer said hello, at that moment in milliseconds.

@@ -1,7 +1,6 @@
 //! Strangers at the peers' door: those who connected and haven't said hello as a peer.
 use crate::peers::Peers;
-use bnc_ports::{Carries, Connection, Event, Port, Reason};
-use peer_connection::ToPeer;
+use bnc_ports::{Connection, Event, Port, Reason};
 use std::net::SocketAddr;
 use worker_io::Context;
 
@@ -9,28 +8,39 @@ use worker_io::Context;
 const SPARE: usize = 8;
 
 impl<C: Connection> Peers<C> {
-    /// There is to be one more stranger. Where there are too many, the one that came first is closed.
-    pub(crate) fn make_way<P: Carries<ToPeer, Connection = C>>(
-        &mut self,
-        context: &mut Context<P>,
-    ) {
+    /// There is to be one more stranger. Where there are too many, the one that came first has one more turn, in which what it
+    /// has sent by now is read, and is closed then, unless it said hello by that.
+    pub(crate) fn make_way(&mut self) {
         let most = self.records.len().saturating_mul(2).saturating_add(SPARE);
         let (count, first) = self.strangers();
-        if let Some(number) = first {
-            if count >= most {
-                self.close(context, number, Reason::GaveWay);
-            }
+        let Some(number) = first else {
+            return;
+        };
+        if count < most {
+            return;
+        }
+        if let Some(peer) = self.connections.get_mut(number) {
+            peer.is_awaited = true;
+        }
+        self.connections.mark(number, true, false);
+    }
+
+    // Whether the connection goes now that it had its turn.
+    pub(crate) fn gives_way(&self, number: usize) -> bool {
+        match self.connections.get(number) {
+            Some(peer) => peer.gives_way(),
+            None => false,
         }
     }
 
-    // How many strangers there are, and who of them came first.
+    // How many strangers there are that aren't to make way, and who of them came first.
     fn strangers(&self) -> (usize, Option<usize>) {
         let mut count: usize = 0;
         let mut first = None;
         let mut least = u64::MAX;
         for (number, entry) in self.connections.iter() {
             let peer = &entry.served;
-            if !peer.is_stranger() {
+            if !peer.is_stranger() || peer.is_awaited {
                 continue;
             }
             count = count.saturating_add(1);

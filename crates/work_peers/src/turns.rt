@@ -107,13 +107,16 @@ impl<C: Connection> Peers<C> {
     }
 
     /// Sends what waits for the peer, by one write. Further messages of it may be there already. The connection is closed where
-    /// nothing can be sent, and where it is lost.
+    /// nothing can be sent, where it is lost, and where it is to make way and no peer said hello over it.
     pub fn finish<P: Carries<ToPeer, Connection = C>>(
         &mut self,
         context: &mut Context<P>,
         number: usize,
         has_more: bool,
     ) {
+        if self.gives_way(number) {
+            return self.close(context, number, Reason::GaveWay);
+        }
         if has_more {
             self.connections.wake(number);
         }
