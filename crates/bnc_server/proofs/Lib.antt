@@ -11,3 +11,4 @@ mod ScheduleLemmas
 mod ScheduleHelloLemmas
 mod ScheduleStartLemmas
 mod ScheduleLinesLemmas
+mod ReplayLemmas

@@ -18,7 +18,7 @@ use Rattle.chat_history.specs.History.{norm}
 use Rattle.chat_history.specs.Lookups.{IsShown}
 use Rattle.chat_history.specs.StateValue.{StateValue, HasTaken, state_after}
 use Rattle.chat_history.specs.Visible.{visible}
-use Rattle.client_directory.specs.Directory.{Directory}
+use Rattle.cluster_directory.specs.Directory.{Directory}
 use Rattle.client_session.specs.Lookup.{MessageName, name_sought}
 use Rattle.client_session.specs.Session.{step}
 use Rattle.client_session.specs.Step.{Step}

@@ -18,14 +18,14 @@ use Rattle.chat_history.proofs.CallerLemmas.{norm_left, norm_of_set}
 use Rattle.chat_past.specs.Answers.{Answer}
 use Rattle.chat_query.specs.declared.facts.Facts.{Facts}
 use Rattle.chat_past.proofs.CallerLemmas.{same_answer}
-use Rattle.client_directory.specs.Directory.{Directory}
+use Rattle.cluster_directory.specs.Directory.{Directory}
 use Rattle.client_session.specs.Lookup.{MessageName, name_sought}
 use Rattle.client_session.specs.Session.{step, too_long, facts_in, session_after}
 use Rattle.client_session.specs.Step.{Step}
 use Rattle.client_session.specs.declared.effect.Effect.{Effect}
 use Rattle.client_session.specs.declared.effect.Effect.TheVariants.{Send, Put, Ask, Upstream, Close}
 use Rattle.client_session.specs.declared.stage.Stage.TheVariants.{Registered}
-use Rattle.node_terms.specs.Life.{Life}
+use Rattle.cluster_directory.specs.Life.{Life}
 use Rattle.bnc_server.specs.Node.{Node, Reply, after_taking, with_session, answer_to, reply_to_effect, reply_to_effects, reply_to_step, is_shown, step_of, reply_to_line, reply_to_long_line}
 use Rattle.bnc_server.specs.Request.{Request, of_change, of_command, of_client, over_long, request_of}
 use Rattle.bnc_server.specs.Command.{select, exchange, lose, hold_back, hand_over, restart, bad_form}

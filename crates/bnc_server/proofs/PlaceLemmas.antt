@@ -6,10 +6,10 @@ use Rattle.std.proofs.lemmas.List.Edits.{map_over_more}
 use Rattle.std.proofs.Math.ListN.{length-set}
 use Rattle.chat_query.specs.declared.facts.Facts.{Facts}
 use Rattle.client_session.specs.declared.stage.Stage.TheVariants.{Registered}
-use Rattle.node_terms.specs.Life.{Life}
+use Rattle.cluster_directory.specs.Life.{Life}
 use Rattle.peer_lines.specs.Packet.{Ack}
-use Rattle.node_terms.specs.declared.fault.LinkFault.{LinkFault}
-use Rattle.node_terms.specs.declared.fault.LinkFault.TheVariants.{BadForm, WrongLife, AckTooHigh, NoMemory, NotTaken, NoEntry}
+use Rattle.cluster_directory.specs.declared.fault.LinkFault.{LinkFault}
+use Rattle.cluster_directory.specs.declared.fault.LinkFault.TheVariants.{BadForm, WrongLife, AckTooHigh, NoMemory, NotTaken, NoEntry}
 use Rattle.bnc_server.specs.Node.{Node}
 use Rattle.bnc_server.specs.Links.{new_node, hearing, ack_answer, late_ack}
 use Rattle.bnc_server.specs.World.{World, no_node, node_at, with_node, refusal_of, ack_text, taking_ack, life_of, lives_with, after_restart}

@@ -17,10 +17,10 @@ use Rattle.chat_past.specs.Answers.{answer_of}
 use Rattle.chat_query.proofs.CallerLemmas.{target_word}
 use Rattle.chat_past.proofs.CallerLemmas.{answer_lines}
 use Rattle.change_lines.specs.declared.fault.ChangeLineFault.TheVariants.{BadForm, BadField, NoMemory}
-use Rattle.node_terms.specs.Life.{Life}
+use Rattle.cluster_directory.specs.Life.{Life}
 use Rattle.peer_lines.specs.Packet.{Packet, Ack}
-use Rattle.node_terms.specs.declared.fault.LinkFault.{LinkFault}
-use Rattle.node_terms.specs.declared.fault.LinkFault.TheVariants.{WrongLife, AckTooHigh, NoEntry, NotTaken, NoMemory as NoRoom, BadForm as NoPeerLine}
+use Rattle.cluster_directory.specs.declared.fault.LinkFault.{LinkFault}
+use Rattle.cluster_directory.specs.declared.fault.LinkFault.TheVariants.{WrongLife, AckTooHigh, NoEntry, NotTaken, NoMemory as NoRoom, BadForm as NoPeerLine}
 use Rattle.client_session.specs.Session.{facts_in, too_long}
 use Rattle.client_session.specs.Step.{Step}
 use Rattle.client_session.specs.declared.effect.Effect.{Effect}

@@ -4,8 +4,8 @@ use Rattle.std.proofs.Common.{◌≡◌, ◌≢◌, ℕ, zero, suc, ◌+◌, ◌
 use Rattle.std.specs.Prelude.{◌==◌}
 use Rattle.std.specs.List.{list_any}
 use Rattle.std.proofs.lemmas.List.{get_or-set_same, get_or-set_other, length-set, get_or-map, length-map}
-use Rattle.node_terms.specs.Life.{Life}
-use Rattle.node_terms.specs.declared.version.TheConstants.Version.{OWN}
+use Rattle.cluster_directory.specs.Life.{Life}
+use Rattle.cluster_directory.specs.declared.version.TheConstants.Version.{OWN}
 use Rattle.gossip_link.specs.Peer.{unheard, after_hello}
 use Rattle.gossip_link.specs.Cluster as cluster
 use Rattle.gossip_link.specs.Cluster.{with_value, has_lived}

@@ -9,8 +9,8 @@ use Rattle.std.proofs.lemmas.List.Elements.{Contains-append_right}
 use Rattle.chat_change.specs.declared.change.Change.{Change}
 use Rattle.chat_history.specs.Numbering.{delta}
 use Rattle.peer_lines.specs.Packet.{Packet, Ack}
-use Rattle.node_terms.specs.Names.{same_name}
-use Rattle.node_terms.specs.declared.version.TheConstants.Version.{OWN}
+use Rattle.cluster_directory.specs.Names.{same_name}
+use Rattle.cluster_directory.specs.declared.version.TheConstants.Version.{OWN}
 use Rattle.gossip_link.specs.Link.{Link}
 use Rattle.gossip_link.specs.Peer.{Peer, packet_of, after_packet as after_packet_sent, after_make, packet_is_mine, ack_of as ack_of_packet, after_ack}
 use Rattle.gossip_link.specs.Cluster as cluster

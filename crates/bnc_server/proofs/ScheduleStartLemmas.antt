@@ -4,9 +4,9 @@ use Rattle.std.specs.Prelude.{◌==◌, nat_lt, nat_le, ⊤}
 use Rattle.std.proofs.lemmas.Bool.{and_parts, not-true, true≢false}
 use Rattle.std.proofs.lemmas.Bool.Decides.{nat_tests}
 use Rattle.std.proofs.lemmas.List.{get_or_past}
-use Rattle.node_terms.specs.Life.{Life}
+use Rattle.cluster_directory.specs.Life.{Life}
 use Rattle.peer_lines.specs.Packet.{Packet, Ack}
-use Rattle.node_terms.specs.declared.version.TheConstants.Version.{OWN}
+use Rattle.cluster_directory.specs.declared.version.TheConstants.Version.{OWN}
 use Rattle.gossip_link.specs.Peer.{unheard, after_hello}
 use Rattle.gossip_link.specs.Cluster as cluster
 use Rattle.gossip_link.specs.Cluster.{has_lived}

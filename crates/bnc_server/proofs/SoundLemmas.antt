@@ -27,13 +27,13 @@ use Rattle.change_lines.specs.ChangeLine.{read_change}
 use Rattle.change_lines.specs.declared.fault.ChangeLineFault.{ChangeLineFault}
 use Rattle.change_lines.proofs.CallerLemmas.{one_spelling}
 use Rattle.chat_history.specs.Numbering.{Delta, delta}
-use Rattle.node_terms.specs.Life.{Life}
+use Rattle.cluster_directory.specs.Life.{Life}
 use Rattle.peer_lines.specs.Packet.{Packet, Ack}
-use Rattle.node_terms.specs.Version.{is_lower}
-use Rattle.node_terms.specs.declared.version.TheConstants.Version.{OWN}
+use Rattle.cluster_directory.specs.Version.{is_lower}
+use Rattle.cluster_directory.specs.declared.version.TheConstants.Version.{OWN}
 use Rattle.gossip_link.specs.declared.link.Heard.{Heard}
 use Rattle.gossip_link.specs.Peer.{packet_of, packet_is_mine}
-use Rattle.client_directory.specs.Directory.{Directory, Account, Network, entry_if, entry_of, entry_of_account, entry_in}
+use Rattle.cluster_directory.specs.Directory.{Directory, Account, Network, entry_if, entry_of, entry_of_account, entry_in}
 use Rattle.client_session.specs.Session.{session_after}
 use Rattle.client_session.specs.declared.stage.Stage.{Stage}
 use Rattle.client_session.specs.declared.stage.Stage.TheVariants as stage

@@ -7,10 +7,10 @@ use Rattle.chat_state.specs.declared.faults.StateFault.{StateFault}
 use Rattle.chat_state.specs.declared.faults.StateFault.TheVariants as state_fault
 use Rattle.change_lines.specs.declared.fault.ChangeLineFault.{ChangeLineFault}
 use Rattle.change_lines.specs.declared.fault.ChangeLineFault.TheVariants as line_fault
-use Rattle.client_directory.specs.Directory.{Directory}
+use Rattle.cluster_directory.specs.Directory.{Directory}
 use Rattle.client_session.specs.declared.stage.Stage.{Stage}
 use Rattle.chat_query.specs.declared.facts.Facts.{Facts}
-use Rattle.node_terms.specs.Life.{Life}
+use Rattle.cluster_directory.specs.Life.{Life}
 use Rattle.peer_lines.specs.Packet.{Ack}
 use Rattle.gossip_link.specs.Link.{Link}
 use Rattle.bnc_server.specs.Node.{Node}

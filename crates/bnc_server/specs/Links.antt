@@ -1,11 +1,11 @@
 -- What a node sends the others and takes from them, over its link with each.
 use Rattle.std.specs.Prelude.{ℕ, Option, None, Some, List, [], map, Result, Ok, Err, slice_index_or, slice_set, if◌then◌else◌}
 use Rattle.chat_history.specs.Numbering.{delta}
-use Rattle.node_terms.specs.Life.{Life}
+use Rattle.cluster_directory.specs.Life.{Life}
 use Rattle.peer_lines.specs.Packet.{Packet, Ack}
-use Rattle.node_terms.specs.declared.version.TheConstants.Version.{OWN}
-use Rattle.node_terms.specs.declared.fault.LinkFault.{LinkFault}
-use Rattle.node_terms.specs.declared.fault.LinkFault.TheVariants.{WrongLife, AckTooHigh}
+use Rattle.cluster_directory.specs.declared.version.TheConstants.Version.{OWN}
+use Rattle.cluster_directory.specs.declared.fault.LinkFault.{LinkFault}
+use Rattle.cluster_directory.specs.declared.fault.LinkFault.TheVariants.{WrongLife, AckTooHigh}
 use Rattle.gossip_link.specs.Link.{Link}
 use Rattle.gossip_link.specs.Peer.{Peer, unheard, after_hello, packet_of, after_make, packet_is_mine, ack_of, ack_is_mine, ack_is_too_high, after_ack}
 use Rattle.client_session.specs.declared.stage.Stage.{Stage}

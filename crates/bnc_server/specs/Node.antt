@@ -12,14 +12,14 @@ use Rattle.chat_history.specs.Visible.{visible}
 use Rattle.chat_past.specs.Answers.{Answer, answer_of}
 use Rattle.chat_query.specs.declared.facts.Facts.{Facts}
 use Rattle.chat_query.specs.declared.facts.Answered.{Answered}
-use Rattle.client_directory.specs.Directory.{Directory}
+use Rattle.cluster_directory.specs.Directory.{Directory}
 use Rattle.client_session.specs.Lookup.{MessageName, name_sought}
 use Rattle.client_session.specs.Session.{step, too_long, facts_in, session_after}
 use Rattle.client_session.specs.Step.{Step}
 use Rattle.client_session.specs.declared.effect.Effect.{Effect}
 use Rattle.client_session.specs.declared.effect.Effect.TheVariants.{Send, Put, Ask, Upstream, Close}
 use Rattle.client_session.specs.declared.stage.Stage.{Stage}
-use Rattle.node_terms.specs.Life.{Life}
+use Rattle.cluster_directory.specs.Life.{Life}
 use Rattle.peer_lines.specs.Packet.{Ack}
 use Rattle.gossip_link.specs.Link.{Link}
 

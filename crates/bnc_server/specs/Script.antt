@@ -6,11 +6,11 @@ use Rattle.irc_caps.specs.CapSet.{all_capabilities}
 use Rattle.chat_query.specs.declared.facts.Facts.{Facts}
 use Rattle.change_lines.specs.declared.fault.ChangeLineFault.{ChangeLineFault}
 use Rattle.change_lines.specs.declared.fault.ChangeLineFault.TheVariants.{BadForm}
-use Rattle.client_directory.specs.Directory.{Directory}
+use Rattle.cluster_directory.specs.Directory.{Directory}
 use Rattle.client_session.specs.declared.stage.Stage.{Stage}
 use Rattle.client_session.specs.declared.stage.Stage.TheVariants.{Registered}
 use Rattle.chat_change.specs.declared.change.Change.{Change}
-use Rattle.node_terms.specs.Life.{Life}
+use Rattle.cluster_directory.specs.Life.{Life}
 use Rattle.peer_lines.specs.Packet.{Ack}
 use Rattle.bnc_server.specs.Request.{Request, of_change, of_command, of_client, over_long, request_of}
 use Rattle.bnc_server.specs.Links.{new_node}

@@ -2,12 +2,12 @@
 use Rattle.std.specs.Prelude.{ℕ, ◌+◌, Option, None, Some, List, [], ◌++◌, codes, map, Result, Ok, Err, slice_index_or, slice_set}
 use Rattle.byte_text.specs.Bytes.{line_ending}
 use Rattle.chat_query.specs.declared.facts.Facts.{Facts}
-use Rattle.client_directory.specs.Directory.{Directory}
+use Rattle.cluster_directory.specs.Directory.{Directory}
 use Rattle.client_session.specs.declared.stage.Stage.TheVariants.{Registered, Closed}
-use Rattle.node_terms.specs.Life.{Life}
+use Rattle.cluster_directory.specs.Life.{Life}
 use Rattle.peer_lines.specs.Packet.{Packet, Ack}
-use Rattle.node_terms.specs.declared.fault.LinkFault.{LinkFault}
-use Rattle.node_terms.specs.declared.fault.LinkFault.TheVariants.{WrongLife}
+use Rattle.cluster_directory.specs.declared.fault.LinkFault.{LinkFault}
+use Rattle.cluster_directory.specs.declared.fault.LinkFault.TheVariants.{WrongLife}
 use Rattle.bnc_server.specs.Node.{Node}
 use Rattle.bnc_server.specs.Command.{NodeCommand, select, exchange, lose, hold_back, hand_over, restart, bad_form}
 use Rattle.bnc_server.specs.Links.{new_node, packet_for, after_making, ack_for, after_packet, ack_answer, after_ack_of, late_ack, with_late, hearing}

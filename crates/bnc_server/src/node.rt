@@ -5,15 +5,12 @@ ghost use Rattle.chat_history.specs.StateValue.{greatest_number, state_after};
 ghost use Rattle.client_session.specs.declared.stage.Stage.TheVariants.{Registered};
 ghost use Rattle.client_session.specs.Session.{too_long, facts_in};
 ghost use Rattle.bnc_server.specs.Node as spec;
-ghost use Rattle.bnc_server.specs.Links.{link_with, new_node, hearing};
-ghost use Rattle.bnc_server.specs.Links.{packet_for, after_making, ack_for, after_packet};
+ghost use Rattle.bnc_server.specs.Links.{link_with, new_node, hearing, packet_for, after_making, ack_for, after_packet};
 ghost use Rattle.bnc_server.specs.Links.{ack_answer, after_ack_of, late_ack, with_late};
 ghost use Rattle.bnc_server.specs.Script.{none_late};
 ghost use Rattle.bnc_server.specs.Schedule.{node_count};
-ghost use Rattle.bnc_server.specs.HeldNode.{HeldNode, held_node, after_late};
-ghost use Rattle.bnc_server.specs.HeldNode.{WritesTextOf, Becomes, EndsBy, of_state};
-ghost use Rattle.bnc_server.specs.Faults.{MayLack, MayRefuse, MayCutShort};
-ghost use Rattle.bnc_server.specs.Faults.{MayStop, MayStopIn, MayEndStep};
+ghost use Rattle.bnc_server.specs.HeldNode.{HeldNode, held_node, after_late, WritesTextOf, Becomes, EndsBy, of_state};
+ghost use Rattle.bnc_server.specs.Faults.{MayLack, MayRefuse, MayCutShort, MayStop, MayStopIn, MayEndStep};
 
 use crate::fault::ReplayFault;
 use crate::reply::put_text;

@@ -8,8 +8,7 @@ ghost use Rattle.bnc_server.specs.Script.{start, script, text_of};
 ghost use Rattle.bnc_server.specs.World as worlds;
 ghost use Rattle.bnc_server.specs.Ending.{Ends};
 ghost use Rattle.bnc_server.specs.HeldNode.{held_world, WritesTextOf, Becomes, EndsBy};
-ghost use Rattle.bnc_server.specs.Progress.{text_of_next, world_after_next, MayEndNext};
-ghost use Rattle.bnc_server.specs.Progress.{IsDrained, Serves, ServesAndSends};
+ghost use Rattle.bnc_server.specs.Progress.{text_of_next, world_after_next, MayEndNext, IsDrained, Serves, ServesAndSends};
 
 use crate::fault::ReplayFault;
 use crate::world::World;

@@ -5,16 +5,14 @@ ghost use Rattle.byte_text.specs.Writes.{Writes};
 ghost use Rattle.change_lines.specs.ChangeLine.{read_change};
 ghost use Rattle.client_session.specs.declared.stage.Stage.TheVariants.{Registered};
 ghost use Rattle.bnc_server.specs.Command as commands;
-ghost use Rattle.bnc_server.specs.Request.{of_change, of_client, over_long};
-ghost use Rattle.bnc_server.specs.Request.{is_change_line, request_in};
+ghost use Rattle.bnc_server.specs.Request.{of_change, of_client, over_long, is_change_line, request_in};
 ghost use Rattle.bnc_server.specs.Links.{new_node};
 ghost use Rattle.bnc_server.specs.World as worlds;
 ghost use Rattle.bnc_server.specs.Script as spec;
 ghost use Rattle.bnc_server.specs.Schedule.{node_count, ArePlaces};
 ghost use Rattle.bnc_server.specs.HeldNode.{held_node, held_world, value_of, HasNodes};
 ghost use Rattle.bnc_server.specs.HeldNode.{WritesTextOf, Becomes, EndsBy, IsFaultOf};
-ghost use Rattle.bnc_server.specs.Faults.{MayRefuse, MayStopSending};
-ghost use Rattle.bnc_server.specs.Faults.{MayEnd, MayEndCommand, greatest_incarnation};
+ghost use Rattle.bnc_server.specs.Faults.{MayRefuse, MayStopSending, MayEnd, MayEndCommand, greatest_incarnation};
 
 use crate::command::{NodeCommand, command_of};
 use crate::fault::ReplayFault;

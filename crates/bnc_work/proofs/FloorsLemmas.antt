@@ -3,7 +3,7 @@ use Rattle.std.proofs.Common.{◌≡◌, ℕ, List, sym, subst, Result, Ok, Err,
 use Rattle.chat_change.specs.declared.change.Change.{Change}
 use Rattle.chat_history.specs.History.{norm}
 use Rattle.chat_history.specs.Retention.{due_floors}
-use Rattle.worker_node.specs.Putting.{MayBePut, Floors}
+use Rattle.bnc_work.specs.Putting.{MayBePut, Floors}
 
 as_due : {now days : ℕ} {floors : List Change} (changes : List Change) → floors ≡ due_floors (norm changes) now days → ∥ MayBePut now days floors ∥₁
 as_due {now} {days} {floors} changes is = ∣ subst (MayBePut now days) (sym is) (Floors changes) ∣₁

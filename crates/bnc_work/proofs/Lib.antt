@@ -1,2 +1,3 @@
 pub mod FloorsLemmas
+pub mod PuttingLemmas
 pub mod TakingLemmas

@@ -1,9 +1,9 @@
 -- What a part of a value takes of a peer, the value takes.
 use Rattle.std.proofs.Common.{◌≡◌, ◌⊎◌, inl, inr, ℕ, List, Result, Ok, Err, IfOk, OnErr}
 use Rattle.chat_change.specs.declared.change.Change.{Change}
-use Rattle.peer_session.specs.Arrival.{IsTaken, changes_of}
-use Rattle.peer_session.specs.declared.outcome.Outcome.{Outcome}
-use Rattle.peer_session.specs.declared.outcome.Outcome.TheVariants.{Ignored, Known, Taken, TakenInPart}
+use Rattle.gossip_link.specs.Arrival.{IsTaken, changes_of}
+use Rattle.gossip_link.specs.declared.outcome.Outcome.{Outcome}
+use Rattle.gossip_link.specs.declared.outcome.Outcome.TheVariants.{Ignored, Known, Taken, TakenInPart}
 use Rattle.peer_connection.specs.Taking.{IsTakenFromPeer, NoMessage, OfMessage}
 
 taken_by_whole : {T N : Type 0} (part : N → T) (holds : T → ℕ → List Change → Type 0) (may_add : T → List Change → Type 0) (old new : N) → (part new ≡ part old → new ≡ old) → (changes : List Change) (outcome : Outcome) → IsTaken holds may_add (part old) (part new) changes outcome → IsTaken (λ (n : N). holds (part n)) (λ (n : N). may_add (part n)) old new changes outcome

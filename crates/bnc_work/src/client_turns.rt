@@ -1,5 +1,7 @@
 //! The turns of clients.
 use crate::marker_turns::{ask_gate, tell_mark_of};
+use crate::node::Node;
+use crate::publisher::Publisher;
 use crate::server_turns::do_said;
 use crate::work_port::{PortClients, PortServers, WorkPort};
 use bnc_ports::{Carries, Connection, Port, Reason};
@@ -8,7 +10,6 @@ use client_places::Attachment;
 use passed_lines::{Mail, mail_said};
 use work_clients::{ClientEffect, ClientPut, ClientStep, Clients, ToClient};
 use worker_io::{Context, WorkEnd};
-use worker_node::{Node, Publisher};
 
 /// So many steps a client has before the others have their turn.
 const STEPS: usize = 64;

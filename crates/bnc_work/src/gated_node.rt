@@ -3,16 +3,16 @@ ghost use Rattle.std.specs.Prelude.{◌≡◌};
 ghost use Rattle.change_log.specs.Lists.{changes_in};
 ghost use Rattle.shared_node.specs.Puts.{appended_of};
 
+use crate::node::{Node, PutOutcome};
 use bnc_ports::{Connection, Gate, Port};
 use byte_text::NoMemory;
 use chat_change::{Buffer, Change, Moment};
 use chat_history::DeltaFault;
-use peer_session::Outcome;
+use gossip_link::Outcome;
 use shared_node::{Naming, NodeTaker, Pass, PutFault};
 use std::sync::Wait;
 use work_peers::Peers;
 use worker_io::{Context, NodeView};
-use worker_node::{Node, PutOutcome};
 
 /// A node that many workers share, and the gate that is asked before each of their answers.
 #[derive(Drop)]

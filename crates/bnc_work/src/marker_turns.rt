@@ -1,11 +1,12 @@
 //! Sessions are told of read markers (IRCv3 draft/read-marker).
+use crate::marks::MarkAhead;
+use crate::node::Node;
 use bnc_ports::{Carries, Connection, Port};
 use chat_change::Buffer;
 use client_places::Attachment;
 use passed_lines::{Mail, News, mail_others};
 use work_clients::{Clients, ToClient};
 use worker_io::{Context, NodeView, WorkEnd};
-use worker_node::{MarkAhead, Node};
 
 /// Asks the gate whether an answer may go out.
 pub(crate) fn ask_gate<N: Node>(node: &N, view: &NodeView) -> Result<(), WorkEnd> {

@@ -1,11 +1,13 @@
 //! The turns of peers.
 use crate::marker_turns::tell_risen;
+use crate::marks::marks_ahead;
+use crate::node::Node;
+use crate::publisher::Publisher;
 use crate::work_port::{PortClients, PortPeers, WorkPort};
 use client_places::Attachment;
-use peer_session::changes_of;
+use gossip_link::changes_of;
 use work_peers::PeerStep;
 use worker_io::{Context, WorkEnd};
-use worker_node::{Node, Publisher, marks_ahead};
 
 /// So many lines of a peer are taken before the others have their turn.
 const STEPS: usize = 64;

@@ -1,6 +1,8 @@
 //! The turns of networks' servers.
 use crate::entries::spread;
 use crate::marker_turns::tell_mark_to_all;
+use crate::node::Node;
+use crate::publisher::Publisher;
 use crate::work_port::{PortClients, PortServers, WorkPort};
 use bnc_ports::{Carries, Connection, Port, Reason};
 use byte_text::NoMemory;
@@ -12,7 +14,6 @@ use passed_lines::{
 use work_clients::{Clients, ToClient};
 use work_servers::{SaidStep, ServerStep, Servers, ToServer};
 use worker_io::{Context, WorkEnd};
-use worker_node::{Node, Publisher};
 
 /// So many lines of a server are taken before the others have their turn: about as many as one read brings, so that what
 /// they come to is written to each client at once.

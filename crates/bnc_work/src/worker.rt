@@ -3,14 +3,16 @@ use crate::client_turns::serve_clients;
 use crate::entries::{spread, tell_entry};
 use crate::gated_node::GatedNode;
 use crate::marker_turns::tell_mark;
+use crate::node::Node;
 use crate::peer_turns::serve_peers;
+use crate::publisher::Publisher;
 use crate::server_turns::{do_said, do_server, serve_server};
 use crate::work_port::{PortClients, PortPeers, PortServers, WorkPort};
 use bnc_ports::{Connection, Dial, Gate, Happening, Port};
 use byte_text::NoMemory;
 use chat_change::Moment;
 use client_places::Attachment;
-use node_terms::NodeName;
+use cluster_directory::NodeName;
 use passed_lines::{Mail, is_another_behind, keep_entry};
 use shared_node::{Naming, NodeTaker, Pass, SharedNode};
 use std::sync::Wait;
@@ -18,7 +20,6 @@ use work_clients::Clients;
 use work_peers::Peers;
 use work_servers::Servers;
 use worker_io::{Beginning, Context, NodeView, Timer, WorkEnd, WorkerConfig, clock};
-use worker_node::{Node, Publisher};
 
 /// A worker looks after its timers at least so often, in milliseconds.
 const LONGEST: u64 = 60_000;

@@ -2,10 +2,10 @@
 use Rattle.std.proofs.Common.{◌≡◌, ◌≤◌, ◌<◌, ℕ, Bool, true, false, not, ◌&&◌, nat_lt, nat_le, List, length, arith}
 use Rattle.std.proofs.lemmas.Bool.Decides.{nat_tests}
 use Rattle.std.specs.List.{list_any}
-use Rattle.tag_data.specs.TagList.{Tag, tag_list}
-use Rattle.tag_data.specs.Text.{tags_text}
-use Rattle.tag_data.specs.ClientOnly.{is_client_only_text}
-use Rattle.tag_data.proofs.CallerLemmas.{kept_as_written, kept_text, kept_keys, CanStand-tag_list}
+use Rattle.irc_tags.specs.TagList.{Tag, tag_list}
+use Rattle.irc_tags.specs.Text.{tags_text}
+use Rattle.irc_tags.specs.ClientOnly.{is_client_only_text}
+use Rattle.irc_tags.proofs.CallerLemmas.{kept_as_written, kept_text, kept_keys, CanStand-tag_list}
 use Rattle.chat_change.specs.Words.{is_tags, has_length_to, ends_word}
 use Rattle.chat_change.specs.Tags.{Spells}
 use Rattle.chat_change.specs.declared.words.TheConstants.{TAGS_LIMIT}

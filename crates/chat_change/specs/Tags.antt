@@ -1,9 +1,9 @@
 -- What the tags of a record spell (IRCv3 message-tags, "Format" and "Client-only tags").
 use Rattle.std.specs.Prelude.{ℕ, ◌≡◌, true, List}
 use Rattle.std.specs.List.{All}
-use Rattle.tag_data.specs.TagList.{Tag}
-use Rattle.tag_data.specs.Text.{tags_text}
-use Rattle.tag_data.specs.Standing.{CanStand, is_client_only}
+use Rattle.irc_tags.specs.TagList.{Tag}
+use Rattle.irc_tags.specs.Text.{tags_text}
+use Rattle.irc_tags.specs.Standing.{CanStand, is_client_only}
 
 -- the text is what is written of these tags, which are client-only and have distinct keys
 pub record Spells (text : List ℕ) (tags : List Tag) : Type 0 where

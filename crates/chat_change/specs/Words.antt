@@ -4,7 +4,7 @@ use Rattle.std.specs.Prelude.{ℕ, ◌≡◌, ◌⊎◌, Bool, true, not, ◌&&�
 use Rattle.std.specs.List.{list_any, list_all}
 use Rattle.std.specs.Char.{to_ascii_lowercase}
 use Rattle.byte_text.specs.Bytes.{begins_with, ends_line}
-use Rattle.tag_data.specs.ClientOnly.{is_client_only_text}
+use Rattle.irc_tags.specs.ClientOnly.{is_client_only_text}
 use Rattle.chat_change.specs.declared.words.TheConstants.{NAME_LIMIT, TARGET_LIMIT, ID_LIMIT, TAGS_LIMIT}
 
 -- the text has at least one byte and at most so many

@@ -5,7 +5,7 @@ ghost use Rattle.byte_text.specs.Bytes.{ends_line};
 ghost use Rattle.chat_change.specs.Words as spec;
 
 use byte_text::{LANES, begins_with, begins_without, has_line_end};
-use tag_data::is_client_only_text;
+use irc_tags::is_client_only_text;
 
 /// The most bytes that the name of an account or of a network has.
 pub const NAME_LIMIT: usize = 32;

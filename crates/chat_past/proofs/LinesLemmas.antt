@@ -6,9 +6,9 @@ use Rattle.std.proofs.lemmas.Bool.{or_parts}
 use Rattle.std.proofs.lemmas.List.Elements.{All-from_recursion, recursion_from_All}
 use Rattle.byte_text.specs.Bytes.{ends_line}
 use Rattle.irc_caps.specs.declared.CapSet.{CapSet}
-use Rattle.tag_data.specs.Value.{value_text}
-use Rattle.tag_data.specs.Standing.{is_nul, ends_tag_data}
-use Rattle.tag_data.proofs.CallerLemmas.{value_in_line, length-value_text}
+use Rattle.irc_tags.specs.Value.{value_text}
+use Rattle.irc_tags.specs.Standing.{is_nul, ends_tag_data}
+use Rattle.irc_tags.proofs.CallerLemmas.{value_in_line, length-value_text}
 use Rattle.irc_time.specs.Text.{time_text}
 use Rattle.irc_time.proofs.CallerLemmas.{time_shape}
 use Rattle.irc_line.specs.declared.line.TagLimit.{TagLimit}

@@ -7,7 +7,7 @@ use Rattle.std.specs.Prelude.{◌||◌}
 use Rattle.std.specs.List.{list_all, list_any}
 use Rattle.memchr.specs.Find.{IsFirstByte, is_byte2}
 use Rattle.std.proofs.lemmas.Bool.Decides.{nat_tests}
-use Rattle.tag_data.specs.Value.{byte_spelling, value_text, semicolon, backslash}
+use Rattle.irc_tags.specs.Value.{byte_spelling, value_text, semicolon, backslash}
 use Rattle.irc_time.specs.Text.{time_text}
 use Rattle.byte_text.proofs.CallerLemmas.{any_behind, any_within, found_is_any}
 use Rattle.chat_change.specs.Record.{Record}

@@ -11,11 +11,11 @@ use Rattle.irc_line.specs.declared.line.TagLimit.TheVariants.{Server}
 use Rattle.irc_line.specs.Line.{tag_limit}
 use Rattle.irc_line.specs.Text.{tags_text as before_line}
 use Rattle.irc_line.specs.CanStand.{CanBeTags}
-use Rattle.tag_data.specs.Value.{byte_spelling, value_text}
-use Rattle.tag_data.specs.TagList.{Tag, same_bytes}
-use Rattle.tag_data.specs.Text.{value_part, tag_text, tags_text}
-use Rattle.tag_data.specs.Standing.{ends_key, IsKey, CanStand, is_client_only}
-use Rattle.tag_data.proofs.CallerLemmas.{tag_list-tags_text}
+use Rattle.irc_tags.specs.Value.{byte_spelling, value_text}
+use Rattle.irc_tags.specs.TagList.{Tag, same_bytes}
+use Rattle.irc_tags.specs.Text.{value_part, tag_text, tags_text}
+use Rattle.irc_tags.specs.Standing.{ends_key, IsKey, CanStand, is_client_only}
+use Rattle.irc_tags.proofs.CallerLemmas.{tag_list-tags_text}
 use Rattle.irc_time.specs.Time.{digit, text}
 use Rattle.irc_time.specs.Text.{time_text}
 use Rattle.irc_time.proofs.CallerLemmas.{moment_text, time_shape}

@@ -3,7 +3,7 @@ use Rattle.std.specs.Prelude.{ℕ, Bool, not, ◌&&◌, ◌||◌, ◌==◌, List
 use Rattle.byte_text.specs.Bytes.{cr, lf, space}
 use Rattle.irc_caps.specs.Words.{only_if}
 use Rattle.irc_caps.specs.declared.CapSet.{CapSet}
-use Rattle.tag_data.specs.Value.{semicolon, backslash, value_text}
+use Rattle.irc_tags.specs.Value.{semicolon, backslash, value_text}
 use Rattle.irc_time.specs.Text.{time_text}
 use Rattle.chat_change.specs.Record.{Record}
 use Rattle.chat_past.specs.declared.tags.Tag.{Tag}

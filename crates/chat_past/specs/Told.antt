@@ -3,9 +3,9 @@ use Rattle.std.specs.Prelude.{◌≡◌, ℕ, Bool, true, List, [], ◌∷◌, �
 use Rattle.std.specs.List.{All}
 use Rattle.irc_caps.specs.declared.CapSet.{CapSet}
 use Rattle.irc_line.specs.Line.{HasNoSpace}
-use Rattle.tag_data.specs.TagList.{Tag, tag_list}
-use Rattle.tag_data.specs.Text.{tags_text}
-use Rattle.tag_data.specs.Standing.{CanStand, is_client_only}
+use Rattle.irc_tags.specs.TagList.{Tag, tag_list}
+use Rattle.irc_tags.specs.Text.{tags_text}
+use Rattle.irc_tags.specs.Standing.{CanStand, is_client_only}
 use Rattle.irc_time.specs.Text.{time_text}
 use Rattle.chat_change.specs.Record.{Record}
 

@@ -7,7 +7,7 @@ ghost use Rattle.irc_line.specs.declared.line.TagLimit.TheVariants.{Server};
 ghost use Rattle.irc_line.specs.Line.{Reading, Reads};
 ghost use Rattle.irc_line.specs.Lines.{AreLines};
 ghost use Rattle.irc_caps.specs.declared.CapSet.{CapSet};
-ghost use Rattle.tag_data.specs.TagList.{Tag};
+ghost use Rattle.irc_tags.specs.TagList.{Tag};
 ghost use Rattle.irc_reply.specs.Standing.{IsCluster};
 ghost use Rattle.chat_change.specs.Words.{is_target};
 ghost use Rattle.chat_change.specs.Record.{Record};

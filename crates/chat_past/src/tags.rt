@@ -3,7 +3,7 @@ ghost use Rattle.std.specs.Prelude.{◌≡◌, ◌≤◌, ◌++◌, ◌||◌, []
 ghost use Rattle.byte_text.specs.Writes.{Writes};
 ghost use Rattle.std.specs.List.{list_all, list_any};
 ghost use Rattle.memchr.specs.Find.{is_byte2};
-ghost use Rattle.tag_data.specs.Value.{value_text, semicolon, backslash};
+ghost use Rattle.irc_tags.specs.Value.{value_text, semicolon, backslash};
 ghost use Rattle.chat_change.specs.Words.{is_id};
 ghost use Rattle.chat_past.specs.declared.tags.Tag.TheVariants.{MsgId};
 ghost use Rattle.chat_past.specs.Tags.{next_tag, tag_part, has_own_tags, batch_tags, message_tags, separator, key_text, is_plain_byte};
@@ -12,11 +12,11 @@ use crate::batch::put_pair;
 use byte_text::{LANES, begins_without, put};
 use chat_change::Record;
 use irc_caps::CapSet;
+use irc_tags::write_value;
 use irc_time::write_time;
 use memchr::memchr2;
 use std::io;
 use std::io::Write;
-use tag_data::write_value;
 
 /// Writes three texts in turn.
 pub(crate) fn put_three<W: Write>(

@@ -6,7 +6,7 @@ use Rattle.byte_text.specs.Bytes.{begins_with as begins_with_byte, colon, ends_l
 use Rattle.irc_line.specs.Line.{is_command, HasNoSpace}
 use Rattle.irc_line.specs.CanStand.{HasNoBadByte, CanBeSource}
 use Rattle.irc_line.proofs.CallerLemmas.{no_space_from, middle_from}
-use Rattle.tag_data.specs.ClientOnly.{is_client_only_text}
+use Rattle.irc_tags.specs.ClientOnly.{is_client_only_text}
 use Rattle.irc_reply.specs.Echo.{can_be_echoed, echoed}
 use Rattle.irc_reply.specs.Standing.{IsWordTo, target_limit, word_limit}
 use Rattle.chat_change.specs.declared.words.TheConstants.{TARGET_LIMIT, ID_LIMIT, TAGS_LIMIT}

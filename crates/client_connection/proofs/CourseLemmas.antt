@@ -5,9 +5,7 @@ use Rattle.std.specs.Str.{bytes_eq}
 use Rattle.std.proofs.Math.Logic.{∥∥₁_map}
 use Rattle.std.proofs.lemmas.Bool.{and_parts}
 use Rattle.std.proofs.lemmas.Slice.Eq.{bytes_eq-Decides}
-use Rattle.irc_line.specs.Stream.{Item, holding}
-use Rattle.irc_line.specs.Stream.{line as whole_line}
-use Rattle.irc_line.specs.Stream.{too_long as cut_line}
+use Rattle.irc_line.specs.Stream.{Item, holding, line as whole_line, too_long as cut_line}
 use Rattle.irc_reply.specs.ToClient.{no_nick, marker_question}
 use Rattle.chat_change.specs.Record.{Record}
 use Rattle.chat_change.specs.declared.change.Change.{Change}
@@ -15,7 +13,7 @@ use Rattle.chat_query.specs.declared.facts.Answered.{Answered}
 use Rattle.chat_query.specs.declared.facts.Facts.{Facts}
 use Rattle.chat_past.specs.Message.{live_text}
 use Rattle.irc_caps.specs.declared.recipients.Recipients.{Recipients}
-use Rattle.client_directory.specs.Directory.{Directory}
+use Rattle.cluster_directory.specs.Directory.{Directory}
 use Rattle.client_session.specs.declared.effect.Effect.{Effect}
 use Rattle.client_session.specs.declared.effect.Effect.TheVariants.{Send, Put, Ask}
 use Rattle.client_session.specs.declared.stage.Stage.{Stage}

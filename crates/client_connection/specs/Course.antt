@@ -1,16 +1,14 @@
 -- The course of a client: what its session heard and came to, what of that is left to do, what the client was told, and what
 -- nick it knows as its own.
 use Rattle.std.specs.Prelude.{ℕ, ◌≡◌, Bool, true, List, [], ◌∷◌, ◌++◌, Some}
-use Rattle.irc_line.specs.Stream.{Item, items}
-use Rattle.irc_line.specs.Stream.{line as whole_line}
-use Rattle.irc_line.specs.Stream.{too_long as cut_line}
+use Rattle.irc_line.specs.Stream.{Item, items, line as whole_line, too_long as cut_line}
 use Rattle.irc_reply.specs.ToClient.{no_nick, marker_question}
 use Rattle.chat_change.specs.Record.{Record}
 use Rattle.chat_query.specs.declared.facts.Answered.{Answered}
 use Rattle.chat_query.specs.declared.facts.Facts.{Facts}
 use Rattle.chat_past.specs.Message.{live_text}
 use Rattle.irc_caps.specs.declared.recipients.Recipients.{Recipients}
-use Rattle.client_directory.specs.Directory.{Directory}
+use Rattle.cluster_directory.specs.Directory.{Directory}
 use Rattle.client_session.specs.declared.effect.Effect.{Effect}
 use Rattle.client_session.specs.declared.effect.Effect.TheVariants.{Send, Put, Ask, Upstream, Close}
 use Rattle.client_session.specs.declared.stage.Stage.{Stage}

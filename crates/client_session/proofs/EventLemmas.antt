@@ -9,7 +9,7 @@ use Rattle.irc_line.specs.Line.{Reading}
 use Rattle.irc_line.specs.Read.{read}
 use Rattle.chat_change.specs.Words.{is_id}
 use Rattle.chat_query.specs.declared.facts.Facts.{Facts}
-use Rattle.client_directory.specs.Directory.{Directory, account_in, entry_in}
+use Rattle.cluster_directory.specs.Directory.{Directory, account_in, entry_in}
 use Rattle.client_session.specs.Command.{command_of}
 use Rattle.client_session.specs.declared.command.ClientCommand.{ClientCommand}
 use Rattle.client_session.specs.declared.command.ClientCommand.TheVariants.{Cap, Pass, Nick, User, Ping, Pong, Quit, Chathistory, Markread, Redact, Message, Other}

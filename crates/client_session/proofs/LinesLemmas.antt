@@ -36,14 +36,13 @@ use Rattle.chat_change.specs.declared.faults.ChangeFault.TheVariants.{BadName, B
 use Rattle.chat_change.specs.declared.change.Change.{Change}
 use Rattle.chat_change.specs.declared.change.Change.TheVariants.{Mark}
 use Rattle.chat_change.proofs.CallerLemmas.{lawful_buffer}
-use Rattle.chat_query.specs.Parameters.{has_timestamp_key, timestamp_of, moment_of}
+use Rattle.chat_query.specs.Parameters.{has_timestamp_key, timestamp_of, moment_of, first_of}
 use Rattle.chat_query.specs.Buffers.{has_buffer}
-use Rattle.chat_query.specs.Parameters.{first_of}
 use Rattle.chat_query.specs.Standing.{IsSoundSession}
 use Rattle.chat_query.specs.declared.facts.Facts.{Facts}
 use Rattle.chat_query.proofs.CallerLemmas.{echoed_word, target_word}
-use Rattle.client_directory.specs.Entry.{Entry}
-use Rattle.client_directory.specs.Directory.{Directory, entry_in}
+use Rattle.cluster_directory.specs.Entry.{Entry}
+use Rattle.cluster_directory.specs.Directory.{Directory, entry_in}
 use Rattle.irc_reply.specs.ToClient.{no_nick_given, erroneous_nick, may_not_reregister, pong, not_connected, closing_link}
 use Rattle.irc_reply.specs.ToServer.{passed_line, tagged_line}
 use Rattle.client_session.specs.Command.{command_of}

@@ -5,12 +5,11 @@ use Rattle.irc_line.specs.declared.line.LineFault.{LineFault}
 use Rattle.irc_line.specs.declared.line.LineFault.TheVariants.{Empty, TagsTooLong, TooLong, BadByte, NoCommand}
 use Rattle.irc_line.specs.Line.{Reading}
 use Rattle.chat_change.specs.Words.{is_id}
-use Rattle.chat_query.specs.Parameters.{moment_of}
+use Rattle.chat_query.specs.Parameters.{moment_of, first_of}
 use Rattle.chat_query.specs.Buffers.{has_buffer}
-use Rattle.chat_query.specs.Parameters.{first_of}
 use Rattle.chat_query.specs.declared.facts.Facts.{Facts}
-use Rattle.client_directory.specs.Entry.{Entry}
-use Rattle.client_directory.specs.Directory.{Directory, entry_in}
+use Rattle.cluster_directory.specs.Entry.{Entry}
+use Rattle.cluster_directory.specs.Directory.{Directory, entry_in}
 use Rattle.client_session.specs.Command.{command_of}
 use Rattle.client_session.specs.Step.{Step, refusal, ping}
 use Rattle.client_session.specs.Registration.{user_name}

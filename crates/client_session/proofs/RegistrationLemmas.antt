@@ -12,8 +12,8 @@ use Rattle.irc_caps.specs.declared.CapSet.{CapSet}
 use Rattle.irc_caps.specs.Negotiation.{is_held, cap_answer}
 use Rattle.chat_change.specs.Words.{is_target}
 use Rattle.chat_query.specs.declared.facts.Facts.{Facts}
-use Rattle.client_directory.specs.Entry.{Entry}
-use Rattle.client_directory.specs.Directory.{Directory, Account, account_in, entry_of, entry_of_account, entry_if_secret, entry_by_secret}
+use Rattle.cluster_directory.specs.Entry.{Entry}
+use Rattle.cluster_directory.specs.Directory.{Directory, Account, account_in, entry_of, entry_of_account, entry_if_secret, entry_by_secret}
 use Rattle.irc_reply.specs.ToClient.{no_nick}
 use Rattle.client_session.specs.Command.{command_of}
 use Rattle.client_session.specs.Step.{Step, answer, refusal, ping, nick_refusal}

@@ -28,8 +28,8 @@ use Rattle.chat_query.specs.declared.facts.Answered.{Answered}
 use Rattle.chat_query.specs.declared.facts.Answered.TheVariants.{Batch, Plain, NotAQuery}
 use Rattle.chat_query.specs.Reference.{greatest_reference, after_reference, after_answer}
 use Rattle.chat_query.proofs.CallerLemmas.{target_word, reference_stands}
-use Rattle.client_directory.specs.Entry.{Entry}
-use Rattle.client_directory.specs.Directory.{Network, Account, Directory, network_in, account_in, entry_if, entry_of, entry_of_account, entry_in, entry_if_secret, entry_by_secret}
+use Rattle.cluster_directory.specs.Entry.{Entry}
+use Rattle.cluster_directory.specs.Directory.{Network, Account, Directory, network_in, account_in, entry_if, entry_of, entry_of_account, entry_in, entry_if_secret, entry_by_secret}
 use Rattle.client_session.specs.Command.{command_of}
 use Rattle.client_session.specs.Step.{Step, answer, refusal}
 use Rattle.client_session.specs.Registration.{waits, account_of, network_of, marker_questions, channels_lines, turn_away, let_in, let_in_if, register, settle_user, settle, answer_or_settle, cap, pass, nick_unless, user_name, user_if, before_registration}

@@ -8,8 +8,8 @@ use Rattle.irc_line.specs.Read.{read}
 use Rattle.chat_change.specs.Words.{is_id}
 use Rattle.chat_query.specs.Buffers.{has_buffer}
 use Rattle.chat_query.specs.declared.facts.Facts.{Facts}
-use Rattle.client_directory.specs.Entry.{Entry}
-use Rattle.client_directory.specs.Directory.{Directory, entry_in}
+use Rattle.cluster_directory.specs.Entry.{Entry}
+use Rattle.cluster_directory.specs.Directory.{Directory, entry_in}
 use Rattle.client_session.specs.Command.{command_of}
 use Rattle.client_session.specs.declared.command.ClientCommand.{ClientCommand}
 use Rattle.client_session.specs.declared.command.ClientCommand.TheVariants.{Cap, Pass, Nick, User, Ping, Pong, Quit, Chathistory, Markread, Redact, Message, Other}

@@ -10,7 +10,7 @@ use Rattle.chat_change.specs.declared.change.Change.{Change}
 use Rattle.chat_change.specs.declared.change.Change.TheVariants.{Mark}
 use Rattle.chat_query.specs.declared.facts.Facts.{Facts}
 use Rattle.chat_query.specs.declared.facts.Answered.{Answered}
-use Rattle.client_directory.specs.Directory.{Directory, Account, account_in, entry_in}
+use Rattle.cluster_directory.specs.Directory.{Directory, Account, account_in, entry_in}
 use Rattle.client_session.specs.Command.{command_of}
 use Rattle.client_session.specs.declared.command.ClientCommand as commands
 use Rattle.client_session.specs.declared.command.ClientCommand.TheVariants as command

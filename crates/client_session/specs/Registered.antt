@@ -1,19 +1,16 @@
 -- A session after its registration: what each command does.
 use Rattle.std.specs.Prelude.{ℕ, Bool, false, not, ◌&&◌, List, [], ◌∷◌, ◌++◌, codes, take, Option, None, Some, if◌then◌else◌}
-use Rattle.irc_reply.specs.Reply.{unknown_text}
+use Rattle.irc_reply.specs.Reply.{unknown_text, need_more_params, plain_line}
 use Rattle.irc_line.specs.Line.{Reading}
 use Rattle.irc_caps.specs.Negotiation.{registered, cap_answer}
-use Rattle.irc_reply.specs.Reply.{need_more_params}
 use Rattle.chat_change.specs.Words.{is_id}
 use Rattle.chat_change.specs.Buffer.{buffer_of}
 use Rattle.chat_change.specs.declared.change.Change.TheVariants.{Mark}
-use Rattle.chat_query.specs.Parameters.{moment_of}
+use Rattle.chat_query.specs.Parameters.{moment_of, first_of}
 use Rattle.chat_query.specs.Buffers.{has_buffer}
-use Rattle.chat_query.specs.Parameters.{first_of}
 use Rattle.chat_query.specs.declared.facts.Facts.{Facts}
-use Rattle.client_directory.specs.Entry.{Entry}
+use Rattle.cluster_directory.specs.Entry.{Entry}
 use Rattle.irc_reply.specs.ToClient.{may_not_reregister, not_connected, redact_needs_more, redact_bad_target, redact_unknown_id, redact_forbidden}
-use Rattle.irc_reply.specs.Reply.{plain_line}
 use Rattle.irc_reply.specs.ToServer.{passed_line, tagged_line}
 use Rattle.client_session.specs.declared.command.ClientCommand.{ClientCommand}
 use Rattle.client_session.specs.declared.command.ClientCommand.TheVariants.{Cap, Pass, Nick, User, Ping, Pong, Quit, Chathistory, Markread, Redact, Message, Other}

@@ -4,8 +4,8 @@ use Rattle.irc_caps.specs.declared.CapSet.{CapSet}
 use Rattle.irc_caps.specs.Negotiation.{is_held, cap_answer}
 use Rattle.irc_reply.specs.Reply.{need_more_params}
 use Rattle.chat_query.specs.declared.facts.Facts.{Facts}
-use Rattle.client_directory.specs.Entry.{Entry}
-use Rattle.client_directory.specs.Directory.{Directory, entry_by_secret}
+use Rattle.cluster_directory.specs.Entry.{Entry}
+use Rattle.cluster_directory.specs.Directory.{Directory, entry_by_secret}
 use Rattle.irc_reply.specs.ToClient.{no_nick, welcome, support, no_motd, not_registered, password_incorrect, closing_link, join_line, marker_question}
 use Rattle.client_session.specs.declared.command.ClientCommand.{ClientCommand}
 use Rattle.client_session.specs.declared.command.ClientCommand.TheVariants.{Cap, Pass, Nick, User, Ping, Pong, Quit}

@@ -9,7 +9,7 @@ use Rattle.irc_caps.specs.Negotiation as negotiation
 use Rattle.chat_query.specs.declared.facts.Facts.{Facts}
 use Rattle.chat_query.specs.declared.facts.Answered.{Answered}
 use Rattle.chat_query.specs.Reference.{after_answer}
-use Rattle.client_directory.specs.Directory.{Directory, entry_in}
+use Rattle.cluster_directory.specs.Directory.{Directory, entry_in}
 use Rattle.irc_reply.specs.ToClient.{no_nick}
 use Rattle.client_session.specs.Command.{command_of}
 use Rattle.client_session.specs.declared.stage.Stage.{Stage}

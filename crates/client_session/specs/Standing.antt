@@ -6,7 +6,7 @@ use Rattle.irc_line.specs.CanStand.{CanBeMiddle}
 use Rattle.irc_line.specs.Lines.{AreLines}
 use Rattle.irc_reply.specs.Standing.{IsCluster}
 use Rattle.chat_change.specs.Words.{is_name, is_target}
-use Rattle.client_directory.specs.Directory.{Network, Account, Directory}
+use Rattle.cluster_directory.specs.Directory.{Network, Account, Directory}
 use Rattle.client_session.specs.declared.effect.Effect.{Effect}
 use Rattle.client_session.specs.declared.effect.Effect.TheVariants.{Send}
 use Rattle.client_session.specs.Events.{ClientEvent}

@@ -9,7 +9,7 @@ use crate::shared::{answer, one};
 use byte_text::NoMemory;
 use chat_change::is_id;
 use chat_query::{Facts, first_of};
-use client_directory::Entry;
+use cluster_directory::Entry;
 use irc_reply::to_client::{
     redact_bad_target, redact_forbidden, redact_needs_more, redact_unknown_id,
 };

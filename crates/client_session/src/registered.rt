@@ -19,7 +19,7 @@ use crate::shared::{answer, closing, nick_refusal, one, ping, refusal};
 use crate::stage::Continuation;
 use byte_text::{NoMemory, Text};
 use chat_query::Facts;
-use client_directory::Entry;
+use cluster_directory::Entry;
 use irc_caps::Negotiation;
 use irc_line::{Line, LineFault};
 use irc_reply::need_more_params;

@@ -11,7 +11,7 @@ use crate::shared::{answer, closing, nick_refusal, ping, push, refusal};
 use crate::stage::{Stage, Waiting};
 use byte_text::{NoMemory, Text, find_byte};
 use chat_query::Facts;
-use client_directory::{Directory, Entry};
+use cluster_directory::{Directory, Entry};
 use irc_caps::CapSet;
 use irc_line::LineFault;
 use irc_reply::need_more_params;

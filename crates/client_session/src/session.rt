@@ -13,7 +13,7 @@ use crate::stage::{Continuation, Stage, Waiting};
 use byte_text::{NoMemory, Text};
 use chat_history::Peek;
 use chat_query::{Answered, Facts, next_reference};
-use client_directory::Directory;
+use cluster_directory::Directory;
 use irc_caps::Negotiation;
 use irc_line::{Line, LineFault, TagLimit, read_line};
 use std::alloc::Global;

@@ -13,16 +13,16 @@ use Rattle.chat_history.specs.Numbering.{delta, front}
 use Rattle.chat_history.proofs.CallerLemmas.{norm_left, front_rises, on_and_on}
 use Rattle.chat_history.specs.UpTo.{IncludesUpTo}
 use Rattle.chat_history.proofs.CallerLemmas.{UpTo-delta, UpTo-later, UpTo-start, delta_within, delta_all, same_at_fronts}
-use Rattle.node_terms.specs.Life.{Life, same_life}
+use Rattle.cluster_directory.specs.Life.{Life, same_life}
 use Rattle.peer_lines.specs.Packet.{Packet, Ack}
-use Rattle.node_terms.specs.Version.{is_lower}
-use Rattle.node_terms.specs.declared.version.Version.{Version}
-use Rattle.node_terms.specs.Names.{same_name}
+use Rattle.cluster_directory.specs.Version.{is_lower}
+use Rattle.cluster_directory.specs.declared.version.Version.{Version}
+use Rattle.cluster_directory.specs.Names.{same_name}
 use Rattle.gossip_link.specs.declared.link.Heard.{Heard}
 use Rattle.gossip_link.specs.Peer.{Peer, is_news, hello_is_news, after_hello, packet_of, after_packet, packet_is_mine, ack_of, is_known, ack_is_mine, ack_is_too_high, after_ack}
 use Rattle.gossip_link.specs.Cluster.{Node, Made, World, ClusterEvent, Make, Take, Ask, Greet, Hello_comes, Send, Packet_comes, Part_comes, Ack_comes, Restart, with_value, life, with_node, with_peer, with_used, with_taken, new_node, take_made, hear, with_packet, send, packet_comes, part_comes, ack_comes, happens, run, start, IsFresh, LivesDiffer}
 use Rattle.gossip_link.specs.Promises.{ComesFrom, incarnation_of, Knows, PeerIncludes, IsAcknowledged}
-use Rattle.node_terms.proofs.CallerLemmas.{same_name_is, both_true}
+use Rattle.cluster_directory.proofs.CallerLemmas.{same_name_is, both_true}
 use Rattle.gossip_link.proofs.NameLemmas.{same_life_is, equal_is, changed_here, at_each, Begins, shorter_begins, All-got}
 use Rattle.gossip_link.proofs.ComesLemmas.{ComesFrom-more, ComesFrom-made, pieces_come}
 use Rattle.gossip_link.proofs.SoundLemmas.{Nodes, Lived, Reached, LinkIsSound, HelloIsSound, PacketIsSound, AckIsSound, IsSound, GoesOn, GoOn, go_on, same_life_goes_on, Lived-now, restart_goes_on, Lived-later, Reached-later, LinkIsSound-later, IsSound-node}

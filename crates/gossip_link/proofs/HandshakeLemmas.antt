@@ -5,9 +5,9 @@ use Rattle.std.proofs.lemmas.Bool.Decides.{nat_tests}
 use Rattle.std.proofs.lemmas.Option.{slice_get-get_or}
 use Rattle.std.specs.List.{AllByRecursion}
 use Rattle.std.specs.Prelude.{position, slice_get, ◌==◌}
-use Rattle.node_terms.specs.Names.{same_name}
-use Rattle.node_terms.specs.Life.{Life}
-use Rattle.node_terms.specs.declared.version.Version.{Version}
+use Rattle.cluster_directory.specs.Names.{same_name}
+use Rattle.cluster_directory.specs.Life.{Life}
+use Rattle.cluster_directory.specs.declared.version.Version.{Version}
 use Rattle.peer_lines.specs.declared.peer_line.PeerLine.{PeerLine}
 use Rattle.peer_lines.specs.declared.peer_line.PeerLine.TheVariants.{Word, Hello, Head, Change, Ack}
 use Rattle.gossip_link.specs.declared.handshake.Side.{Side}
@@ -15,9 +15,9 @@ use Rattle.gossip_link.specs.declared.handshake.Side.TheVariants.{Opener, Accept
 use Rattle.gossip_link.specs.declared.handshake.Stage.{Stage}
 use Rattle.gossip_link.specs.declared.handshake.Stage.TheVariants.{Silent, Trusted, Introduced, Known, Refused}
 use Rattle.gossip_link.specs.declared.handshake.Action.TheVariants.{Close}
-use Rattle.node_terms.specs.Terms.{Terms, names_of, index_of}
+use Rattle.cluster_directory.specs.Terms.{Terms, names_of, index_of}
 use Rattle.gossip_link.specs.Handshake.{IsPeer, KeepsTo, ArePeers, introduced_at, still_known, after, after_all, action, last_action, handed_to, greets as does_greet}
-use Rattle.node_terms.proofs.CallerLemmas.{same_name_is, same_name_itself, same_if, there}
+use Rattle.cluster_directory.proofs.CallerLemmas.{same_name_is, same_name_itself, same_if, there}
 
 equal_is : (a b : ℕ) → (a == b) ≡ true → a ≡ b
 equal_is a b e = grind (arith, nat_tests)

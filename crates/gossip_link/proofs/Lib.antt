@@ -6,4 +6,6 @@ mod EventLemmas
 mod NoLossLemmas
 mod StepLemmas
 mod HandshakeLemmas
+mod CourseLemmas
+mod LineLemmas
 pub mod CallerLemmas

@@ -4,9 +4,9 @@ use Rattle.std.proofs.lemmas.Bool.Decides.{nat_tests}
 use Rattle.std.proofs.lemmas.Option.{slice_get_within, get_or_from_slice_get}
 use Rattle.std.specs.List.{All}
 use Rattle.std.specs.Prelude.{◌==◌, slice_get}
-use Rattle.node_terms.proofs.CallerLemmas.{same_name_is, same_name_itself, both_true}
-use Rattle.node_terms.specs.Life.{Life, same_life}
-use Rattle.node_terms.specs.Names.{same_name}
+use Rattle.cluster_directory.proofs.CallerLemmas.{same_name_is, same_name_itself, both_true}
+use Rattle.cluster_directory.specs.Life.{Life, same_life}
+use Rattle.cluster_directory.specs.Names.{same_name}
 use Rattle.gossip_link.specs.Cluster.{with_value}
 
 pub equal_is : (a b : ℕ) → (a == b) ≡ true → a ≡ b

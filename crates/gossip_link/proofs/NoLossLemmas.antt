@@ -4,14 +4,14 @@ use Rattle.std.proofs.lemmas.Bool.Decides.{nat_tests}
 use Rattle.std.proofs.lemmas.List.{take_all}
 use Rattle.std.specs.Prelude.{◌==◌, nat_le, nat_lt, not}
 use Rattle.chat_history.specs.Numbering.{Delta, delta}
-use Rattle.node_terms.specs.Life.{Life, same_life}
+use Rattle.cluster_directory.specs.Life.{Life, same_life}
 use Rattle.peer_lines.specs.Packet.{Packet, Ack}
-use Rattle.node_terms.specs.Names.{same_name}
-use Rattle.node_terms.specs.Version.{is_lower}
-use Rattle.node_terms.specs.declared.version.Version.{Version}
+use Rattle.cluster_directory.specs.Names.{same_name}
+use Rattle.cluster_directory.specs.Version.{is_lower}
+use Rattle.cluster_directory.specs.declared.version.Version.{Version}
 use Rattle.gossip_link.specs.Peer.{Peer, packet_of, after_packet, packet_is_mine, ack_of, is_known, after_ack}
 use Rattle.gossip_link.specs.Cluster.{Node, World, Send, Packet_comes, Ack_comes, with_value, life, with_peer, with_used, with_taken, with_packet, send, happens, run}
-use Rattle.node_terms.proofs.CallerLemmas.{same_name_is, same_name_itself}
+use Rattle.cluster_directory.proofs.CallerLemmas.{same_name_is, same_name_itself}
 use Rattle.gossip_link.proofs.NameLemmas.{changed_here}
 
 pub apart : (a b : List ℕ) → a ≢ b → same_name a b ≡ false

@@ -13,9 +13,9 @@ use Rattle.chat_change.specs.declared.change.Change.TheVariants.{Post, Redact, M
 use Rattle.chat_history.specs.History.{norm}
 use Rattle.chat_history.specs.Numbering.{Delta, delta, delta_limit, newer, numbers}
 use Rattle.chat_history.proofs.CallerLemmas.{delta_all, delta_further}
-use Rattle.node_terms.specs.Life.{Life, IsLife}
+use Rattle.cluster_directory.specs.Life.{Life, IsLife}
 use Rattle.peer_lines.specs.Packet.{Packet}
-use Rattle.node_terms.specs.Names.{is_node_name}
+use Rattle.cluster_directory.specs.Names.{is_node_name}
 use Rattle.peer_lines.specs.Spelling.{IsPacket}
 use Rattle.gossip_link.specs.Cluster.{Made}
 use Rattle.gossip_link.specs.Promises.{IsMade, IsMadeMoment, ComesFrom}

@@ -11,9 +11,9 @@ use Rattle.chat_history.specs.History.{norm}
 use Rattle.chat_history.specs.Numbering.{front, delta}
 use Rattle.chat_history.specs.UpTo.{IncludesUpTo}
 use Rattle.chat_history.proofs.CallerLemmas.{UpTo-more}
-use Rattle.node_terms.specs.Life.{Life}
+use Rattle.cluster_directory.specs.Life.{Life}
 use Rattle.peer_lines.specs.Packet.{Hello, Packet, Ack}
-use Rattle.node_terms.specs.declared.version.Version.{Version}
+use Rattle.cluster_directory.specs.declared.version.Version.{Version}
 use Rattle.gossip_link.specs.declared.link.Heard.{Heard}
 use Rattle.gossip_link.specs.Peer.{Peer}
 use Rattle.gossip_link.specs.Cluster.{Node, Made, World, with_value, life, with_node, new_node, has_lived}

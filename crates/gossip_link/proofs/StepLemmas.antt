@@ -6,11 +6,11 @@ use Rattle.std.proofs.lemmas.List.{take_all}
 use Rattle.chat_change.specs.declared.change.Change.{Change}
 use Rattle.chat_history.specs.Numbering.{delta}
 use Rattle.peer_lines.specs.Packet.{Packet, Ack}
-use Rattle.node_terms.specs.declared.version.Version.{Version}
+use Rattle.cluster_directory.specs.declared.version.Version.{Version}
 use Rattle.gossip_link.specs.Peer.{after_hello, packet_of, packet_is_mine, ack_of, after_ack}
 use Rattle.gossip_link.specs.Cluster.{World, ClusterEvent, Make, Take, Greet, Hello_comes, Send, Packet_comes, Ack_comes, Restart, with_value, life, with_node, with_peer, with_taken, new_node, with_packet, packet_comes, ack_comes, happens, run, start, has_lived, LivesDiffer}
 use Rattle.gossip_link.specs.Promises.{IsReached}
-use Rattle.node_terms.proofs.CallerLemmas.{same_name_itself}
+use Rattle.cluster_directory.proofs.CallerLemmas.{same_name_itself}
 use Rattle.gossip_link.proofs.SoundLemmas.{IsSound}
 use Rattle.gossip_link.proofs.EventLemmas.{IsSound-run, IsSound-start}
 

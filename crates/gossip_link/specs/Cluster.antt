@@ -5,10 +5,10 @@ use Rattle.std.specs.List.{list_any}
 use Rattle.chat_change.specs.declared.change.Change.{Change}
 use Rattle.chat_history.specs.History.{History, norm, changes_of}
 use Rattle.chat_history.specs.Numbering.{delta}
-use Rattle.node_terms.specs.Life.{Life}
+use Rattle.cluster_directory.specs.Life.{Life}
 use Rattle.peer_lines.specs.Packet.{Hello, Packet, Ack}
-use Rattle.node_terms.specs.Names.{same_name}
-use Rattle.node_terms.specs.declared.version.Version.{Version}
+use Rattle.cluster_directory.specs.Names.{same_name}
+use Rattle.cluster_directory.specs.declared.version.Version.{Version}
 use Rattle.gossip_link.specs.Peer.{Peer, unheard, after_hello, packet_of, after_packet, packet_is_mine, ack_of, after_ack}
 
 -- a node in its present life

@@ -2,10 +2,10 @@
 -- end.
 use Rattle.std.specs.Prelude.{ℕ, ◌≡◌, ◌≢◌, ⊤, Bool, true, false, ◌==◌, Contains, Option, Some, None, List, [], ◌∷◌, if◌then◌else◌}
 use Rattle.std.specs.List.{AllByRecursion}
-use Rattle.node_terms.specs.Names.{same_name}
-use Rattle.node_terms.specs.Life.{Life}
-use Rattle.node_terms.specs.Terms.{Terms, names_of, index_of}
-use Rattle.node_terms.specs.declared.version.Version.{Version}
+use Rattle.cluster_directory.specs.Names.{same_name}
+use Rattle.cluster_directory.specs.Life.{Life}
+use Rattle.cluster_directory.specs.Terms.{Terms, names_of, index_of}
+use Rattle.cluster_directory.specs.declared.version.Version.{Version}
 use Rattle.peer_lines.specs.declared.peer_line.PeerLine.{PeerLine}
 use Rattle.peer_lines.specs.declared.peer_line.PeerLine.TheVariants.{Word, Hello, Head, Change, Ack}
 use Rattle.gossip_link.specs.declared.handshake.Side.{Side}

@@ -1,8 +1,8 @@
 -- A link: one node's side towards one peer.
 use Rattle.std.specs.Prelude.{List, ℕ}
-use Rattle.node_terms.specs.Life.{Life}
-use Rattle.node_terms.specs.declared.fault.LinkFault.{LinkFault}
-use Rattle.node_terms.specs.declared.fault.LinkFault.TheVariants as fault
+use Rattle.cluster_directory.specs.Life.{Life}
+use Rattle.cluster_directory.specs.declared.fault.LinkFault.{LinkFault}
+use Rattle.cluster_directory.specs.declared.fault.LinkFault.TheVariants as fault
 use Rattle.chat_history.specs.declared.delta.DeltaFault.{DeltaFault}
 use Rattle.chat_history.specs.declared.delta.DeltaFault.TheVariants as delta_fault
 use Rattle.gossip_link.specs.Peer.{Peer}

@@ -5,12 +5,12 @@ use Rattle.std.specs.List.{AllByRecursion}
 use Rattle.chat_change.specs.declared.change.Change.{Change}
 use Rattle.chat_change.specs.Lawful.{IsLawfulChange}
 use Rattle.chat_history.specs.Numbering.{Delta}
-use Rattle.node_terms.specs.Life.{Life, same_life}
+use Rattle.cluster_directory.specs.Life.{Life, same_life}
 use Rattle.peer_lines.specs.Packet.{Packet, Ack}
-use Rattle.node_terms.specs.Names.{same_name}
+use Rattle.cluster_directory.specs.Names.{same_name}
 use Rattle.peer_lines.specs.Spelling.{IsPacket}
-use Rattle.node_terms.specs.Version.{is_lower}
-use Rattle.node_terms.specs.declared.version.Version.{Version}
+use Rattle.cluster_directory.specs.Version.{is_lower}
+use Rattle.cluster_directory.specs.declared.version.Version.{Version}
 use Rattle.gossip_link.specs.declared.link.Heard.{Heard}
 
 pub record Peer : Type 0 where

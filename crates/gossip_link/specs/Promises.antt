@@ -9,7 +9,7 @@ use Rattle.chat_change.specs.declared.change.Change.TheVariants.{Post, Redact}
 use Rattle.chat_change.specs.Key.{Key}
 use Rattle.chat_history.specs.History.{Includes}
 use Rattle.chat_history.specs.Numbering.{Delta, delta, front, number}
-use Rattle.node_terms.specs.declared.version.Version.{Version}
+use Rattle.cluster_directory.specs.declared.version.Version.{Version}
 use Rattle.gossip_link.specs.declared.link.Heard.{Heard}
 use Rattle.gossip_link.specs.Peer.{is_served}
 use Rattle.gossip_link.specs.Cluster.{Made, World, ClusterEvent, run, start, LivesDiffer}

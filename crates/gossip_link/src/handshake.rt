@@ -6,7 +6,7 @@ ghost use Rattle.std.specs.Option.{option_map};
 ghost use Rattle.std.specs.Map.Iter.{deref};
 ghost use Rattle.gossip_link.specs.Handshake as spec;
 
-use node_terms::Terms;
+use cluster_directory::Terms;
 use peer_lines::PeerLine;
 
 /// Who opened a connection.

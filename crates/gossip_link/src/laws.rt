@@ -5,15 +5,16 @@ ghost use Rattle.std.specs.FinMap.{get};
 ghost use Rattle.chat_change.specs.declared.change.Change.{Change};
 ghost use Rattle.chat_change.specs.Key.{Key};
 ghost use Rattle.chat_history.specs.History.{norm};
-ghost use Rattle.node_terms.specs.Terms.{Terms, names_of};
+ghost use Rattle.cluster_directory.specs.Terms.{Terms, names_of};
 ghost use Rattle.peer_lines.specs.declared.peer_line.PeerLine.{PeerLine};
 ghost use Rattle.gossip_link.specs.Cluster.{World, Send, Packet_comes, Ack_comes, run};
-ghost use Rattle.gossip_link.specs.Promises.{IsReached, ComesFrom, Knows, Serves, PeerIncludes};
-ghost use Rattle.gossip_link.specs.Promises.{IsAcknowledged, next_delta};
+ghost use Rattle.gossip_link.specs.Promises.{IsReached, ComesFrom, Knows, Serves, PeerIncludes, IsAcknowledged, next_delta};
 ghost use Rattle.gossip_link.specs.Handshake as spec;
 ghost use Rattle.gossip_link.specs.declared.handshake.Side.{Side};
 ghost use Rattle.gossip_link.specs.declared.handshake.Side.TheVariants.{Acceptor};
 ghost use Rattle.gossip_link.specs.declared.handshake.Action.TheVariants.{Close};
+
+pub mod connections;
 
 /// Whatever happens in a cluster, in whatever order, and however often messages are lost, repeated or late, whichever
 /// node starts again with nothing, in an incarnation that it never had, and whichever version each node speaks:

@@ -3,11 +3,10 @@ ghost use Rattle.std.specs.Prelude.{◌≡◌, ◌++◌, ◌⊎◌, ◌↔◌, �
 ghost use Rattle.std.specs.Prelude.{IfOk, IfErr, OnOk, OnErr, take, if◌then◌else◌};
 ghost use Rattle.chat_history.specs.Numbering.{delta};
 ghost use Rattle.chat_history.specs.Growth.{AfterOthers};
-ghost use Rattle.node_terms.specs.Names.{same_name};
-ghost use Rattle.node_terms.specs.declared.version.TheConstants.Version.{OWN};
+ghost use Rattle.cluster_directory.specs.Names.{same_name};
+ghost use Rattle.cluster_directory.specs.declared.version.TheConstants.Version.{OWN};
 ghost use Rattle.gossip_link.specs.Link.{fault_of};
-ghost use Rattle.gossip_link.specs.Peer.{unheard, is_news, is_older, is_known};
-ghost use Rattle.gossip_link.specs.Peer.{hello_is_wrong, hello_is_news, after_hello};
+ghost use Rattle.gossip_link.specs.Peer.{unheard, is_news, is_older, is_known, hello_is_wrong, hello_is_news, after_hello};
 ghost use Rattle.gossip_link.specs.Peer.{is_served, packet_of, after_make, packet_is_mine, ack_of, MayBeWritten};
 ghost use Rattle.gossip_link.specs.Peer.{ack_is_mine, ack_is_too_high, after_ack};
 

@@ -1,7 +1,7 @@
 -- Client-only tags in front of a line that goes on (IRCv3 message-tags, "Format" and "Client-only tags").
 use Rattle.std.specs.Prelude.{ℕ, List, [], ◌∷◌, Option, None, Some}
 use Rattle.irc_line.specs.Text.{tags_text}
-use Rattle.tag_data.specs.ClientOnly.{client_only_text}
+use Rattle.irc_tags.specs.ClientOnly.{client_only_text}
 
 -- `@`, the tag data and a space, where there is any
 abbrev pub tag_part : List ℕ → List ℕ

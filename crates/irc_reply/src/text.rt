@@ -2,14 +2,14 @@
 ghost use Rattle.std.specs.Prelude.{◌≡◌, ◌++◌, map, IfOk};
 ghost use Rattle.std.specs.Option.{option_copied};
 ghost use Rattle.byte_text.specs.Bytes.{line_ending};
-ghost use Rattle.tag_data.specs.ClientOnly.{client_only_text};
+ghost use Rattle.irc_tags.specs.ClientOnly.{client_only_text};
 ghost use Rattle.irc_reply.specs.Tagged.{tag_part, client_tags};
 ghost use Rattle.irc_reply.specs.Reply as spec;
 
 use byte_text::{NoMemory, Text};
 use irc_line::{OutLine, line_text};
+use irc_tags::write_client_only;
 use std::alloc::{AllocError, Global};
-use tag_data::write_client_only;
 
 /// A line of that source, which is mostly the cluster, with its ending.
 pub fn reply_text<'a>(

@@ -7,9 +7,8 @@ use Rattle.indexmap.specs.IndexMap.{insert_entry}
 use Rattle.std.specs.Prelude.{◌==◌}
 use Rattle.std.specs.Prelude.{length, not}
 use Rattle.std.proofs.lemmas.Bool.{cond-true, cond-false}
-use Rattle.tag_data.specs.TagList.{Tag, has_key, same_bytes, value_at}
-use Rattle.irc_tags.specs.Entries.{value_of}
-use Rattle.tag_data.specs.Entries.{with_tag}
+use Rattle.irc_tags.specs.TagList.{Tag, has_key, same_bytes, value_at}
+use Rattle.irc_tags.specs.Entries.{value_of, with_tag}
 
 pub value_of-insert_entry : (es : List (Vec ℕ Global × Vec ℕ Global)) (k v : Vec ℕ Global)
     → value_of (insert_entry (λ x y. same_bytes x.items y.items) es k v) ≡ insert_entry same_bytes (value_of es) k.items v.items

@@ -1,1 +1,13 @@
+mod ClientOnlyLemmas
+mod ClientTextLemmas
+mod CuttingLemmas
 mod EntriesLemmas
+mod LengthLemmas
+mod LookupLemmas
+mod MergingLemmas
+mod ReadBackLemmas
+mod RewriteLemmas
+mod StandingLemmas
+mod TextLemmas
+mod ValueLemmas
+pub mod CallerLemmas

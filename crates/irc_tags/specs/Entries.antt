@@ -1,8 +1,27 @@
--- The entries of a map of tags.
-use Rattle.std.specs.Prelude.{◌≡◌, ℕ, List, Vec, map}
+-- A list of tags that is made tag by tag, and the entries of the map that holds it.
+use Rattle.std.specs.Prelude.{◌≡◌, ℕ, ◌&&◌, List, [], ◌∷◌, Option, Some, Vec, map, if◌then◌else◌}
 use Rattle.std.specs.declared.alloc.Global.{Global}
-use Rattle.tag_data.specs.TagList.{Tag, tag_of}
-use Rattle.tag_data.specs.Entries.{with_tag}
+use Rattle.indexmap.specs.IndexMap.{insert_entry}
+use Rattle.irc_tags.specs.TagList.{Tag, has_key, same_bytes, tag_of}
+
+-- the tags with one more: its key keeps its place where it is there and takes the value, and a new key goes last. A tag
+-- with an empty key is skipped.
+abbrev pub with_tag : List Tag → Tag → List Tag
+with_tag tags tag = if has_key tag then insert_entry same_bytes tags tag.0 tag.1 else tags
+
+-- the tags with more of them, one after another
+abbrev pub with_tags : List Tag → List Tag → List Tag
+with_tags tags [] = tags
+with_tags tags (tag ∷ more) = with_tags (with_tag tags tag) more
+
+-- the value of the tag, where it has that key, or what was found before. No tag has the empty key.
+abbrev pub found_in : List ℕ → Option (List ℕ) → Tag → Option (List ℕ)
+found_in key found tag = if has_key tag && same_bytes key tag.0 then Some tag.1 else found
+
+-- the last value of a key in the tags, or what was found before
+abbrev pub last_found : List ℕ → Option (List ℕ) → List Tag → Option (List ℕ)
+last_found key found [] = found
+last_found key found (tag ∷ tags) = last_found key (found_in key found tag) tags
 
 -- the bytes of the keys and the values of a map
 abbrev pub value_of : List (Vec ℕ Global × Vec ℕ Global) → List Tag

@@ -1,16 +1,22 @@
-//! The list of the tags of an IRC line (IRCv3 message-tags).
+//! The tags of IRC lines (IRCv3 message-tags): tag data as it stands, and the list of its tags.
 //!
-//! [`read_tags`] reads tag data into a list of [`Tags`], of which each key stands once, and [`write_tags`] writes such a list.
-//! It stands on [`tag_data`], which has the definitions, and whose names this crate gives out, and on `indexmap` for the
-//! order of the keys. The program makes no such list: it reads and writes tag data as it stands. Read [`read_tags`] first.
+//! Tag data is read and written without a list: [`find_tag`] looks up one key, and [`find_two_tags`] two. [`read_value`] and
+//! [`write_value`] know the escapes of values, [`write_tag`] writes a tag, [`write_client_only`] the client-only tags of tag
+//! data, and [`is_client_only_text`] tells whether tag data is what that writes. As a value of its own, [`read_tags`] reads it
+//! into a list of [`Tags`], of which each key stands once (`indexmap` keeps their order), and [`write_tags`] writes such a
+//! list. [`laws`] says that what is written reads back. Read [`find_tag`] first.
 #![tactic(auto)]
 
+mod client_only;
+pub mod laws;
+mod lookup;
+mod tag;
 mod tag_list;
 mod text;
+mod value;
 
-pub use tag_data::{
-    find_tag, find_two_tags, is_client_only_text, laws, read_value, write_client_only, write_tag,
-    write_value,
-};
+pub use client_only::{is_client_only_text, write_client_only};
+pub use lookup::{find_tag, find_two_tags};
 pub use tag_list::{MAX_TAG_DATA, TagFault, Tags, read_tags};
-pub use text::write_tags;
+pub use text::{write_tag, write_tags};
+pub use value::{read_value, write_value};

@@ -1,15 +1,16 @@
 //! The list of tags, and reading it.
 ghost use Rattle.std.specs.Prelude.{◌≡◌, ◌<◌, ◌↔◌, length, filter, slice_get, Some, IfOk, OnOk, IsErrOf, IsTrue};
 ghost use Rattle.std.specs.Option.{option_copied};
-ghost use Rattle.tag_data.specs.TagList.{Tag, max_tag_data, tag_list, value_at};
+ghost use Rattle.irc_tags.specs.TagList.{Tag, max_tag_data, tag_list, value_at};
 ghost use Rattle.irc_tags.specs.Entries.{value_of, PutsTag};
-ghost use Rattle.tag_data.specs.Standing.{CanStand, is_client_only};
+ghost use Rattle.irc_tags.specs.Standing.{CanStand, is_client_only};
 
+use crate::tag::{cut_tag, is_client_only};
+use crate::value::read_value;
 use byte_text::find_byte;
 use indexmap::IndexMap;
 use std::alloc::{AllocError, Global};
 use std::marker::Model;
-use tag_data::{cut_tag, is_client_only, read_value};
 use thiserror::Error;
 
 /// The greatest length of tag data in bytes, without `@` and the space behind it (IRCv3 message-tags, "Size limit").
@@ -36,8 +37,8 @@ pub struct Tags {
 impl Model for Tags {
     ghost use Rattle.std.specs.Prelude.{List};
     ghost use Rattle.irc_tags.specs.Entries.{value_of};
-    ghost use Rattle.tag_data.specs.Standing.{CanStand};
-    ghost use Rattle.tag_data.specs.TagList.{Tag};
+    ghost use Rattle.irc_tags.specs.Standing.{CanStand};
+    ghost use Rattle.irc_tags.specs.TagList.{Tag};
 
     ghost Value = { List Tag };
 

@@ -13,7 +13,7 @@ use Rattle.toml.specs.View.{view, members_view}
 use Rattle.toml.specs.declared.value.Value.{Value}
 use Rattle.toml.proofs.Views.{Entry, table_get}
 use Rattle.irc_time.specs.Time.{IsTime}
-use Rattle.node_terms.specs.declared.version.TheConstants.Version.{OWN}
+use Rattle.cluster_directory.specs.declared.version.TheConstants.Version.{OWN}
 use Rattle.node_config.specs.Values.{HasText, HasNumber, HasNumberOr, IsNumberAt, HasTime, IsTimeAt, HasItems, AreItemsAt, HasVersion, IsVersionAt}
 
 -- the map of a table was asked for a key, and answered this

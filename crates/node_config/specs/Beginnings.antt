@@ -1,8 +1,8 @@
 -- What a node begins with.
 use Rattle.std.specs.Prelude.{ℕ, ◌≡◌, false, List, [], map, filter}
 use Rattle.std.specs.Str.{bytes_eq}
-use Rattle.client_directory.specs.Directory as directory
-use Rattle.client_directory.specs.Entry.{Entry}
+use Rattle.cluster_directory.specs.Directory as directory
+use Rattle.cluster_directory.specs.Entry.{Entry}
 use Rattle.node_config.specs.declared.entries.AccountConfig.{AccountConfig}
 use Rattle.node_config.specs.declared.entries.NetworkConfig.{NetworkConfig}
 use Rattle.node_config.specs.declared.entries.PeerConfig.{PeerConfig}

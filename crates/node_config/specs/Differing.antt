@@ -2,7 +2,7 @@
 use Rattle.std.specs.Prelude.{ℕ, Bool, true, not, ◌&&◌, List, [], ◌∷◌}
 use Rattle.std.specs.List.{list_any, list_all}
 use Rattle.std.specs.Str.{bytes_eq}
-use Rattle.node_terms.specs.Names.{same_name}
+use Rattle.cluster_directory.specs.Names.{same_name}
 use Rattle.node_config.specs.declared.entries.AccountConfig.{AccountConfig}
 use Rattle.node_config.specs.declared.entries.NetworkConfig.{NetworkConfig}
 use Rattle.node_config.specs.declared.entries.PeerConfig.{PeerConfig}

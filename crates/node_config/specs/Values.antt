@@ -6,9 +6,9 @@ use Rattle.std.specs.Net.Grammar.{IsSocketText}
 use Rattle.toml.specs.Data.{Data, string, integer, array, table, Items, no_items, Members, get_member}
 use Rattle.toml.specs.View.{items_of}
 use Rattle.irc_time.specs.Time.{IsTime}
-use Rattle.node_terms.specs.declared.version.Version.{Version}
-use Rattle.node_terms.specs.declared.version.TheConstants.Version.{OWN}
-use Rattle.node_terms.specs.Version.{number}
+use Rattle.cluster_directory.specs.declared.version.Version.{Version}
+use Rattle.cluster_directory.specs.declared.version.TheConstants.Version.{OWN}
+use Rattle.cluster_directory.specs.Version.{number}
 
 -- a key has this text, byte for byte
 abbrev pub HasText : Members → List ℕ → List ℕ → Type 0

@@ -5,8 +5,7 @@ ghost use Rattle.node_config.specs.Beginnings as spec;
 use crate::config::Config;
 use crate::entries::{AccountConfig, NetworkConfig, PeerConfig};
 use byte_text::{NoMemory, copies_of};
-use client_directory::{Account, Directory, Entry, Network};
-use node_terms::NodeName;
+use cluster_directory::{Account, Directory, Entry, Network, NodeName};
 use std::alloc::{AllocError, Global};
 
 impl NetworkConfig {

@@ -7,7 +7,7 @@ ghost use Rattle.node_config.specs.declared.limits.TheConstants.{LEAST_MAXIMUM, 
 use crate::entries::{AccountConfig, NetworkConfig, PeerConfig};
 use crate::limits::Limits;
 use byte_text::Text;
-use node_terms::{NodeName, SharedWord};
+use cluster_directory::{NodeName, SharedWord};
 use std::net::SocketAddr;
 
 /// The configuration of a node. No two peers and no two accounts have one name, no two networks of one account have one

@@ -4,8 +4,8 @@ ghost use Rattle.std.specs.List.{list_all};
 ghost use Rattle.chat_change.specs.Words.{is_name, is_target};
 
 use byte_text::Text;
+use cluster_directory::{NodeName, Version};
 use irc_time::Moment;
-use node_terms::{NodeName, Version};
 use std::net::SocketAddr;
 
 /// Another node of the cluster.

@@ -3,13 +3,13 @@ ghost use Rattle.std.specs.Prelude.{◌≡◌, true, false, IfOk};
 ghost use Rattle.node_config.specs.Differing as spec;
 ghost use Rattle.node_config.specs.Meaning.{IsPeerOf, ArePeersOf};
 ghost use Rattle.node_config.specs.Sections.{table_of};
-ghost use Rattle.node_terms.specs.Names.{same_name};
+ghost use Rattle.cluster_directory.specs.Names.{same_name};
 
 use crate::allowed::Allowed;
 use crate::entries::PeerConfig;
 use crate::fault::{ListName, ValueFault};
 use crate::section::{Section, entry_of, push};
-use node_terms::NodeName;
+use cluster_directory::NodeName;
 use std::alloc::Global;
 
 fn has_peer(peers: &[PeerConfig], name: &NodeName) -> bool

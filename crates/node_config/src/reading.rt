@@ -21,7 +21,7 @@ use crate::networks::{read_accounts, read_networks};
 use crate::peers::read_peers;
 use crate::section::Section;
 use byte_text::Text;
-use node_terms::{NodeName, SharedWord};
+use cluster_directory::{NodeName, SharedWord};
 use std::alloc::Global;
 use std::net::SocketAddr;
 use toml::Table;

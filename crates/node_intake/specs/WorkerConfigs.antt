@@ -4,13 +4,13 @@ use Rattle.std.specs.List.{filter_map}
 use Rattle.std.specs.Option.{option_map}
 use Rattle.chat_change.specs.declared.change.Change.{Change}
 use Rattle.chat_change.specs.declared.change.Change.TheVariants.{AccountFloor}
-use Rattle.node_terms.specs.Terms.{Terms}
-use Rattle.node_terms.specs.declared.terms.PeerTerms.{PeerTerms}
+use Rattle.cluster_directory.specs.Terms.{Terms}
+use Rattle.cluster_directory.specs.declared.terms.PeerTerms.{PeerTerms}
 use Rattle.node_config.specs.declared.config.Config.{Config}
 use Rattle.node_config.specs.declared.entries.AccountConfig.{AccountConfig}
 use Rattle.node_config.specs.declared.entries.NetworkConfig.{NetworkConfig}
 use Rattle.node_config.specs.declared.entries.PeerConfig.{PeerConfig}
-use Rattle.client_directory.specs.declared.config.SessionConfig.{SessionConfig}
+use Rattle.cluster_directory.specs.declared.config.SessionConfig.{SessionConfig}
 
 -- the session with a network's server: with its account, its names and its channels
 abbrev pub session_of : NetworkConfig → SessionConfig

@@ -5,10 +5,9 @@ ghost use Rattle.node_config.specs.Beginnings.{directory_of, names_of};
 
 use bnc_ports::Lobby;
 use byte_text::NoMemory;
-use client_directory::{Channels, SessionConfig};
 use client_places::Attachment;
+use cluster_directory::{Channels, Life, LinkFault, PeerTerms, SessionConfig, SharedWord, Terms};
 use node_config::{Config, NetworkConfig, PeerConfig};
-use node_terms::{Life, LinkFault, PeerTerms, SharedWord, Terms};
 use std::alloc::Global;
 use worker_io::WorkerConfig;
 

@@ -8,7 +8,7 @@ use Rattle.chat_change.specs.declared.change.Change.TheVariants.{Post}
 use Rattle.upstream_session.specs.Events.{ServerEvent, run, after, step_by, effects_of}
 use Rattle.upstream_session.specs.Messages.{is_from}
 use Rattle.upstream_session.specs.Step.{new, ServerStep}
-use Rattle.client_directory.specs.declared.config.SessionConfig.{SessionConfig}
+use Rattle.cluster_directory.specs.declared.config.SessionConfig.{SessionConfig}
 use Rattle.upstream_session.specs.declared.connection.Connection.{Connection}
 use Rattle.upstream_session.specs.declared.effect.UpEffect.{UpEffect}
 use Rattle.upstream_session.specs.declared.effect.UpEffect.TheVariants.{Send, Put, Relay, Close}

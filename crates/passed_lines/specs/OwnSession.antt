@@ -4,7 +4,7 @@ use Rattle.upstream_session.specs.Events.{ServerEvent, Line, Saying}
 use Rattle.upstream_session.specs.Events as events
 use Rattle.upstream_session.specs.Refusal.{refusal_after}
 use Rattle.upstream_session.specs.Step.{new}
-use Rattle.client_directory.specs.declared.config.SessionConfig.{SessionConfig}
+use Rattle.cluster_directory.specs.declared.config.SessionConfig.{SessionConfig}
 use Rattle.upstream_session.specs.declared.connection.Connection.{Connection}
 
 pub record OwnSession : Type 0 where

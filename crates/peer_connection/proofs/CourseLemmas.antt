@@ -2,22 +2,22 @@
 use Rattle.std.proofs.Common.{◌≡◌, ℕ, true, false, List, [], ◌∷◌, ◌++◌, Option, Some, None, refl, sym, ◌∙◌, ap, subst, append-nil}
 use Rattle.std.specs.Prelude.{IfNone, is_some, option_to_list}
 use Rattle.irc_line.specs.Stream.{Item, holding}
-use Rattle.node_terms.specs.Life.{Life}
+use Rattle.cluster_directory.specs.Life.{Life}
 use Rattle.peer_lines.specs.Packet.{Packet}
 use Rattle.peer_lines.specs.Spelling.{written}
 use Rattle.peer_lines.specs.declared.gather.Arrived.{Arrived}
 use Rattle.peer_lines.specs.declared.peer_line.PeerLine.{PeerLine}
 use Rattle.peer_lines.specs.declared.peer_line.PeerLine.TheVariants as line
-use Rattle.node_terms.specs.Terms.{Terms}
+use Rattle.cluster_directory.specs.Terms.{Terms}
 use Rattle.gossip_link.specs.Link.{Link}
 use Rattle.gossip_link.specs.declared.handshake.Side.{Side}
-use Rattle.peer_session.specs.Arrival.{IsOutcome, pace_after, reply}
-use Rattle.peer_session.specs.Packets.{text_of, to_of}
-use Rattle.peer_session.specs.Pace as pace
-use Rattle.peer_session.specs.Session.{Session, new, opening, own_hello, step, is_close}
-use Rattle.peer_session.specs.declared.heard.Heard.{Heard}
-use Rattle.peer_session.specs.declared.heard.Heard.TheVariants.{Nothing, Message}
-use Rattle.peer_session.specs.declared.outcome.Outcome.{Outcome}
+use Rattle.gossip_link.specs.Arrival.{IsOutcome, pace_after, reply}
+use Rattle.gossip_link.specs.Packets.{text_of, to_of}
+use Rattle.gossip_link.specs.Pace as pace
+use Rattle.gossip_link.specs.Session.{Session, new, opening, own_hello, step, is_close}
+use Rattle.gossip_link.specs.declared.heard.Heard.{Heard}
+use Rattle.gossip_link.specs.declared.heard.Heard.TheVariants.{Nothing, Message}
+use Rattle.gossip_link.specs.declared.outcome.Outcome.{Outcome}
 use Rattle.bnc_ports.specs.Outgoing.{BeginsOf}
 use Rattle.work_lines.specs.Incoming.{Unread, Kept, without_next, AreGiven}
 use Rattle.work_lines.specs.Outgoing.{Traffic, handed}

@@ -7,21 +7,21 @@ use Rattle.peer_lines.specs.Gather as gather
 use Rattle.peer_lines.specs.Gather.{Gather, pushed}
 use Rattle.peer_lines.specs.declared.gather.Arrived.{Arrived}
 use Rattle.peer_lines.specs.declared.peer_line.PeerLine.{PeerLine}
-use Rattle.node_terms.specs.Terms.{Terms, names_of}
+use Rattle.cluster_directory.specs.Terms.{Terms, names_of}
 use Rattle.gossip_link.specs.Handshake.{ArePeers, after, action}
 use Rattle.gossip_link.specs.declared.handshake.Handshake.{Handshake}
 use Rattle.gossip_link.specs.declared.handshake.Side.{Side}
 use Rattle.gossip_link.specs.declared.handshake.Action.{Action}
 use Rattle.gossip_link.specs.declared.handshake.Action.TheVariants as act
-use Rattle.peer_session.specs.Lines.{after_lines, last_step}
-use Rattle.peer_session.specs.Pace as pace
-use Rattle.peer_session.specs.Session.{Session, Step, new, step, acted, handed_up, gathered, closed, fault_of, opening}
-use Rattle.peer_session.specs.declared.heard.Fault.{Fault}
-use Rattle.peer_session.specs.declared.heard.Fault.TheVariants.{BadLine}
-use Rattle.peer_session.specs.declared.heard.Heard.{Heard}
-use Rattle.peer_session.specs.declared.heard.Heard.TheVariants.{Nothing, Message}
-use Rattle.peer_session.specs.declared.pace.Pace.{Pace}
-use Rattle.peer_session.specs.declared.pace.TheConstants.{MOST_UNANSWERED}
+use Rattle.gossip_link.specs.Lines.{after_lines, last_step}
+use Rattle.gossip_link.specs.Pace as pace
+use Rattle.gossip_link.specs.Session.{Session, Step, new, step, acted, handed_up, gathered, closed, fault_of, opening}
+use Rattle.gossip_link.specs.declared.heard.Fault.{Fault}
+use Rattle.gossip_link.specs.declared.heard.Fault.TheVariants.{BadLine}
+use Rattle.gossip_link.specs.declared.heard.Heard.{Heard}
+use Rattle.gossip_link.specs.declared.heard.Heard.TheVariants.{Nothing, Message}
+use Rattle.gossip_link.specs.declared.pace.Pace.{Pace}
+use Rattle.gossip_link.specs.declared.pace.TheConstants.{MOST_UNANSWERED}
 use Rattle.peer_connection.specs.Lines.{IsLine, AreLines}
 use Rattle.peer_connection.specs.PeerCourse.{PeerCourse, Opens, Hears, Notes, Replies, Publishes, Ticks, Makes, Repeats, Reminds, IsToldByRight, IsGreeted, ComesFrom}
 

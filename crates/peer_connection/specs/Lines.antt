@@ -1,11 +1,9 @@
 -- What came over a connection with a peer, as lines between nodes.
 use Rattle.std.specs.Prelude.{ℕ, List, Option, None, Some}
 use Rattle.std.specs.List.{AllZip}
-use Rattle.irc_line.specs.Stream.{Item}
-use Rattle.irc_line.specs.Stream.{line as whole_line}
-use Rattle.irc_line.specs.Stream.{too_long as cut_line}
+use Rattle.irc_line.specs.Stream.{Item, line as whole_line, too_long as cut_line}
 use Rattle.peer_lines.specs.declared.peer_line.PeerLine.{PeerLine}
-use Rattle.peer_session.specs.Session.{IsRead}
+use Rattle.gossip_link.specs.Session.{IsRead}
 
 -- the bytes of a line, without its ending. None of one that was too long
 abbrev pub bytes_in : Item → Option (List ℕ)

@@ -2,24 +2,24 @@
 -- whether the peer was noted as the one at the other end, and all that was said to it.
 use Rattle.std.specs.Prelude.{ℕ, ◌≡◌, true, false, List, [], ◌∷◌, ◌++◌, Option, None, Some, slice_get}
 use Rattle.irc_line.specs.Stream.{Item, items}
-use Rattle.node_terms.specs.Life.{Life}
+use Rattle.cluster_directory.specs.Life.{Life}
 use Rattle.peer_lines.specs.Packet.{Ack, Packet}
 use Rattle.peer_lines.specs.Spelling.{written}
 use Rattle.peer_lines.specs.declared.gather.Arrived.{Arrived}
 use Rattle.peer_lines.specs.declared.peer_line.PeerLine.{PeerLine}
 use Rattle.peer_lines.specs.declared.peer_line.PeerLine.TheVariants as line
-use Rattle.node_terms.specs.Terms.{Terms, names_of}
+use Rattle.cluster_directory.specs.Terms.{Terms, names_of}
 use Rattle.gossip_link.specs.Handshake.{ArePeers}
 use Rattle.gossip_link.specs.Link.{Link}
 use Rattle.gossip_link.specs.declared.handshake.Side.{Side}
-use Rattle.peer_session.specs.Arrival.{IsOutcome, pace_after, reply}
-use Rattle.peer_session.specs.Packets.{text_of, to_of}
-use Rattle.peer_session.specs.Pace as pace
-use Rattle.peer_session.specs.Session.{Session, new, opening, own_hello, step, is_close}
-use Rattle.peer_session.specs.declared.heard.Heard.{Heard}
-use Rattle.peer_session.specs.declared.heard.Heard.TheVariants.{Nothing, Message}
-use Rattle.peer_session.specs.declared.outcome.Outcome.{Outcome}
-use Rattle.peer_session.specs.declared.pace.Pace.{Pace}
+use Rattle.gossip_link.specs.Arrival.{IsOutcome, pace_after, reply}
+use Rattle.gossip_link.specs.Packets.{text_of, to_of}
+use Rattle.gossip_link.specs.Pace as pace
+use Rattle.gossip_link.specs.Session.{Session, new, opening, own_hello, step, is_close}
+use Rattle.gossip_link.specs.declared.heard.Heard.{Heard}
+use Rattle.gossip_link.specs.declared.heard.Heard.TheVariants.{Nothing, Message}
+use Rattle.gossip_link.specs.declared.outcome.Outcome.{Outcome}
+use Rattle.gossip_link.specs.declared.pace.Pace.{Pace}
 use Rattle.peer_connection.specs.Lines.{IsLine, AreLines}
 
 abbrev pub with_pace : Session → Pace → Session

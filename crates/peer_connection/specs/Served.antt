@@ -1,9 +1,9 @@
 -- A peer as a worker has it.
 use Rattle.std.specs.Prelude.{ℕ, ◌≡◌, List, Option, Some}
 use Rattle.irc_line.specs.Stream.{Item}
-use Rattle.node_terms.specs.Terms.{Terms}
-use Rattle.peer_session.specs.Session.{Session, Step, AfterBytes}
-use Rattle.peer_session.specs.declared.heard.Heard.{Heard}
+use Rattle.cluster_directory.specs.Terms.{Terms}
+use Rattle.gossip_link.specs.Session.{Session, Step, AfterBytes}
+use Rattle.gossip_link.specs.declared.heard.Heard.{Heard}
 use Rattle.work_lines.specs.Incoming.{Unread, AreGiven, next_of}
 use Rattle.work_lines.specs.Outgoing.{Traffic, handed}
 use Rattle.peer_connection.specs.Lines.{bytes_in}

@@ -3,12 +3,12 @@ use Rattle.std.specs.Prelude.{ℕ, ◌≡◌, ◌++◌, List, Option}
 use Rattle.irc_line.specs.Stream.{Item, items}
 use Rattle.chat_change.specs.declared.change.Change.{Change}
 use Rattle.peer_lines.specs.declared.gather.Arrived.{Arrived}
-use Rattle.node_terms.specs.Terms.{Terms}
-use Rattle.peer_session.specs.Arrival.{IsTaken, changes_of}
-use Rattle.peer_session.specs.Session.{Session}
-use Rattle.peer_session.specs.declared.heard.Heard.TheVariants.{Message}
-use Rattle.peer_session.specs.declared.outcome.Outcome.{Outcome}
-use Rattle.peer_session.specs.declared.outcome.Outcome.TheVariants.{Ignored}
+use Rattle.cluster_directory.specs.Terms.{Terms}
+use Rattle.gossip_link.specs.Arrival.{IsTaken, changes_of}
+use Rattle.gossip_link.specs.Session.{Session}
+use Rattle.gossip_link.specs.declared.heard.Heard.TheVariants.{Message}
+use Rattle.gossip_link.specs.declared.outcome.Outcome.{Outcome}
+use Rattle.gossip_link.specs.declared.outcome.Outcome.TheVariants.{Ignored}
 use Rattle.peer_connection.specs.PeerCourse.{PeerCourse}
 
 -- The message came over a connection with the peer at that place: it is what the last line of a course brought, in which the

@@ -3,10 +3,10 @@
 ghost use Rattle.std.specs.Prelude.{◌≡◌, ◌⊎◌, ℕ, List, Option};
 ghost use Rattle.irc_line.specs.Stream.{Item, items};
 ghost use Rattle.peer_lines.specs.declared.gather.Arrived.{Arrived};
-ghost use Rattle.node_terms.specs.Terms.{Terms};
-ghost use Rattle.peer_session.specs.Session.{Session, opening};
-ghost use Rattle.peer_session.specs.declared.heard.Heard.{Heard};
-ghost use Rattle.peer_session.specs.declared.heard.Heard.TheVariants.{Message};
+ghost use Rattle.cluster_directory.specs.Terms.{Terms};
+ghost use Rattle.gossip_link.specs.Session.{Session, opening};
+ghost use Rattle.gossip_link.specs.declared.heard.Heard.{Heard};
+ghost use Rattle.gossip_link.specs.declared.heard.Heard.TheVariants.{Message};
 ghost use Rattle.peer_connection.specs.PeerCourse.{PeerCourse, IsToldByRight, IsGreeted, ComesFrom};
 
 /// Nothing is said to a stranger. Until the other node has said the right word and then the hello of a configured peer over
@@ -26,5 +26,5 @@ pub fn nothing_is_said_to_a_stranger()
         → PeerCourse terms heard session (Message place arrived) noted said
         → ComesFrom terms place heard }
 {
-    peer_session::laws::messages_come_from_peers();
+    gossip_link::laws::connections::messages_come_from_peers();
 }

@@ -7,8 +7,7 @@ use crate::talk::Talk;
 use bnc_ports::{Connection, Reason};
 use byte_text::NoMemory;
 use chat_history::{Source, Taker};
-use gossip_link::{Link, LinkFault};
-use peer_session::{Heard, Outcome};
+use gossip_link::{Heard, Link, LinkFault, Outcome};
 use std::mem;
 use worker_io::NodeView;
 

@@ -2,16 +2,15 @@
 ghost use Rattle.std.specs.Prelude.{◌≡◌, ◌++◌, [], None, false, IfNone, IfOk, IfSome};
 ghost use Rattle.work_lines.specs.Incoming.{next_of, without_next};
 ghost use Rattle.work_lines.specs.Outgoing.{handed};
-ghost use Rattle.peer_session.specs.Session as sessions;
+ghost use Rattle.gossip_link.specs.Session as sessions;
 ghost use Rattle.peer_connection.specs.Served.{IsServed, AfterNext};
 
 use crate::kind::ToPeer;
 use crate::owing::owe;
 use bnc_ports::{Carries, Connection, Reason};
 use byte_text::NoMemory;
-use gossip_link::{Arrived, Side, Terms};
+use gossip_link::{Arrived, Fault, Heard, PeerSession, Side, Terms, say_hello_again};
 use irc_line::Next;
-use peer_session::{Fault, Heard, PeerSession, say_hello_again};
 use std::alloc::Global;
 use std::sync::Arc;
 use work_lines::{Feeders, Filled, Input, Pumped, SendQueue};

@@ -27,13 +27,13 @@ use Rattle.chat_change.specs.declared.change.Change.TheVariants.{Post, Redact, M
 use Rattle.change_lines.specs.Words.{is_filled, words_text}
 use Rattle.change_lines.specs.ChangeText.{line_of as change_text, buffer_words, account_words, moment_text}
 use Rattle.change_lines.specs.PostLine.{post_word, tags_words, back_words}
-use Rattle.node_terms.specs.Names.{is_node_byte, is_node_name, is_shared_word}
-use Rattle.node_terms.specs.Version.{number}
-use Rattle.node_terms.specs.Life.{Life, IsLife}
+use Rattle.cluster_directory.specs.Names.{is_node_byte, is_node_name, is_shared_word}
+use Rattle.cluster_directory.specs.Version.{number}
+use Rattle.cluster_directory.specs.Life.{Life, IsLife}
 use Rattle.peer_lines.specs.Packet.{Packet}
 use Rattle.peer_lines.specs.Spelling.{spaced, life_words, head_words, ack_words, text_of, IsPeerLine, IsPacket, written, lines_of, packet_text}
-use Rattle.node_terms.specs.declared.names.TheConstants.{NODE_NAME_LIMIT}
-use Rattle.node_terms.specs.declared.shared_word.TheConstants.{SHARED_WORD_LIMIT}
+use Rattle.cluster_directory.specs.declared.names.TheConstants.{NODE_NAME_LIMIT}
+use Rattle.cluster_directory.specs.declared.shared_word.TheConstants.{SHARED_WORD_LIMIT}
 use Rattle.peer_lines.specs.declared.peer_line.PeerLine.{PeerLine}
 use Rattle.peer_lines.specs.declared.peer_line.PeerLine.TheVariants.{Word, Hello, Head, Change, Ack}
 use Rattle.peer_lines.proofs.WordLemmas.{all_but, name_is_word, shared_is_word, decimal_is_word}

@@ -10,7 +10,7 @@ use Rattle.peer_lines.specs.Packet as parts
 use Rattle.peer_lines.specs.Packet.{Packet, head_of, packet_of}
 use Rattle.peer_lines.specs.Spelling.{IsPeerLine, IsPacket, lines_of}
 use Rattle.peer_lines.specs.Gather.{Gather, ArrivedOrFault, Pushed, with_change, arrives, waits, pushed, after, answers}
-use Rattle.node_terms.specs.declared.fault.LinkFault.{LinkFault}
+use Rattle.cluster_directory.specs.declared.fault.LinkFault.{LinkFault}
 use Rattle.peer_lines.specs.declared.peer_line.PeerLine.{PeerLine}
 use Rattle.peer_lines.specs.declared.peer_line.PeerLine.TheVariants.{Word, Hello, Head, Change, Ack}
 use Rattle.peer_lines.specs.declared.gather.Arrived.TheVariants as arrived

@@ -13,20 +13,20 @@ use Rattle.change_lines.specs.PostLine.{post_word, post_words}
 use Rattle.change_lines.specs.Words.{is_space, word, behind, words_text}
 use Rattle.change_lines.specs.declared.fault.ChangeLineFault.{ChangeLineFault}
 use Rattle.change_lines.proofs.CallerLemmas.{read_back, one_spelling}
-use Rattle.node_terms.specs.Names.{is_node_name, is_shared_word, same_name}
+use Rattle.cluster_directory.specs.Names.{is_node_name, is_shared_word, same_name}
 use Rattle.peer_lines.specs.Packet as parts
-use Rattle.node_terms.specs.Life.{Life, IsLife}
-use Rattle.node_terms.specs.Version.{number}
+use Rattle.cluster_directory.specs.Life.{Life, IsLife}
+use Rattle.cluster_directory.specs.Version.{number}
 use Rattle.peer_lines.specs.Reading.{number_of, version_of, life_of, life_at, behind_life, Span, span_of, span_at, word_at, hello_with, hello_at, head_with, head_at, ack_with, ack_at}
 use Rattle.peer_lines.specs.Spelling.{spaced, life_words, head_words, ack_words, text_of, IsHead, IsAck, IsPeerLine, Spells}
 use Rattle.peer_lines.specs.LineReading.{IsReading, IsAnswer, change_or_none, change_at, hello_line, line_of_kind, line_of}
 use Rattle.peer_lines.specs.declared.packet.TheConstants.{PACKET_LIMIT}
-use Rattle.node_terms.specs.declared.fault.LinkFault.{LinkFault}
-use Rattle.node_terms.specs.declared.fault.LinkFault.TheVariants.{BadForm, WrongLife, AckTooHigh, NoMemory, NotTaken, NoEntry}
-use Rattle.node_terms.specs.declared.version.Version.{Version}
+use Rattle.cluster_directory.specs.declared.fault.LinkFault.{LinkFault}
+use Rattle.cluster_directory.specs.declared.fault.LinkFault.TheVariants.{BadForm, WrongLife, AckTooHigh, NoMemory, NotTaken, NoEntry}
+use Rattle.cluster_directory.specs.declared.version.Version.{Version}
 use Rattle.peer_lines.specs.declared.peer_line.PeerLine.{PeerLine}
 use Rattle.peer_lines.specs.declared.peer_line.PeerLine.TheVariants.{Word, Hello, Head, Change, Ack}
-use Rattle.node_terms.proofs.CallerLemmas.{same_name_is, both_true}
+use Rattle.cluster_directory.proofs.CallerLemmas.{same_name_is, both_true}
 use Rattle.peer_lines.proofs.NumberLemmas.{number_of-decimal, read_number, number_fits, version_of-decimal, read_version}
 use Rattle.peer_lines.proofs.WordLemmas.{IsWord, no_space, name_is_word, shared_is_word, decimal_is_word, word_spaced, behind_spaced, spelled_by_words}
 

@@ -5,10 +5,10 @@ use Rattle.std.specs.Prelude.{◌==◌}
 use Rattle.std.specs.Option.{option_and_then}
 use Rattle.std.specs.Fmt.{decimal}
 use Rattle.byte_text.proofs.CallerLemmas.{number_read, number_spelled}
-use Rattle.node_terms.specs.Version.{number, of_number}
+use Rattle.cluster_directory.specs.Version.{number, of_number}
 use Rattle.peer_lines.specs.Reading.{number_of, version_of}
-use Rattle.node_terms.specs.declared.version.Version.{Version}
-use Rattle.node_terms.specs.declared.version.Version.TheVariants.{One, Two, Three}
+use Rattle.cluster_directory.specs.declared.version.Version.{Version}
+use Rattle.cluster_directory.specs.declared.version.Version.TheVariants.{One, Two, Three}
 
 pub number_of-decimal : (n : ℕ) → n < 2 ^ 64 → number_of (decimal n) ≡ Some n
 number_of-decimal n h = number_read n h (2 ^ 64 - 1) (omega (arith, h))

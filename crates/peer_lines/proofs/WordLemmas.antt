@@ -12,7 +12,7 @@ use Rattle.std.proofs.lemmas.Bool.Decides.{nat_tests}
 use Rattle.chat_change.specs.Words.{ends_word}
 use Rattle.change_lines.specs.Words.{is_space, word, behind}
 use Rattle.change_lines.proofs.CallerLemmas.{word_of, behind_of, rejoined}
-use Rattle.node_terms.specs.Names.{is_node_byte, is_node_name, is_shared_word}
+use Rattle.cluster_directory.specs.Names.{is_node_byte, is_node_name, is_shared_word}
 
 -- ---- a word ends at the first space, and what stands behind it was behind one space
 

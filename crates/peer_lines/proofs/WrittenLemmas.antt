@@ -3,13 +3,13 @@ use Rattle.std.proofs.Common.{◌≡◌, ℕ, List, ◌++◌, codes, append_asso
 use Rattle.std.specs.List.{flat_map}
 use Rattle.byte_text.specs.Bytes.{line_ending}
 use Rattle.chat_change.specs.declared.change.Change.{Change as Piece}
-use Rattle.node_terms.specs.Version.{number}
+use Rattle.cluster_directory.specs.Version.{number}
 use Rattle.peer_lines.specs.Packet as parts
-use Rattle.node_terms.specs.Life.{Life}
+use Rattle.cluster_directory.specs.Life.{Life}
 use Rattle.peer_lines.specs.Packet.{Packet, head_of}
 use Rattle.peer_lines.specs.Spelling.{written, packet_text}
 use Rattle.peer_lines.specs.WrittenParts.{number_text, life_text, lives_text, numbers_text}
-use Rattle.node_terms.specs.declared.version.Version.{Version}
+use Rattle.cluster_directory.specs.declared.version.Version.{Version}
 use Rattle.peer_lines.specs.declared.peer_line.PeerLine.TheVariants.{Hello, Head, Change, Ack}
 
 pub life_parts : (l : Life) (name : List ℕ) (n : ℕ) → name ≡ l.node → n ≡ l.incarnation → codes " " ++ (name ++ number_text n) ≡ life_text l

@@ -1,5 +1,5 @@
 -- What the fields of a line stand for, which the code lends from it.
-use Rattle.node_terms.specs.Life.{Life}
+use Rattle.cluster_directory.specs.Life.{Life}
 use Rattle.peer_lines.specs.Packet.{Hello, Head, Ack}
 use Rattle.peer_lines.specs.Reading as spec
 use Rattle.peer_lines.specs.declared.fields.LifeFields.{LifeFields}

@@ -6,8 +6,8 @@ use Rattle.chat_change.specs.Extent.{Extent, OfAccount, OfBuffer}
 use Rattle.chat_change.specs.Key.{key_of, key_extent}
 use Rattle.chat_change.specs.declared.change.Change as change
 use Rattle.peer_lines.specs.Packet.{Head, packet_of}
-use Rattle.node_terms.specs.declared.fault.LinkFault.{LinkFault}
-use Rattle.node_terms.specs.declared.fault.LinkFault.TheVariants.{BadForm, NoMemory}
+use Rattle.cluster_directory.specs.declared.fault.LinkFault.{LinkFault}
+use Rattle.cluster_directory.specs.declared.fault.LinkFault.TheVariants.{BadForm, NoMemory}
 use Rattle.peer_lines.specs.declared.peer_line.PeerLine.{PeerLine}
 use Rattle.peer_lines.specs.declared.peer_line.PeerLine.TheVariants as line
 use Rattle.peer_lines.specs.declared.gather.Arrived.{Arrived}

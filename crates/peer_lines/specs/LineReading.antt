@@ -6,11 +6,11 @@ use Rattle.change_lines.specs.Words.{word, behind}
 use Rattle.change_lines.specs.ChangeLine.{read_change}
 use Rattle.change_lines.specs.declared.fault.ChangeLineFault.{ChangeLineFault}
 use Rattle.peer_lines.specs.Packet as parts
-use Rattle.node_terms.specs.Names.{same_name}
+use Rattle.cluster_directory.specs.Names.{same_name}
 use Rattle.peer_lines.specs.Reading.{word_at, hello_at, head_at, ack_at}
 use Rattle.peer_lines.specs.Spelling.{Spells}
-use Rattle.node_terms.specs.declared.fault.LinkFault.{LinkFault}
-use Rattle.node_terms.specs.declared.fault.LinkFault.TheVariants.{BadForm, WrongLife, AckTooHigh, NoMemory, NotTaken, NoEntry}
+use Rattle.cluster_directory.specs.declared.fault.LinkFault.{LinkFault}
+use Rattle.cluster_directory.specs.declared.fault.LinkFault.TheVariants.{BadForm, WrongLife, AckTooHigh, NoMemory, NotTaken, NoEntry}
 use Rattle.peer_lines.specs.declared.peer_line.PeerLine.{PeerLine}
 use Rattle.peer_lines.specs.declared.peer_line.PeerLine.TheVariants.{Word, Hello, Head, Change, Ack}
 

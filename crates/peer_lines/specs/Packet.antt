@@ -1,8 +1,8 @@
 -- What nodes send each other.
 use Rattle.std.specs.Prelude.{ℕ, List, length}
 use Rattle.chat_change.specs.declared.change.Change.{Change}
-use Rattle.node_terms.specs.Life.{Life}
-use Rattle.node_terms.specs.declared.version.Version.{Version}
+use Rattle.cluster_directory.specs.Life.{Life}
+use Rattle.cluster_directory.specs.declared.version.Version.{Version}
 
 -- the sender says which life it has, and which version of the lines it speaks
 pub record Hello : Type 0 where

@@ -3,12 +3,12 @@ use Rattle.std.specs.Prelude.{ℕ, ◌-◌, ◌^◌, ◌&&◌, List, nat_lt, nat
 use Rattle.std.specs.Option.{option_and_then}
 use Rattle.byte_text.specs.Number.{number_to}
 use Rattle.change_lines.specs.Words.{word, behind}
-use Rattle.node_terms.specs.Names.{is_node_name, is_shared_word}
-use Rattle.node_terms.specs.Life.{Life}
+use Rattle.cluster_directory.specs.Names.{is_node_name, is_shared_word}
+use Rattle.cluster_directory.specs.Life.{Life}
 use Rattle.peer_lines.specs.Packet.{Hello, Head, Ack}
-use Rattle.node_terms.specs.Version.{of_number}
+use Rattle.cluster_directory.specs.Version.{of_number}
 use Rattle.peer_lines.specs.declared.packet.TheConstants.{PACKET_LIMIT}
-use Rattle.node_terms.specs.declared.version.Version.{Version}
+use Rattle.cluster_directory.specs.declared.version.Version.{Version}
 
 -- ---- values
 

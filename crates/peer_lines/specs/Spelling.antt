@@ -11,9 +11,9 @@ use Rattle.std.specs.List.{All, flat_map, join_with_byte}
 use Rattle.byte_text.specs.Bytes.{line_ending}
 use Rattle.change_lines.specs.ChangeText.{line_of as change_text}
 use Rattle.chat_change.specs.Lawful.{IsLawfulChange}
-use Rattle.node_terms.specs.Life.{Life, IsLife}
-use Rattle.node_terms.specs.Names.{is_shared_word}
-use Rattle.node_terms.specs.Version.{number}
+use Rattle.cluster_directory.specs.Life.{Life, IsLife}
+use Rattle.cluster_directory.specs.Names.{is_shared_word}
+use Rattle.cluster_directory.specs.Version.{number}
 use Rattle.peer_lines.specs.Packet as parts
 use Rattle.peer_lines.specs.Packet.{Packet, head_of}
 use Rattle.peer_lines.specs.declared.packet.TheConstants.{PACKET_LIMIT}

@@ -2,7 +2,7 @@
 use Rattle.std.specs.Prelude.{ℕ, List, ◌++◌, codes}
 use Rattle.std.specs.Fmt.{decimal}
 use Rattle.byte_text.specs.Bytes.{line_ending}
-use Rattle.node_terms.specs.Life.{Life}
+use Rattle.cluster_directory.specs.Life.{Life}
 
 abbrev pub number_text : ℕ → List ℕ
 number_text n = codes " " ++ decimal n

@@ -8,7 +8,7 @@ ghost use Rattle.peer_lines.specs.Fields.{span_value};
 use crate::packet::PACKET_LIMIT;
 use byte_text::number_to;
 use change_lines::split_word;
-use node_terms::{Version, is_node_name};
+use cluster_directory::{Version, is_node_name};
 
 /// The number below 2^64 of which the text is the decimal digits, without leading zeros.
 pub(crate) fn number_of(text: &[u8]) -> Option<u64>

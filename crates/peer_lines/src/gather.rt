@@ -8,7 +8,7 @@ ghost use Rattle.peer_lines.specs.Gather.{pushed, IsAnswerFor, buffer_of};
 use crate::packet::{Ack, Head, Packet};
 use crate::peer_line::PeerLine;
 use chat_change::{Buffer, Change, Extent};
-use node_terms::{Life, LinkFault, SharedWord, Version};
+use cluster_directory::{Life, LinkFault, SharedWord, Version};
 use std::alloc::{AllocError, Global};
 use std::marker::Model;
 

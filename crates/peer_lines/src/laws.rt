@@ -4,10 +4,9 @@ ghost use Rattle.std.specs.Prelude.{length, map};
 ghost use Rattle.std.specs.List.{All, repeat};
 ghost use Rattle.irc_line.specs.Stream.{items, line, max_line};
 ghost use Rattle.peer_lines.specs.Packet.{Packet};
-ghost use Rattle.peer_lines.specs.Spelling.{IsPeerLine, IsPacket, Spells, lines_of};
-ghost use Rattle.peer_lines.specs.Spelling.{text_of, written, packet_text};
+ghost use Rattle.peer_lines.specs.Spelling.{IsPeerLine, IsPacket, Spells, lines_of, text_of, written, packet_text};
 ghost use Rattle.peer_lines.specs.Gather.{Gather, pushed, after, answers};
-ghost use Rattle.node_terms.specs.declared.fault.LinkFault.{LinkFault};
+ghost use Rattle.cluster_directory.specs.declared.fault.LinkFault.{LinkFault};
 ghost use Rattle.peer_lines.specs.declared.peer_line.PeerLine.{PeerLine};
 ghost use Rattle.peer_lines.specs.declared.gather.Arrived.TheVariants as arrived;
 

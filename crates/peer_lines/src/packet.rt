@@ -2,7 +2,7 @@
 ghost use Rattle.std.specs.Prelude.{◌≡◌};
 
 use chat_change::Change;
-use node_terms::Life;
+use cluster_directory::Life;
 use std::marker::Model;
 
 /// The most changes of one packet.

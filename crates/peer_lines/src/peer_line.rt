@@ -1,7 +1,7 @@
 //! Lines of a peer, and how they are read.
 ghost use Rattle.std.specs.Prelude.{◌≡◌, true, IfOk};
 ghost use Rattle.std.specs.Option.{option_map};
-ghost use Rattle.node_terms.specs.Names as names;
+ghost use Rattle.cluster_directory.specs.Names as names;
 ghost use Rattle.peer_lines.specs.Fields.{life_value};
 ghost use Rattle.peer_lines.specs.Reading as spec;
 ghost use Rattle.peer_lines.specs.LineReading as reading;
@@ -11,7 +11,7 @@ use crate::packet::{Ack, Head};
 use byte_text::NoMemory;
 use change_lines::{ChangeLineFault, is_text, read_change_in, split_word};
 use chat_change::{Buffer, Change};
-use node_terms::{Life, LinkFault, NodeName, SharedWord, Version, is_shared_word};
+use cluster_directory::{Life, LinkFault, NodeName, SharedWord, Version, is_shared_word};
 use std::alloc::Global;
 
 /// A line of a peer.

@@ -12,7 +12,7 @@ use crate::peer_line::PeerLine;
 use byte_text::put;
 use change_lines::write_change;
 use chat_change::Change;
-use node_terms::{Life, Version};
+use cluster_directory::{Life, Version};
 use std::io;
 use std::io::Write;
 

@@ -1,4 +1,4 @@
-//! Plays files over the crates of lines and connections between nodes: `peer_lines`, `gossip_link` and `peer_session`. The
+//! Plays files over the crates of lines, links and connections between nodes: `peer_lines` and `gossip_link`. The
 //! words name files of cases:
 //!
 //!     == name of the case

@@ -3,10 +3,9 @@ use anyhow::Error;
 use chat_state::State;
 use gossip_delta::read_change;
 use gossip_link::{
-    Life, Link, LinkFault, NodeName, Packet, PeerLine, PeerTerms, SharedWord, Side, Terms, Version,
-    read_peer, write_packet,
+    Arrived, Heard, Life, Link, LinkFault, NodeName, Outcome, Packet, PeerLine, PeerSession,
+    PeerTerms, SharedWord, Side, Terms, Version, read_peer, write_packet,
 };
-use peer_session::{Arrived, Heard, Outcome, PeerSession};
 use std::alloc::Global;
 
 /// The peers of the terms. n3 is told version 1.

@@ -15,7 +15,7 @@
 //! and with the peers n2, at place 1, and n3, at place 2, which is told version 1.
 use crate::node::Node;
 use anyhow::Error;
-use peer_session::Side;
+use gossip_link::Side;
 use std::alloc::{AllocError, Global};
 use std::io::Write;
 

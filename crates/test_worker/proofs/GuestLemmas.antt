@@ -1,6 +1,6 @@
 -- How the session of a client goes on, and what it says to its network's server.
 use Rattle.std.proofs.Common.{◌≡◌, ℕ, Bool, List, [], ◌∷◌, ◌++◌, Result, Ok, Err, IfOk, OnErr, refl, sym, subst, ◌∙◌, ap}
-use Rattle.client_directory.specs.Directory.{Directory}
+use Rattle.cluster_directory.specs.Directory.{Directory}
 use Rattle.client_session.specs.declared.effect.Effect.{Effect}
 use Rattle.client_session.specs.declared.effect.Effect.TheVariants.{Upstream}
 use Rattle.client_session.specs.declared.stage.Stage.{Stage}

@@ -8,8 +8,8 @@ ghost use Rattle.test_worker.specs.Guest.{HasCome, AreNames};
 use crate::worker_config::{directory_of, names_at};
 use byte_text::Text;
 use chat_state::State;
-use client_directory::{Directory, Entry};
 use client_session::{Effect, Session};
+use cluster_directory::{Directory, Entry};
 use passed_lines::{Said, SaidLine};
 use std::alloc::Global;
 

@@ -16,7 +16,7 @@ use crate::server::{entry_of, passed_on, put_as_live};
 use bnc_work::Mail;
 use byte_text::Text;
 use chat_change::{Change, Record};
-use client_directory::Entry;
+use cluster_directory::Entry;
 use gossip_delta::write_change;
 use passed_lines::Live;
 use std::alloc::{AllocError, Global};

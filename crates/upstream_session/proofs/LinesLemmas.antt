@@ -16,9 +16,9 @@ use Rattle.irc_line.specs.Read.{read, text_in, after_spaces, after_word, after_t
 use Rattle.irc_line.specs.Text.{source_text, middles_text, trailing_text}
 use Rattle.irc_line.specs.CanStand.{HasNoBadByte}
 use Rattle.irc_line.proofs.CallerLemmas.{read_ok, read_parameters_whole, good_append}
-use Rattle.tag_data.specs.Standing.{ends_tag_data, HasNoEnd}
-use Rattle.tag_data.specs.ClientOnly.{client_only_text}
-use Rattle.tag_data.proofs.CallerLemmas.{client_only_text-in_line}
+use Rattle.irc_tags.specs.Standing.{ends_tag_data, HasNoEnd}
+use Rattle.irc_tags.specs.ClientOnly.{client_only_text}
+use Rattle.irc_tags.proofs.CallerLemmas.{client_only_text-in_line}
 use Rattle.irc_reply.specs.Reply.{plain_line}
 use Rattle.irc_reply.specs.Tagged.{tag_part, client_tags}
 use Rattle.irc_reply.specs.ToServer.{cap_end, with_underscores, passed_line}
@@ -38,11 +38,11 @@ use Rattle.chat_change.specs.declared.words.TheConstants.{TARGET_LIMIT}
 use Rattle.chat_change.specs.Message.{Message}
 use Rattle.chat_change.specs.declared.message.Kind.{Kind}
 use Rattle.chat_change.specs.declared.message.Kind.TheVariants as kind
-use Rattle.client_directory.specs.Entry.{Entry, is_same_channel, with_channel, after_join, after_part}
+use Rattle.cluster_directory.specs.Entry.{Entry, is_same_channel, with_channel, after_join, after_part}
 use Rattle.upstream_session.specs.Command.{command_of}
 use Rattle.upstream_session.specs.declared.command.ServerCommand.{ServerCommand}
 use Rattle.upstream_session.specs.declared.command.ServerCommand.TheVariants.{Cap, Welcome, Greeting, NickInUse, Ping, Nick, Join, Part, Kick, Error, Privmsg, Notice, Redact, Tagmsg, Other}
-use Rattle.client_directory.specs.declared.config.SessionConfig.{SessionConfig}
+use Rattle.cluster_directory.specs.declared.config.SessionConfig.{SessionConfig}
 use Rattle.upstream_session.specs.declared.connection.TheConstants.{LAST_SERIAL, MOST_TRIES}
 use Rattle.upstream_session.specs.declared.connection.Connection.{Connection}
 use Rattle.upstream_session.specs.declared.effect.UpEffect.{UpEffect}

@@ -11,9 +11,9 @@ use Rattle.irc_line.specs.declared.line.TagLimit.TheVariants.{Client}
 use Rattle.irc_line.specs.Line.{Reading, Reads, SplitsTags, HasFault, HasNoSpace}
 use Rattle.irc_line.specs.Read.{read}
 use Rattle.irc_line.proofs.CallerLemmas.{read_ok}
-use Rattle.tag_data.specs.Standing.{ends_tag_data, HasNoEnd}
-use Rattle.tag_data.specs.ClientOnly.{client_only_text, is_client_only_text}
-use Rattle.tag_data.proofs.CallerLemmas.{is_client_only_text-client_only_text, client_only_text-in_line, client_only_text-no_longer}
+use Rattle.irc_tags.specs.Standing.{ends_tag_data, HasNoEnd}
+use Rattle.irc_tags.specs.ClientOnly.{client_only_text, is_client_only_text}
+use Rattle.irc_tags.proofs.CallerLemmas.{is_client_only_text-client_only_text, client_only_text-in_line, client_only_text-no_longer}
 use Rattle.irc_reply.specs.Tagged.{tag_part, client_tags}
 use Rattle.irc_reply.specs.ToServer.{passed_line}
 use Rattle.chat_change.specs.declared.words.TheConstants.{TAGS_LIMIT}

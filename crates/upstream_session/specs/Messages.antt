@@ -3,7 +3,7 @@ use Rattle.std.specs.Prelude.{ℕ, Bool, ◌&&◌, ◌==◌, List, [], ◌++◌,
 use Rattle.std.specs.List.{before_first}
 use Rattle.std.specs.Str.{str_eq_ignore_ascii_case}
 use Rattle.std.specs.Fmt.{decimal}
-use Rattle.tag_data.specs.TagList.{Tag, tag_list, value_at}
+use Rattle.irc_tags.specs.TagList.{Tag, tag_list, value_at}
 use Rattle.irc_time.specs.Reading.{time_of}
 use Rattle.irc_reply.specs.Tagged.{client_tags}
 use Rattle.chat_change.specs.Words.{is_id, is_tags}

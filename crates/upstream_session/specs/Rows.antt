@@ -4,7 +4,7 @@ use Rattle.std.specs.Prelude.{ℕ, Bool, ◌+◌, ◌==◌, ◌&&◌, nat_lt, tr
 use Rattle.std.specs.Str.{str_eq_ignore_ascii_case, bytes_eq}
 use Rattle.irc_line.specs.Line.{Reading}
 use Rattle.irc_caps.specs.declared.capability.Capability.TheVariants.{MessageRedaction, MessageTags}
-use Rattle.irc_caps.specs.Words.{with_words}
+use Rattle.irc_caps.specs.Words.{with_words, parts_of}
 use Rattle.irc_caps.specs.Negotiation.{list_in}
 use Rattle.chat_change.specs.Words.{is_target, is_id}
 use Rattle.chat_change.specs.Buffer.{buffer_of}
@@ -12,7 +12,7 @@ use Rattle.chat_change.specs.Message.{Message}
 use Rattle.chat_change.specs.declared.message.Kind.{Kind}
 use Rattle.chat_change.specs.declared.message.Kind.TheVariants as kind
 use Rattle.chat_change.specs.declared.change.Change.TheVariants as change
-use Rattle.client_directory.specs.Entry.{after_join, after_part}
+use Rattle.cluster_directory.specs.Entry.{after_join, after_part}
 use Rattle.upstream_session.specs.declared.command.ServerCommand.{ServerCommand}
 use Rattle.upstream_session.specs.declared.command.ServerCommand.TheVariants.{Cap, Welcome, Greeting, NickInUse, Ping, Nick, Join, Part, Kick, Error, Privmsg, Notice, Redact, Tagmsg, Other}
 use Rattle.upstream_session.specs.declared.connection.TheConstants.{LAST_SERIAL, MOST_TRIES}
@@ -23,7 +23,6 @@ use Rattle.irc_caps.specs.declared.recipients.Recipients.TheVariants.{All, Holdi
 use Rattle.upstream_session.specs.Step.{ServerStep, stays, closes}
 use Rattle.irc_reply.specs.ToServer.{nick_line, pong_line, cap_end, join_line, with_underscores}
 use Rattle.irc_reply.specs.ToClient.{relayed_line, tagged_line}
-use Rattle.irc_caps.specs.Words.{parts_of}
 use Rattle.irc_caps.specs.Offers.{with_offers, request}
 use Rattle.upstream_session.specs.Messages.{is_same_nick, is_own, source_of, conversation, has_buffer, can_be_kept, stamp_of, made_id, kept_tags, post}
 

@@ -4,7 +4,7 @@ use Rattle.irc_line.specs.declared.line.LineFault.{LineFault}
 use Rattle.irc_line.specs.declared.line.TagLimit.TheVariants.{Server}
 use Rattle.irc_line.specs.Line.{Reading}
 use Rattle.irc_line.specs.Read.{read}
-use Rattle.client_directory.specs.Entry.{without_channel}
+use Rattle.cluster_directory.specs.Entry.{without_channel}
 use Rattle.upstream_session.specs.Command.{command_of}
 use Rattle.upstream_session.specs.declared.connection.Connection.{Connection}
 use Rattle.upstream_session.specs.declared.effect.UpEffect.{UpEffect}

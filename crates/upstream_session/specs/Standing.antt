@@ -5,8 +5,8 @@ use Rattle.std.specs.List.{list_all}
 use Rattle.byte_text.specs.Bytes.{line_ending}
 use Rattle.irc_line.specs.CanStand.{HasNoBadByte}
 use Rattle.chat_change.specs.Words.{is_target}
-use Rattle.client_directory.specs.Entry.{Entry}
-use Rattle.client_directory.specs.declared.config.SessionConfig.{SessionConfig}
+use Rattle.cluster_directory.specs.Entry.{Entry}
+use Rattle.cluster_directory.specs.declared.config.SessionConfig.{SessionConfig}
 use Rattle.upstream_session.specs.declared.effect.UpEffect.{UpEffect}
 use Rattle.upstream_session.specs.declared.effect.UpEffect.TheVariants.{Send, Put, Relay, Close}
 use Rattle.upstream_session.specs.Sayings.{without_ending}

@@ -3,7 +3,7 @@ ghost use Rattle.std.specs.Prelude.{◌≡◌};
 ghost use Rattle.upstream_session.specs.MessageOutcome.{after};
 
 use byte_text::Text;
-use client_directory::{Channels, Entry};
+use cluster_directory::{Channels, Entry};
 use irc_caps::CapSet;
 
 /// The serial number at which a session ends.

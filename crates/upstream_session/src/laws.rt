@@ -4,7 +4,7 @@ ghost use Rattle.std.specs.List.{AllByRecursion, IsDistinct};
 ghost use Rattle.std.specs.Str.{bytes_eq};
 ghost use Rattle.irc_line.specs.declared.line.TagLimit.TheVariants.{Server};
 ghost use Rattle.irc_line.specs.Read.{read};
-ghost use Rattle.client_directory.specs.Entry.{after_join};
+ghost use Rattle.cluster_directory.specs.Entry.{after_join};
 ghost use Rattle.upstream_session.specs.Messages.{made_text};
 ghost use Rattle.upstream_session.specs.Step.{new};
 ghost use Rattle.upstream_session.specs.Sayings.{without_ending};
@@ -13,7 +13,7 @@ ghost use Rattle.upstream_session.specs.Refusal.{refuses, refusal_after, IsShown
 ghost use Rattle.upstream_session.specs.Passing.{is_passed_on, IsRelayAtMost};
 ghost use Rattle.upstream_session.specs.Events.{ServerEvent, Line, after, effects_of, run, all_effects, IsOwnEffect, IsUnheard, IsWelcome, id_given, IsIdOf, HasPost, ids_made, tags_given, HasTags, IsSentAsKept, HasClose, EndsAtClose};
 ghost use Rattle.upstream_session.specs.Standing.{WritesOneLine, ConfigStands, EntryStands, EventStands};
-ghost use Rattle.client_directory.specs.declared.config.SessionConfig.{SessionConfig};
+ghost use Rattle.cluster_directory.specs.declared.config.SessionConfig.{SessionConfig};
 ghost use Rattle.upstream_session.specs.declared.connection.Connection.{Connection};
 ghost use Rattle.upstream_session.specs.declared.connection.TheConstants.{LAST_SERIAL};
 

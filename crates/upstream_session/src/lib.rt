@@ -21,7 +21,7 @@ mod scratch;
 mod upstream;
 
 pub use byte_text::{NoMemory, Text};
-pub use client_directory::{Channels, Entry, SessionConfig};
+pub use cluster_directory::{Channels, Entry, SessionConfig};
 pub use effect::UpEffect;
 pub use irc_caps::{Capability, Recipients};
 pub use messages::is_from;

@@ -4,7 +4,7 @@ ghost use Rattle.std.specs.Option.{option_copied, option_map};
 ghost use Rattle.std.specs.Cow.{cow_slice_items};
 ghost use Rattle.std.specs.Fmt.{decimal};
 ghost use Rattle.chat_change.specs.Message.{value_of};
-ghost use Rattle.tag_data.specs.TagList.{tag_list};
+ghost use Rattle.irc_tags.specs.TagList.{tag_list};
 ghost use Rattle.upstream_session.specs.Messages as spec;
 
 use crate::connection::{Connection, Home};
@@ -15,10 +15,10 @@ use byte_text::{NoMemory, find_byte};
 use chat_change::{
     Change, ID_LIMIT, Message, Moment, MsgId, Record, is_id, is_message, lawful_id, lawful_record,
 };
+use irc_tags::find_two_tags;
 use irc_time::read_time;
 use std::alloc::Global;
 use std::borrow::CowSlice;
-use tag_data::find_two_tags;
 
 /// The id and the moment that a message bears.
 #[derive(Drop)]

@@ -10,9 +10,9 @@ use crate::effect::UpEffect;
 use crate::effects::push;
 use byte_text::{NoMemory, Text};
 use chat_change::is_tags;
+use irc_tags::write_client_only;
 use std::alloc::Global;
 use std::mem;
-use tag_data::write_client_only;
 
 /// The buffers of late conversations, the room of a list and of a text that were given back, and room for the tags of a
 /// message.

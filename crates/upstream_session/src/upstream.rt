@@ -15,7 +15,7 @@ use crate::sayings::without_ending;
 use crate::scratch::Scratch;
 use byte_text::{NoMemory, Text};
 use chat_change::Moment;
-use client_directory::{Entry, SessionConfig};
+use cluster_directory::{Entry, SessionConfig};
 use irc_caps::CapSet;
 use irc_line::{Line, TagLimit, read_line};
 use irc_reply::to_server::{ls_line, nick_line, user_line};

@@ -3,8 +3,7 @@ use crate::peer::Peer;
 use crate::peer_record::PeerRecord;
 use bnc_ports::{Connection, Event, Port};
 use chat_history::DELTA_LIMIT;
-use gossip_link::{Arrived, Version};
-use peer_session::{Outcome, changes_of};
+use gossip_link::{Arrived, Outcome, Version, changes_of};
 use worker_io::{Context, NodeView};
 
 /// A peer that may have more, and sent no packet for so many milliseconds, has no more.

@@ -3,8 +3,7 @@
 use crate::peer::Peer;
 use crate::peer_record::PeerRecord;
 use bnc_ports::{Connection, Event, Port};
-use gossip_link::{Arrived, Life, Terms};
-use peer_session::Outcome;
+use gossip_link::{Arrived, Life, Outcome, Terms};
 use worker_io::Context;
 
 // Whether a life is one of this node that is later than its present one.

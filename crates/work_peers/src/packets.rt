@@ -8,9 +8,8 @@ use crate::peers::Peers;
 use bnc_ports::{Carries, Connection, Port, Reason};
 use byte_text::NoMemory;
 use chat_history::{Source, Taker};
-use gossip_link::Arrived;
+use gossip_link::{Arrived, Heard, Outcome};
 use peer_connection::ToPeer;
-use peer_session::{Heard, Outcome};
 use worker_io::{Context, Timer};
 
 impl PeerRecord {

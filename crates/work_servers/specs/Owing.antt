@@ -1,10 +1,9 @@
 -- What is owed to a server, and what its session heard.
 use Rattle.std.specs.Prelude.{ℕ, ◌≡◌, List, [], ◌∷◌, ◌++◌, Option, None, Some}
-use Rattle.irc_line.specs.Stream.{Item}
-use Rattle.irc_line.specs.Stream.{line as whole_line}
+use Rattle.irc_line.specs.Stream.{Item, line as whole_line}
 use Rattle.bnc_ports.specs.declared.event.Reason.{Reason}
 use Rattle.upstream_session.specs.Session.{start}
-use Rattle.client_directory.specs.declared.config.SessionConfig.{SessionConfig}
+use Rattle.cluster_directory.specs.declared.config.SessionConfig.{SessionConfig}
 use Rattle.upstream_session.specs.declared.effect.UpEffect.{UpEffect}
 use Rattle.passed_lines.specs.OwnSession.{OwnSession, begun}
 use Rattle.work_lines.specs.Incoming.{Unread, AreGiven}

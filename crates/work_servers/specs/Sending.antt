@@ -1,13 +1,12 @@
 -- What is told to networks' servers.
 use Rattle.std.specs.Prelude.{ℕ, ◌≡◌, true, List, [], ◌∷◌, ◌++◌}
 use Rattle.std.specs.List.{AllByRecursion}
-use Rattle.irc_line.specs.Stream.{Item, too_long, items}
-use Rattle.irc_line.specs.Stream.{line as whole_line}
+use Rattle.irc_line.specs.Stream.{Item, too_long, items, line as whole_line}
 use Rattle.upstream_session.specs.Events.{ServerEvent, Line, Saying, run, all_effects}
 use Rattle.upstream_session.specs.Passing.{is_passed_on}
 use Rattle.upstream_session.specs.Session.{start, opening, step, say}
 use Rattle.upstream_session.specs.Step.{new}
-use Rattle.client_directory.specs.declared.config.SessionConfig.{SessionConfig}
+use Rattle.cluster_directory.specs.declared.config.SessionConfig.{SessionConfig}
 use Rattle.upstream_session.specs.declared.connection.Connection.{Connection}
 use Rattle.upstream_session.specs.declared.effect.UpEffect.{UpEffect}
 use Rattle.upstream_session.specs.declared.effect.UpEffect.TheVariants.{Send}

@@ -1,6 +1,6 @@
 //! How sessions with servers stand.
 use byte_text::Text;
-use client_directory::Entry;
+use cluster_directory::Entry;
 use passed_lines::NetworkEntry;
 
 /// How the session with a network's server stands from now on, which all workers are to learn.

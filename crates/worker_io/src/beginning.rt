@@ -5,7 +5,7 @@ use bnc_ports::Lobby;
 use byte_text::NoMemory;
 use chat_change::Moment;
 use client_places::Attachment;
-use node_terms::NodeName;
+use cluster_directory::NodeName;
 use std::alloc::Global;
 use std::sync::Arc;
 

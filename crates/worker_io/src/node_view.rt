@@ -5,8 +5,7 @@ ghost use Rattle.worker_io.specs.Networks as spec;
 use bnc_ports::Clocks;
 use byte_text::{NoMemory, Text};
 use chat_change::Moment;
-use client_directory::{Channels, Directory, Entry, SessionConfig};
-use node_terms::Terms;
+use cluster_directory::{Channels, Directory, Entry, SessionConfig, Terms};
 use std::alloc::Global;
 use std::sync::Arc;
 

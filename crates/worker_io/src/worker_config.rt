@@ -1,9 +1,8 @@
 //! What a worker begins with, and how its work ends.
 use bnc_ports::Lobby;
 use byte_text::Text;
-use client_directory::{Directory, SessionConfig};
 use client_places::Boxed;
-use node_terms::{NodeName, Terms};
+use cluster_directory::{Directory, NodeName, SessionConfig, Terms};
 
 /// How the work of one worker ended.
 #[derive(Clone, Copy, PartialEq, Eq)]

@@ -1,8 +1,8 @@
 use Rattle.std.proofs.Common.{◌≡◌, ℕ, true, false, Option, Some, ◌∙◌, subst}
 use Rattle.std.proofs.lemmas.Bool.{not-true}
 use Rattle.chat_history.proofs.CallerLemmas.{delta_further}
-use Rattle.node_terms.specs.Version.{is_lower}
-use Rattle.node_terms.specs.declared.version.Version.{Version}
+use Rattle.cluster_directory.specs.Version.{is_lower}
+use Rattle.cluster_directory.specs.declared.version.Version.{Version}
 use Rattle.gossip_link.specs.declared.link.Heard.{Heard}
 use Rattle.gossip_link.specs.Peer.{is_served}
 use Rattle.gossip_link.specs.Cluster.{start}

@@ -1,6 +1,6 @@
 use Rattle.std.proofs.Common.{ap, sym, ◌∙◌, length}
 use Rattle.std.specs.Prelude.{◌==◌}
-use Rattle.tag_data.specs.Value.{value_in}
+use Rattle.irc_tags.specs.Value.{value_in}
 use Rattle.irc_tags.specs.Entries.{value_of}
 use Rattle.irc_tags.proofs.EntriesLemmas.{value_of-insert_entry, with_tag-put}
 use Rattle.irc_tags.proofs.tag_list.put_tag.Goals as goal

@@ -1,10 +1,9 @@
 use Rattle.std.proofs.Common.{◌≡◌, ◌≤◌, ◌+◌, arith, length, length-drop, map, sym, ap, ◌∙◌, subst, None, Some, position}
 use Rattle.std.proofs.lemmas.List.{take_rest}
 use Rattle.std.specs.List.{slice_split}
-use Rattle.tag_data.specs.TagList.{tag_of, is_semicolon, tag_list}
-use Rattle.irc_tags.specs.Entries.{value_of}
-use Rattle.tag_data.specs.Entries.{with_tags}
-use Rattle.tag_data.proofs.CallerLemmas.{with_tags-all, with_tags-part, with_tags-end}
+use Rattle.irc_tags.specs.TagList.{tag_of, is_semicolon, tag_list}
+use Rattle.irc_tags.specs.Entries.{value_of, with_tags}
+use Rattle.irc_tags.proofs.CallerLemmas.{with_tags-all, with_tags-part, with_tags-end}
 use Rattle.irc_tags.proofs.tag_list.read_map.Goals as goal
 
 pub loop-at-init : goal.loop-at-init

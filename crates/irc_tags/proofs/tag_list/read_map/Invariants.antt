@@ -1,8 +1,7 @@
 use Rattle.std.proofs.Common.{◌≡◌, ◌≤◌, length, map}
 use Rattle.std.specs.List.{slice_split}
-use Rattle.tag_data.specs.TagList.{tag_of, is_semicolon, tag_list}
-use Rattle.irc_tags.specs.Entries.{value_of}
-use Rattle.tag_data.specs.Entries.{with_tags}
+use Rattle.irc_tags.specs.TagList.{tag_of, is_semicolon, tag_list}
+use Rattle.irc_tags.specs.Entries.{value_of, with_tags}
 use Rattle.irc_tags.proofs.tag_list.read_map.Given as goal
 
 abbrev pub invariant-loop-at : goal.invariant-loop-at

@@ -1,6 +1,6 @@
 use Rattle.std.proofs.Common.{sym, subst}
-use Rattle.tag_data.specs.Standing.{CanStand}
-use Rattle.tag_data.proofs.CallerLemmas.{CanStand-tag_list}
+use Rattle.irc_tags.specs.Standing.{CanStand}
+use Rattle.irc_tags.proofs.CallerLemmas.{CanStand-tag_list}
 use Rattle.irc_tags.proofs.tag_list.read_tags.Goals as goal
 
 pub invariant_of-result : goal.invariant_of-result

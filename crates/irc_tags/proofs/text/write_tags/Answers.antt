@@ -1,7 +1,6 @@
 use Rattle.std.proofs.Common.{arith}
 use Rattle.byte_text.proofs.CallerLemmas.{writes_failed}
-use Rattle.tag_data.proofs.CallerLemmas.{Appends-more, prefix_of_separator, prefix_of_tag}
-use Rattle.tag_data.proofs.CallerLemmas.{tag_list-tags_text}
+use Rattle.irc_tags.proofs.CallerLemmas.{Appends-more, prefix_of_separator, prefix_of_tag, tag_list-tags_text}
 use Rattle.irc_tags.proofs.text.write_tags.Goals as goal
 
 pub loop-index-preserved : goal.loop-index-preserved

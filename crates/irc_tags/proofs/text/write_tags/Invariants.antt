@@ -1,6 +1,6 @@
 use Rattle.std.proofs.Common.{take}
 use Rattle.std.specs.Io.KnownBytes.{Appends}
-use Rattle.tag_data.specs.Text.{tags_text}
+use Rattle.irc_tags.specs.Text.{tags_text}
 use Rattle.irc_tags.proofs.text.write_tags.Given as goal
 
 abbrev pub invariant-loop-index : goal.invariant-loop-index

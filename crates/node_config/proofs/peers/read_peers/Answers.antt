@@ -2,7 +2,7 @@ use Rattle.std.proofs.Common.{rules, ◌≡◌, true, false, refl, codes, sym, s
 use Rattle.std.proofs.lemmas.List.{take_all}
 use Rattle.toml.specs.Data.{table}
 use Rattle.toml.specs.View.{view}
-use Rattle.node_terms.specs.Names.{same_name}
+use Rattle.cluster_directory.specs.Names.{same_name}
 use Rattle.node_config.specs.Differing.{all_differ, same_peer, has_peer}
 use Rattle.node_config.specs.Meaning.{IsPeerOf}
 use Rattle.node_config.specs.Sections.{table_of}

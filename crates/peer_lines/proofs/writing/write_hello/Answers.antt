@@ -1,6 +1,6 @@
 use Rattle.byte_text.proofs.CallerLemmas.{prefix_of_first, prefix_of_second, prefix_same, writes_second, writes_failed, writes_same}
 use Rattle.std.proofs.Common.{◌∙◌, refl}
-use Rattle.node_terms.specs.Version.{number}
+use Rattle.cluster_directory.specs.Version.{number}
 use Rattle.peer_lines.proofs.WrittenLemmas.{hello_parts}
 use Rattle.peer_lines.proofs.writing.write_hello.Goals as goal
 

@@ -1,5 +1,5 @@
 use Rattle.std.proofs.Common.{◌<◌, ◌^◌, ◌++◌, sym, ◌∙◌, subst}
-use Rattle.node_terms.specs.Life.{Life}
+use Rattle.cluster_directory.specs.Life.{Life}
 use Rattle.gossip_link.proofs.PacketLemmas.{made_stands}
 use Rattle.gossip_link.proofs.link.Link.make.Goals as goal
 

@@ -1,7 +1,7 @@
 use Rattle.std.proofs.Common.{ℕ, Some, ap, ◌∙◌, Vec}
 use Rattle.std.specs.Option.{option_map}
 use Rattle.std.specs.declared.alloc.Global.{Global}
-use Rattle.tag_data.specs.TagList.{value_at}
+use Rattle.irc_tags.specs.TagList.{value_at}
 use Rattle.irc_tags.proofs.EntriesLemmas.{value_at-value_of}
 use Rattle.irc_tags.proofs.tag_list.Tags.get.Goals as goal
 

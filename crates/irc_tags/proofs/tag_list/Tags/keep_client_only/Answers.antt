@@ -1,9 +1,9 @@
 use Rattle.std.proofs.Common.{◌≡◌, rules, filter, ap, sym, subst, ◌∙◌}
 use Rattle.indexmap.proofs.CallerLemmas.{filter-RetainsPairs}
 use Rattle.irc_tags.specs.Entries.{value_of}
-use Rattle.tag_data.specs.Standing.{CanStand, is_client_only}
+use Rattle.irc_tags.specs.Standing.{CanStand, is_client_only}
 use Rattle.irc_tags.proofs.EntriesLemmas.{value_of-filter}
-use Rattle.tag_data.proofs.CallerLemmas.{CanStand-filter}
+use Rattle.irc_tags.proofs.CallerLemmas.{CanStand-filter}
 use Rattle.irc_tags.proofs.tag_list.Tags.keep_client_only.Goals as goal
 
 pub invariant_of-self : goal.invariant_of-self

@@ -1,6 +1,6 @@
 use Rattle.std.proofs.Common.{◌∙◌, sym, ap}
 use Rattle.std.proofs.Math.Logic.{∥∥₁_map}
-use Rattle.client_directory.specs.Entry.{Entry}
+use Rattle.cluster_directory.specs.Entry.{Entry}
 use Rattle.passed_lines.specs.OwnSession.{OwnSession}
 use Rattle.passed_lines.proofs.PassingLemmas.{nick_now}
 use Rattle.passed_lines.proofs.session.NetworkSession.entry_now.Goals as goal

@@ -1,8 +1,8 @@
 use Rattle.std.proofs.Common.{rules, ◌≡◌, ◌∙◌, false, refl, inl, inr, ⊎_elim}
 use Rattle.std.specs.Prelude.{is_some}
 use Rattle.std.proofs.Math.Logic.{∥∥₁_map}
-use Rattle.peer_session.specs.declared.heard.Heard.TheVariants.{Nothing, Message}
-use Rattle.peer_session.specs.declared.outcome.Outcome.TheVariants.{Taken}
+use Rattle.gossip_link.specs.declared.heard.Heard.TheVariants.{Nothing, Message}
+use Rattle.gossip_link.specs.declared.outcome.Outcome.TheVariants.{Taken}
 use Rattle.peer_connection.specs.Taking.{NoMessage, OfMessage}
 use Rattle.peer_connection.proofs.CourseLemmas.{owed, not_lost, served_on, replies, heard_from}
 use Rattle.peer_connection.proofs.talk.Talk.arrive.Goals as goal

@@ -1,8 +1,8 @@
 use Rattle.std.proofs.Common.{rules, ◌≡◌, ◌++◌, false}
 use Rattle.std.specs.Prelude.{is_some}
 use Rattle.std.proofs.Math.Logic.{∥∥₁_map}
-use Rattle.peer_session.specs.Session.{is_close}
-use Rattle.peer_session.specs.declared.heard.Heard.TheVariants.{Nothing}
+use Rattle.gossip_link.specs.Session.{is_close}
+use Rattle.gossip_link.specs.declared.heard.Heard.TheVariants.{Nothing}
 use Rattle.peer_connection.specs.Served.{AfterNext}
 use Rattle.peer_connection.proofs.CourseLemmas.{owed, by_terms, hears}
 use Rattle.peer_connection.proofs.talk.Talk.hear.Goals as goal

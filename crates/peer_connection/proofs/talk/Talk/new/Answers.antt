@@ -1,6 +1,6 @@
 use Rattle.std.proofs.Common.{None, subst, ◌∙◌}
-use Rattle.node_terms.specs.Terms.{Terms}
-use Rattle.peer_session.specs.declared.heard.Heard.TheVariants.{Nothing}
+use Rattle.cluster_directory.specs.Terms.{Terms}
+use Rattle.gossip_link.specs.declared.heard.Heard.TheVariants.{Nothing}
 use Rattle.peer_connection.specs.Served.{IsServed}
 use Rattle.peer_connection.proofs.CourseLemmas.{opens, none_handed}
 use Rattle.peer_connection.proofs.talk.Talk.new.Goals as goal

@@ -1,6 +1,6 @@
 use Rattle.std.proofs.Common.{rules, ◌≡◌, None, refl}
 use Rattle.std.proofs.Math.Logic.{∥∥₁_map}
-use Rattle.peer_session.specs.declared.heard.Heard.TheVariants.{Message}
+use Rattle.gossip_link.specs.declared.heard.Heard.TheVariants.{Message}
 use Rattle.peer_connection.proofs.CourseLemmas.{goes_on, served_on, notes}
 use Rattle.peer_connection.proofs.talk.Talk.note.Goals as goal
 

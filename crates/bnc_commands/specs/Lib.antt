@@ -1,6 +1,0 @@
--- what a reader must believe: what the words ask for, how each command ends, and the statuses of the program
-pub mod Words
-pub mod Status
-pub mod Replaying
-pub mod Serving
-pub mod Program

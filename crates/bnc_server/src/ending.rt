@@ -1,0 +1,146 @@
+//! How the program ends before its work is done: its status, and what standard error is told.
+ghost use Rattle.std.specs.Prelude.{◌≡◌};
+ghost use Rattle.bnc_server.specs.Status.{status_of, end_of_file, end_of_words};
+
+use crate::fault::ReplayFault;
+use bnc_ports::ServeFault;
+use chat_change::ChangeFault;
+use node_config::ConfigFault;
+use std::fmt;
+use std::io::ErrorKind;
+
+const USAGE: &str = "usage: bnc replay <account> <network> <nick> | bnc serve <config>";
+
+/// Why the program ends before its work is done.
+#[derive(Clone, Copy)]
+pub enum End<'a> {
+    /// The words are no command, or a name is refused.
+    Usage,
+    /// There was no memory.
+    NoMemory,
+    /// Standard input or output failed, or a node can take no further change.
+    Device,
+    /// That file can't be read.
+    File(&'a str, ErrorKind),
+    /// A node can't begin.
+    Node(ServeFault),
+    /// A worker of a node failed.
+    Worker,
+    /// The configuration is refused.
+    Config(ConfigFault),
+}
+
+impl End<'_> {
+    /// The status that the program ends with.
+    pub fn status(self) -> u8
+        ensures { result ≡ status_of self.entry }
+    {
+        match self {
+            End::Usage => 2,
+            End::NoMemory => 3,
+            End::Device | End::File(_, _) | End::Node(_) | End::Worker => 4,
+            End::Config(_) => 5,
+        }
+    }
+
+    /// The first line that is told on standard error.
+    fn text(self) -> &'static str {
+        match self {
+            End::Usage => USAGE,
+            End::NoMemory => "no memory",
+            End::Device | End::File(_, _) | End::Node(_) | End::Worker => "read or write failed",
+            End::Config(_) => "config refused",
+        }
+    }
+
+    /// The end of a program that can't read that file for that reason.
+    pub(crate) fn without_file(path: &str, kind: ErrorKind) -> End<'_>
+        ensures { result ≡ end_of_file path.entry kind }
+    {
+        match kind {
+            ErrorKind::OutOfMemory => End::NoMemory,
+            _ => End::File(path, kind),
+        }
+    }
+
+    /// The end of a program whose words can't be had: a word that isn't text is no command.
+    pub fn without_words(kind: ErrorKind) -> End<'static>
+        ensures { result ≡ end_of_words kind }
+    {
+        match kind {
+            ErrorKind::OutOfMemory => End::NoMemory,
+            _ => End::Usage,
+        }
+    }
+}
+
+/// What is told on standard error: the first line, and where more is known a second one that says what failed, or what is
+/// wrong in the configuration.
+impl fmt::Display for End<'_> {
+    fn fmt<W: fmt::Write>(&self, f: &mut fmt::Formatter<W>) -> Result<(), fmt::Error> {
+        f.write_str(self.text())?;
+        match *self {
+            End::Usage | End::NoMemory | End::Device => Ok(()),
+            End::File(path, kind) => write!(f, "\ncan't read {path}: {kind}"),
+            End::Node(fault) => write!(f, "\n{fault}"),
+            End::Worker => f.write_str("\na worker failed"),
+            End::Config(fault) => write!(f, "\n{fault}"),
+        }
+    }
+}
+
+impl From<ChangeFault> for End<'_> {
+    ghost use Rattle.std.specs.Prelude.{◌≡◌};
+    ghost use Rattle.bnc_server.specs.Status.{end_of_names};
+
+    ghost from_gives = { λ fault end. end ≡ end_of_names fault };
+
+    fn from(fault: ChangeFault) -> Self {
+        match fault {
+            ChangeFault::NoMemory => End::NoMemory,
+            _ => End::Usage,
+        }
+    }
+}
+
+impl From<ReplayFault> for End<'_> {
+    ghost use Rattle.std.specs.Prelude.{◌≡◌};
+    ghost use Rattle.bnc_server.specs.Status.{end_of_replay};
+
+    ghost from_gives = { λ fault end. end ≡ end_of_replay fault };
+
+    fn from(fault: ReplayFault) -> Self {
+        match fault {
+            ReplayFault::NoMemory => End::NoMemory,
+            ReplayFault::Read | ReplayFault::Write => End::Device,
+        }
+    }
+}
+
+impl From<ServeFault> for End<'_> {
+    ghost use Rattle.std.specs.Prelude.{◌≡◌};
+    ghost use Rattle.bnc_server.specs.Status.{end_of_fault};
+
+    ghost from_gives = { λ fault end. end ≡ end_of_fault fault };
+
+    fn from(fault: ServeFault) -> Self {
+        match fault {
+            ServeFault::NoMemory => End::NoMemory,
+            _ => End::Node(fault),
+        }
+    }
+}
+
+impl From<ConfigFault> for End<'_> {
+    ghost use Rattle.std.specs.Prelude.{◌≡◌};
+    ghost use Rattle.bnc_server.specs.Status.{end_of_config};
+
+    ghost from_gives = { λ fault end. end ≡ end_of_config fault };
+
+    fn from(fault: ConfigFault) -> Self {
+        match fault {
+            ConfigFault::NoMemory => End::NoMemory,
+            _ => End::Config(fault),
+        }
+    }
+}

@@ -1,0 +1,50 @@
+//! What the program does by its words, and how it ends.
+ghost use Rattle.std.specs.Prelude.{◌≡◌, [], map, string_bytes};
+ghost use Rattle.std.specs.Fn.{FnOnceReturnsAt};
+ghost use Rattle.std.specs.Io.Buffered.{writer_buffer, writer_inner};
+ghost use Rattle.bnc_server.specs.Words.{command_of};
+ghost use Rattle.bnc_server.specs.Program.{EndsAs};
+ghost use Rattle.bnc_server.specs.Serving.{ServesPath};
+ghost use Rattle.bnc_server.specs.Replaying.{Replays};
+
+use crate::ending::End;
+use crate::replaying::replay_script;
+use crate::serving::serve_file;
+use crate::words::{Command, command_in};
+use bnc_ports::ServeFault;
+use node_config::Config;
+use std::alloc::Global;
+use std::io;
+use std::io::{BufWriter, Read, Write};
+use worker_io::WorkEnd;
+
+/// Does what the words ask for. `read` reads a file, and `serve` runs a node by a configuration.
+pub fn end_of_program<'a, In, Out, Files, Node>(
+    alloc: Global,
+    words: &'a [String],
+    input: &mut In,
+    output: &mut BufWriter<Out>,
+    read: Files,
+    serve: Node,
+) -> Result<(), End<'a>>
+where
+    In: Read,
+    Out: Write + Drop,
+    Files: FnOnce(&str) -> io::Result<Vec<u8>>,
+    Node: FnOnce(&Config) -> Result<Vec<WorkEnd>, ServeFault>,
+    requires empty { writer_buffer output.old ≡ [] }
+    requires reads { Files.IsAlwaysCallable read }
+    requires serves { Node.IsAlwaysCallable serve }
+    ensures { EndsAs
+        (ServesPath (FnOnceReturnsAt Files.FnOnce read) (FnOnceReturnsAt Node.FnOnce serve))
+        (Replays (In.remaining input.old) (In.remaining input.new)
+        (Out.contents (writer_inner output.old)) (Out.contents (writer_inner output.new)))
+        (command_of (map string_bytes words.now)) result }
+{
+    // Each branch returns, since the borrow checker doesn't join branches that move different values.
+    match command_in(words) {
+        None => return Err(End::Usage),
+        Some(Command::Serve(path)) => return serve_file(alloc, path, read, serve),
+        Some(Command::Replay(names)) => return replay_script(alloc, input, output, names),
+    }
+}

@@ -1,0 +1,71 @@
+//! `bnc replay`: the names it takes, and the script that it answers.
+ghost use Rattle.std.specs.Prelude.{◌≡◌, [], None, IfSome, IfErr, OnOk};
+ghost use Rattle.std.specs.Io.KnownBytes.{Appends, IsAtEnd};
+ghost use Rattle.std.specs.Io.Buffered.{writer_buffer, writer_inner};
+ghost use Rattle.bnc_server.specs.Words.{names_of};
+ghost use Rattle.bnc_server.specs.Replaying.{names_fault, refusal_of, world_of, text_of, IsAnswerEnd, Replays};
+
+use crate::ending::End;
+use crate::script::replay;
+use crate::words::Names;
+use chat_change::Buffer;
+use std::alloc::Global;
+use std::io::{BufWriter, Read, Write};
+
+/// Refuses names that no node can have.
+fn check_names(alloc: Global, names: Names<'_>) -> Result<(), End<'static>>
+    ensures lawful { OnOk result (names_fault (names_of names.entry) ≡ None) }
+    ensures refused { IfErr result (λ end. end ≡ refusal_of (names_of names.entry)) }
+{
+    Buffer::new(alloc, names.account, names.network, names.nick)?;
+    Ok(())
+}
+
+/// Answers a script, which is read to its end where all is done. All that the script prints has then left the buffer.
+fn answer<In: Read, Out: Write + Drop>(
+    alloc: Global,
+    reader: &mut In,
+    writer: &mut BufWriter<Out>,
+    names: Names<'_>,
+) -> Result<(), End<'static>>
+    requires names { names_fault (names_of names) ≡ None }
+    requires empty { writer_buffer writer.old ≡ [] }
+    ensures end { OnOk result (IsAtEnd (In.remaining reader.new)) }
+    ensures written { OnOk result (IfSome (In.remaining reader.old) (λ input.
+        Appends (Out.contents (writer_inner writer.old)) (Out.contents (writer_inner writer.new))
+        (text_of input (names_of names.entry)))) }
+    ensures fault { IfErr result (IsAnswerEnd
+        (In.remaining reader.old) (In.remaining reader.new) (Out.contents (writer_inner writer.old))
+        (world_of (names_of names.entry))) }
+{
+    let answered = replay(
+        alloc,
+        reader,
+        writer,
+        names.account,
+        names.network,
+        names.nick,
+    );
+    let flushed = writer.flush();
+    answered?;
+    match flushed {
+        Ok(()) => Ok(()),
+        Err(_) => Err(End::Device),
+    }
+}
+
+/// Answers a script for those names, if a node can have them.
+pub(crate) fn replay_script<In: Read, Out: Write + Drop>(
+    alloc: Global,
+    reader: &mut In,
+    writer: &mut BufWriter<Out>,
+    names: Names<'_>,
+) -> Result<(), End<'static>>
+    requires empty { writer_buffer writer.old ≡ [] }
+    ensures { Replays (In.remaining reader.old) (In.remaining reader.new)
+        (Out.contents (writer_inner writer.old)) (Out.contents (writer_inner writer.new))
+        (names_of names.entry) result }
+{
+    check_names(alloc, names)?;
+    answer(alloc, reader, writer, names)
+}

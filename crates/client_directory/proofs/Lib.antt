@@ -1,2 +1,0 @@
-mod SecretLemmas
-mod FirstLemmas

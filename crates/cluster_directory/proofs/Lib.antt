@@ -1,0 +1,5 @@
+mod SecretLemmas
+mod FirstLemmas
+mod NameLemmas
+mod TermsLemmas
+pub mod CallerLemmas

@@ -1,0 +1,15 @@
+use Rattle.std.proofs.Common.{sym, ◌∙◌}
+use Rattle.byte_text.proofs.CallerLemmas.{prefix_of_first, writes_second, writes_failed, writes_same, prefix_same}
+use Rattle.irc_tags.specs.Value.{value_text}
+use Rattle.irc_tags.proofs.TextLemmas.{some_value}
+use Rattle.irc_tags.proofs.text.put_value_part.Goals as goal
+
+pub returns-in_err-put : goal.returns-in_err-put
+returns-in_err-put g c =
+    writes_failed _ _ _ _ c.from_residual.result c.from_residual.ensures.1
+    (prefix_same _ _ _ _ (some_value c.args.value.now (sym c.is_empty.ensures ∙ c.if-is_empty.false)) (prefix_of_first _ _ _ (value_text c.args.value.now) c.in_err-put.ensures))
+
+pub returns : goal.returns
+returns g c =
+    writes_same _ _ _ _ c.write_value.result (some_value c.args.value.now (sym c.is_empty.ensures ∙ c.if-is_empty.false))
+    (writes_second _ _ _ _ _ c.write_value.result c.in_ok-put.ensures c.write_value.ensures)

@@ -1,3 +1,0 @@
-mod NameLemmas
-mod TermsLemmas
-pub mod CallerLemmas

@@ -1,2 +1,0 @@
-mod CourseLemmas
-mod LineLemmas

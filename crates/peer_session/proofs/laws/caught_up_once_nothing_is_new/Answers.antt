@@ -1,8 +1,0 @@
-use Rattle.peer_session.proofs.CourseLemmas.{not_caught_up_before, not_caught_up_after}
-use Rattle.peer_session.proofs.laws.caught_up_once_nothing_is_new.Goals as goal
-
-pub returns-clause-hello : goal.returns-clause-hello
-returns-clause-hello c = not_caught_up_before
-
-pub returns-clause-news : goal.returns-clause-news
-returns-clause-news c = not_caught_up_after

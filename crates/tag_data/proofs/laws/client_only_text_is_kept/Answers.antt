@@ -1,5 +1,0 @@
-use Rattle.tag_data.proofs.ClientTextLemmas.{kept_as_written}
-use Rattle.tag_data.proofs.laws.client_only_text_is_kept.Goals as goal
-
-pub returns : goal.returns
-returns c = kept_as_written

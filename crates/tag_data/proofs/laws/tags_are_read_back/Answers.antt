@@ -1,5 +1,0 @@
-use Rattle.tag_data.proofs.ReadBackLemmas.{tag_list-tags_text}
-use Rattle.tag_data.proofs.laws.tags_are_read_back.Goals as goal
-
-pub returns : goal.returns
-returns c = tag_list-tags_text

@@ -1,5 +1,0 @@
-use Rattle.tag_data.proofs.LengthLemmas.{text_is_no_longer}
-use Rattle.tag_data.proofs.laws.text_of_a_line_is_no_longer.Goals as goal
-
-pub returns : goal.returns
-returns c = text_is_no_longer

@@ -1,5 +1,0 @@
-use Rattle.tag_data.proofs.ReadBackLemmas.{text_in_line}
-use Rattle.tag_data.proofs.laws.text_stands_in_a_line.Goals as goal
-
-pub returns : goal.returns
-returns c = text_in_line

@@ -1,6 +1,0 @@
-use Rattle.std.proofs.Common.{sym, ◌∙◌}
-use Rattle.tag_data.proofs.ValueLemmas.{value_in-none}
-use Rattle.tag_data.proofs.lookup.unescaped.Goals as goal
-
-pub returns-in-None : goal.returns-in-None
-returns-in-None c = sym (value_in-none c.args.bytes.now (sym c.find_byte.ensures.place ∙ c.in-None.is))
