@@ -55,14 +55,14 @@ def file_is_right(program, file, told, rows=ROWS):
     add(f"calls: {file}", call)
 
 
-file_is_right("test_sessions", "client_refused", "2 cases, 0 wrong")
-file_is_right("test_sessions", "upstream_refused", "2 cases, 0 wrong")
-file_is_right("test_lines", "lines_refused", "5 rows, 0 wrong")
+file_is_right("test_sessions", "client_refused", "2 cases of 49 rows, 0 wrong")
+file_is_right("test_sessions", "upstream_refused", "2 cases of 41 rows, 0 wrong")
+file_is_right("test_state", "lines_refused", "1 cases of 6 rows, 0 rows wrong")
 # (these have rows that say what stands after a refusal)
-file_is_right("test_state", "states_refused", "4 cases, 0 rows wrong")
-file_is_right("test_state", "delta_refused", "1 cases, 0 rows wrong", rows=SAMPLED)
-file_is_right("test_state", "pages_refused", "1 cases, 0 rows wrong", rows=ALONE)
-file_is_right("test_peers", "links_refused", "2 cases of 40 rows, 0 wrong")
+file_is_right("test_state", "states_refused", "4 cases of 172 rows, 0 rows wrong")
+file_is_right("test_state", "delta_refused", "1 cases of 266 rows, 0 rows wrong", rows=SAMPLED)
+file_is_right("test_state", "pages_refused", "1 cases of 91 rows, 0 rows wrong", rows=ALONE)
+file_is_right("test_sessions", "peer_refused", "2 cases of 40 rows, 0 wrong")
 
 
 # How a test fails that says what it came to.

@@ -1,31 +1,42 @@
 //! The form of cases:
 //!
-//!     == setting: name of the case
-//!     lines of the script
+//!     == title
+//!     script
 //!     --
 //!     what it is to come to
 //!
-//! A NUL is spelled `␀`, and a CR `␍`. `client`, `upstream` and `replays` say what else stands in theirs.
+//! What stands before the first `: ` of a title is the case's setting. Where there is no `--` the script itself is what it is
+//! to come to. A NUL may be spelled `␀`, and a CR `␍`. `client`, `upstream`, `peer` and `replays` say what else stands in
+//! theirs.
 use std::alloc::{AllocError, Global};
 
-/// A session's setting, what comes to it, and what that is to come to.
+/// A case's name, what is played, and what that is to come to.
 #[derive(Clone, Copy)]
 pub struct Case<'a> {
-    pub setting: &'a str,
+    pub title: &'a str,
     pub script: &'a str,
     pub expected: &'a str,
 }
 
-/// The case that a part of a file spells: None without its marks.
-pub fn case_in(part: &str) -> Option<Case<'_>> {
-    let (title, rest) = part.split_once("\n")?;
-    let (setting, _) = title.split_once(": ")?;
-    let (script, expected) = rest.split_once("\n--\n")?;
-    Some(Case {
-        setting,
-        script,
-        expected,
-    })
+impl<'a> Case<'a> {
+    /// The case that a part of a file spells.
+    pub fn of(part: &'a str) -> Case<'a> {
+        let (title, rest) = part.split_once("\n").unwrap_or((part, ""));
+        let (script, expected) = rest.split_once("\n--\n").unwrap_or((rest, rest));
+        Case {
+            title,
+            script,
+            expected,
+        }
+    }
+
+    /// How what is played stands at first.
+    pub fn setting(self) -> &'a str {
+        match self.title.split_once(": ") {
+            Some((setting, _)) => setting,
+            None => self.title,
+        }
+    }
 }
 
 /// What a text spells.

@@ -258,14 +258,8 @@ impl Player {
     }
 }
 
-fn play_on(alloc: Global, setting: &str, script: &str, out: &mut Vec<u8>) -> Result<(), Error> {
+/// Tells what the lines of a script come to, one after the other.
+pub fn play(alloc: Global, setting: &str, script: &str, out: &mut Vec<u8>) -> Result<(), Error> {
     let mut player = player_of(alloc, setting)?;
     player.play_lines(alloc, script, out)
-}
-
-/// What the lines of a script come to, one after the other.
-pub fn play(alloc: Global, setting: &str, script: &str) -> Result<Vec<u8>, Error> {
-    let mut out = Vec::new(alloc);
-    play_on(alloc, setting, script, &mut out)?;
-    Ok(out)
 }

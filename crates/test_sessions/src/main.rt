@@ -1,43 +1,45 @@
 //! Plays files of cases and compares what each case comes to with what it is to come to: sessions of clients (`client`),
-//! sessions with servers (`upstream`), and scripts over devices that fail (`replays`). The words name the files; the part of a
-//! file's name in front of the first `_` says how its cases are played ([`cases`] has the forms). Then it tells the faults of
-//! the crates in words, and the reasons that the operator reads (`words`).
+//! sessions with servers (`upstream`), lines, links and connections between nodes (`peer`), and scripts over devices that fail
+//! (`replays`). The words name the files; the part of a file's name in front of the first `_` says how its cases are played
+//! ([`cases`] has the form). Then it tells the faults of the crates in words, and the reasons that the operator reads
+//! (`words`).
 //!
-//! It stands on `client_session`, `upstream_session`, `bnc_server` and the crates whose faults it tells. Read `play_file`
-//! first.
+//! It stands on `client_session`, `upstream_session`, `peer_lines`, `gossip_link`, `bnc_server` and the crates whose faults it
+//! tells. Read `play` first.
 #![tactic(auto)]
 
 mod cases;
 mod client;
 mod facts;
+mod peer;
 mod replays;
 mod telling;
 mod upstream;
 mod words;
 
 use anyhow::Error;
-use cases::{Case, case_in};
+use cases::{Case, spelled};
 use std::alloc::Global;
 use std::io::Write;
 use std::{env, fs, io};
 
-/// What a case comes to.
-fn played(alloc: Global, player: &str, case: Case<'_>) -> Result<Vec<u8>, Error> {
-    let script = cases::spelled(alloc, case.script)?;
+/// Tells what a case of that file comes to.
+fn play(alloc: Global, path: &str, case: Case<'_>, out: &mut Vec<u8>) -> Result<(), Error> {
+    let (player, file) = path.split_once("_").unwrap_or((path, ""));
+    let script = &spelled(alloc, case.script)?;
     match player {
-        "client" => client::play(alloc, case.setting, script.as_str()),
-        "replays" => replays::play(alloc, case.setting, script.as_str()),
-        _ => upstream::play(alloc, case.setting, script.as_str()),
+        "client" => client::play(alloc, case.setting(), script.as_str(), out),
+        "peer" => peer::play(alloc, file, case.title, script.as_str(), out),
+        "replays" => replays::play(alloc, case.setting(), script.as_str(), out),
+        _ => upstream::play(alloc, case.setting(), script.as_str(), out),
     }
 }
 
 /// Whether a case comes to what it is to come to. What else it comes to is told.
-fn is_right(rt: &HostRuntime, player: &str, part: &str) -> Result<bool, Error> {
-    let Some(case) = case_in(part) else {
-        return Ok(false);
-    };
-    let expected = cases::spelled(rt.alloc(), case.expected)?;
-    let out = played(rt.alloc(), player, case)?;
+fn is_right(rt: &HostRuntime, path: &str, case: Case<'_>) -> Result<bool, Error> {
+    let mut out = Vec::new(rt.alloc());
+    play(rt.alloc(), path, case, &mut out)?;
+    let expected = spelled(rt.alloc(), case.expected)?;
     if out.as_slice() == expected.as_bytes() {
         return Ok(true);
     }
@@ -51,19 +53,19 @@ fn tell(rt: &HostRuntime, out: &[u8]) -> io::Result<()> {
     writer.write_all(out)
 }
 
-/// Plays the cases of a file, and says how many there were and how many came to something else.
+/// Plays the cases of a file, and says how many there were, of how many rows, and how many came to something else.
 fn play_cases(rt: &HostRuntime, path: &str, text: &str) -> Result<(), Error> {
-    let (player, _) = path.split_once("_").unwrap_or((path, ""));
     let mut count: u64 = 0;
     let mut wrong: u64 = 0;
     for part in text.split("== ").skip(1) {
         count = count.saturating_add(1);
-        if !is_right(rt, player, part)? {
+        if !is_right(rt, path, Case::of(part))? {
             wrong = wrong.saturating_add(1);
             println!(rt; "wrong: {part}")?;
         }
     }
-    println!(rt; "{path}: {count} cases, {wrong} wrong")?;
+    let rows = text.lines().count();
+    println!(rt; "{path}: {count} cases of {rows} rows, {wrong} wrong")?;
     Ok(())
 }
 

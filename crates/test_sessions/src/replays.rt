@@ -32,12 +32,11 @@ fn ended(
     (answered, writer.bytes().len())
 }
 
-/// What a script comes to with that device failing after each number of calls.
-pub fn play(alloc: Global, setting: &str, script: &str) -> Result<Vec<u8>, Error> {
+/// Tells what a script comes to with that device failing after each number of calls.
+pub fn play(alloc: Global, setting: &str, script: &str, out: &mut Vec<u8>) -> Result<(), Error> {
     let (device, most) = setting.split_once(" ").unwrap_or((setting, ""));
     let most = most.parse::<usize>()?;
     let script = format!(in alloc; "{script}\n")?;
-    let mut out = Vec::new(alloc);
     for count in 0..usize::MAX {
         let reader = Source::new(script.as_bytes()).at_most(most);
         let (answered, bytes) = ended(alloc, reader, device, count);
@@ -47,5 +46,5 @@ pub fn play(alloc: Global, setting: &str, script: &str) -> Result<Vec<u8>, Error
         };
         write!(out, "{count} {bytes} {fault}\n")?;
     }
-    Ok(out)
+    Ok(())
 }

@@ -213,14 +213,8 @@ fn play_lines(
     Ok(())
 }
 
-fn play_on(alloc: Global, setting: &str, script: &str, out: &mut Vec<u8>) -> Result<(), Error> {
+/// Tells what the lines of a script come to, one after the other.
+pub fn play(alloc: Global, setting: &str, script: &str, out: &mut Vec<u8>) -> Result<(), Error> {
     let mut session = begun(alloc, setting)?;
     play_lines(alloc, &mut session, setting, script, out)
-}
-
-/// What the lines of a script come to, one after the other.
-pub fn play(alloc: Global, setting: &str, script: &str) -> Result<Vec<u8>, Error> {
-    let mut out = Vec::new(alloc);
-    play_on(alloc, setting, script, &mut out)?;
-    Ok(out)
 }

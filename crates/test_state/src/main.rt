@@ -1,21 +1,21 @@
-//! Plays states of chat histories by the rows of files, and compares what each row comes to with what it is to come to. The
-//! words name the files, which `tables.py` writes with the answers of a plain model of a history. A file has cases:
+//! Plays the rows of files, and compares what each comes to with what it is to come to. The words name files of cases:
 //!
 //!     == name of the case
-//!     row
 //!     row = what comes of it
+//!     kind input => what comes of it
 //!
-//! A row that begins with `C` spells a change, and other rows speak of changes by their numbers in the case, from 0. A case
-//! has a state and another one beside it, both empty at first: `act` says what rows do with them, `tell` what they ask,
-//! and [`Sight`] what is looked at. What comes of a row without ` = ` is nothing.
+//! Rows with ` => ` are of lines and changes (`lines`), the others of states of chat histories. A case has a state and another
+//! one beside it, both empty at first. A row that begins with `C` spells a change, and others speak of changes by their numbers
+//! in the case, from 0: `act` says what rows do, `tell` what they ask, and [`Sight`] what is looked at. What comes of a row
+//! without ` = ` is nothing. `tables.py` and `line_tables.py` write files, with the answers of a plain model or reader.
 //!
-//! With `speed` as its first word it measures, by hand, and plays nothing (`speed`).
-//!
-//! A row that is refused memory is played again, once what stands is looked at; it is wrong where a row `stands` says
-//! otherwise. `tests/suites/calls.py` refuses each request of `states_refused`, `delta_refused` and `pages_refused`.
+//! A row that is refused memory is played again; of a state, what stands is looked at first, and it is wrong where a row
+//! `stands` says otherwise. `tests/suites/calls.py` refuses each request of the files `.._refused`. With `speed` as its first
+//! word it measures, by hand, and plays nothing (`speed`).
 #![tactic(auto)]
 
 mod acts;
+mod lines;
 mod looks;
 mod numbers;
 mod questions;
@@ -30,7 +30,7 @@ use questions::{Sight, is_standing, tell};
 use std::alloc::Global;
 use std::{env, fs};
 
-/// What comes of a row.
+/// What comes of a row of states.
 fn told(
     alloc: Global,
     player: &mut Player,
@@ -59,6 +59,12 @@ fn comes_again(
 
 /// Plays a row, and says whether that came of it that is to come of it.
 fn comes(alloc: Global, player: &mut Player, sight: Sight<'_>, row: &str) -> Result<bool, Error> {
+    if let Some((input, wanted)) = row.split_once(" => ") {
+        return match &lines::comes(alloc, input, wanted) {
+            Ok(is_right) => Ok(*is_right),
+            Err(_) => lines::comes(alloc, input, wanted),
+        };
+    }
     let (words, wanted) = row.split_once(" = ").unwrap_or((row, ""));
     match &told(alloc, player, sight, words) {
         Ok(found) => Ok(found.as_slice() == wanted.as_bytes()),
@@ -86,8 +92,8 @@ fn play_rows(rt: &HostRuntime, player: &mut Player, rows: &str) -> Result<u64, E
     let mut wrong: u64 = 0;
     for row in rows.lines() {
         match sight.turned(row) {
-            Some(turned) => sight = turned,
-            None => {
+            Some(turned) if !row.contains(" => ") => sight = turned,
+            _ => {
                 let is_right = is_right(rt, player, sight, row)?;
                 wrong = wrong.saturating_add(u64::from(!is_right));
             }
@@ -112,15 +118,19 @@ fn play_part(rt: &HostRuntime, part: &str) -> Result<u64, Error> {
     Ok(wrong)
 }
 
-/// Plays the cases of a file, and says how many there were and of how many rows something else came.
+/// Plays the cases of a file, and says how many they and their rows were, and of how many rows something else came.
 fn play_cases(rt: &HostRuntime, path: &str, text: &str) -> Result<(), Error> {
+    let Some(all) = text.strip_prefix("== ") else {
+        return Ok(println!(rt; "{path}: no case")?);
+    };
     let mut cases: u64 = 0;
     let mut wrong: u64 = 0;
-    for part in text.split("== ").skip(1) {
+    for part in all.split("\n== ") {
         cases = cases.saturating_add(1);
         wrong = wrong.saturating_add(play_part(rt, part)?);
     }
-    Ok(println!(rt; "{path}: {cases} cases, {wrong} rows wrong")?)
+    let rows = text.lines().count();
+    Ok(println!(rt; "{path}: {cases} cases of {rows} rows, {wrong} rows wrong")?)
 }
 
 fn play_file(rt: &HostRuntime, path: &str) -> Result<(), Error> {

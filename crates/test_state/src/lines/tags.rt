@@ -1,6 +1,6 @@
 //! Tags that are read, and their values, and what is kept of them.
-use crate::spelling::{tell_all, tell_words};
-use crate::writing::failing_sink;
+use super::spelling::{tell_all, tell_words};
+use super::writing::failing_sink;
 use anyhow::Error;
 use irc_tags::{
     Tags, find_tag, is_client_only_text, read_tags, read_value, write_client_only, write_value,

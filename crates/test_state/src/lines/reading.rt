@@ -1,5 +1,5 @@
 //! Lines that are read, and times.
-use crate::spelling::{tell_all, tell_words};
+use super::spelling::{tell_all, tell_words};
 use anyhow::Error;
 use irc_line::{Line, TagLimit, read_line};
 use irc_time::{Moment, read_time, write_time};

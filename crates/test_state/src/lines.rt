@@ -1,16 +1,13 @@
-//! Plays rows of files over the crates of lines and changes: `irc_line`, `irc_tags`, `irc_time`, `chat_change` and
-//! `gossip_delta`. Each word names a file, and each row of it says what comes of an input:
+//! Rows without a state, over the crates of lines and changes: `irc_line`, `irc_tags`, `irc_time`, `chat_change` and
+//! `gossip_delta`. Each says what comes of an input:
 //!
 //!     kind input => what comes of it
 //!
 //! In the two texts `␀` spells a NUL, `␍` a CR, `␊` an LF, and `{a×510}` 510 times what stands before the `×`. What a kind
 //! does stands at the function that `tell` calls for it, and what is refused comes to the fault in words. Read `tell` first.
-//! `tables.py` writes `prefixes`, `broken` and `deltas`.
-#![tactic(auto)]
-
 mod changes;
-mod lines;
 mod parts;
+mod reading;
 mod spelling;
 mod streams;
 mod tags;
@@ -19,11 +16,10 @@ mod writing;
 use anyhow::Error;
 use changes::{tell_change, tell_known_change, tell_pair, tell_since};
 use irc_line::TagLimit;
-use lines::{tell_line, tell_moment, tell_time};
 use parts::{tell_buffer, tell_buffers, tell_id, tell_ids, tell_lawful, tell_message};
+use reading::{tell_line, tell_moment, tell_time};
 use spelling::spelled;
 use std::alloc::{AllocError, Global};
-use std::{env, fs};
 use streams::{tell_broken, tell_stream};
 use tags::{tell_tags, tell_value, tell_written_value};
 use writing::{tell_written_line, tell_written_tag, tell_written_tags};
@@ -89,44 +85,9 @@ fn found(alloc: Global, spelling: &str) -> Result<Vec<u8>, Error> {
     told(alloc, kind, input.as_str())
 }
 
-/// Whether that comes of a row that is to come of it.
-fn is_right(alloc: Global, row: &str) -> Result<bool, Error> {
-    let Some((spelling, wanted)) = row.split_once(" => ") else {
-        return Ok(false);
-    };
+/// Whether that comes of a kind and its input that is to come of it.
+pub fn comes(alloc: Global, spelling: &str, wanted: &str) -> Result<bool, Error> {
     let wanted = spelled(alloc, wanted)?;
     let found = found(alloc, spelling)?;
     Ok(found.as_slice() == wanted.as_bytes())
-}
-
-/// Plays a row, and shows it where something else came of it.
-fn play_row(rt: &HostRuntime, row: &str) -> Result<bool, Error> {
-    let is_right = is_right(rt.alloc(), row)?;
-    if !is_right {
-        println!(rt; "wrong: {row}")?;
-    }
-    Ok(is_right)
-}
-
-/// Plays the rows of a file, and says how many there were and of how many something else came.
-fn play_rows(rt: &HostRuntime, path: &str, text: &str) -> Result<(), Error> {
-    let mut rows: u64 = 0;
-    let mut wrong: u64 = 0;
-    for row in text.lines() {
-        rows = rows.saturating_add(1);
-        wrong = wrong.saturating_add(u64::from(!play_row(rt, row)?));
-    }
-    Ok(println!(rt; "{path}: {rows} rows, {wrong} wrong")?)
-}
-
-fn play_file(rt: &HostRuntime, path: &str) -> Result<(), Error> {
-    let text = fs::read_to_string(rt, path)?;
-    play_rows(rt, path, text.as_str())
-}
-
-fn main(rt: HostRuntime) -> Result<(), Error> {
-    for path in env::args(&rt)?.skip(1) {
-        play_file(&rt, path.as_str())?;
-    }
-    Ok(())
 }

@@ -5,8 +5,8 @@
 //!
 //! Before a call is made again it is looked at what stands: of a packet that wasn't made nothing was sent, of one that wasn't
 //! taken the state holds the first changes, and a gather takes a whole packet. A line with `but` tells where it isn't so.
-use crate::node::{life_of, link_of};
-use crate::script::tell_sent;
+use super::node::{life_of, link_of};
+use super::script::tell_sent;
 use anyhow::Error;
 use chat_change::Change;
 use chat_state::State;

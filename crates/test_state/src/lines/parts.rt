@@ -1,5 +1,5 @@
 //! The parts of changes: which are lawful, and what is made of them.
-use crate::spelling::tell_words;
+use super::spelling::tell_words;
 use anyhow::Error;
 use chat_change::{
     Buffer, ChangeFault, Kind, Message, Moment, MsgId, Record, is_body, is_id, is_message, is_name,

@@ -1,5 +1,5 @@
 //! Changes, as their lines spell them, and deltas of many.
-use crate::spelling::tell_words;
+use super::spelling::tell_words;
 use anyhow::Error;
 use chat_change::{Buffer, Change, Extent, goes_before};
 use chat_state::State;

@@ -1,5 +1,5 @@
 //! Lines of peers: what is read of each, what arrives with it, and what arrives, written again.
-use crate::script::tell_sent;
+use super::script::tell_sent;
 use anyhow::Error;
 use peer_lines::{
     Arrived, Gather, LinkFault, PeerLine, read_peer, write_ack, write_hello, write_packet,

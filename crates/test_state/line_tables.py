@@ -2,7 +2,7 @@
 """Writes the longer tables in data/, each with what a plain reader of lines makes of its inputs. The gate doesn't run it;
 it runs what it wrote.
 
-    ./tables.py          writes data/prefixes, data/broken and data/deltas
+    ./line_tables.py     writes data/prefixes, data/broken and data/deltas
 """
 
 import os
@@ -97,10 +97,18 @@ def deltas_table():
         yield f"since {start} {' < '.join(marks)} => {lines}to {start + len(newer)}"
 
 
+TABLES = (
+    ("prefixes", "prefixes of a line", prefixes_table),
+    ("broken", "streams with a byte replaced", broken_table),
+    ("deltas", "deltas", deltas_table),
+)
+
+
 def main():
     data = os.path.join(os.path.dirname(os.path.abspath(__file__)), "data")
-    for name, rows in (("prefixes", prefixes_table), ("broken", broken_table), ("deltas", deltas_table)):
+    for name, case, rows in TABLES:
         with open(os.path.join(data, name), "w", encoding="utf-8") as out:
+            out.write(f"== {case}\n")
             for row in rows():
                 out.write(row + "\n")
 

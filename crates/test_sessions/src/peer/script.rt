@@ -13,7 +13,7 @@
 //! A message of the peer is `known`, `taken`, `taken in part` or `ignored`. A line that is sent stands behind `> `, and
 //! `close` is said where the connection is to be closed. The node is n1 in its incarnation 7, with the shared word `green`,
 //! and with the peers n2, at place 1, and n3, at place 2, which is told version 1.
-use crate::node::Node;
+use super::node::Node;
 use anyhow::Error;
 use gossip_link::Side;
 use std::alloc::{AllocError, Global};

@@ -2,7 +2,7 @@
 """Writes the tables of peer lines in data/, each with what a plain reader makes of the line: it goes by the table of
 docs/PROTOCOL.md alone, field by field. The gate doesn't run it; it runs what it wrote.
 
-    ./tables.py          writes data/limits, data/changed, data/gathers, data/exchanges
+    ./peer_tables.py     writes data/peer_limits, data/peer_changed, data/peer_gathers, data/peer_exchanges
 """
 
 import os
@@ -435,7 +435,7 @@ TABLES = {"limits": limits_table, "changed": changed_table, "gathers": gathers_t
 def main():
     data = os.path.join(os.path.dirname(os.path.abspath(__file__)), "data")
     for name, rows in TABLES.items():
-        with open(os.path.join(data, name), "wb") as out:
+        with open(os.path.join(data, f"peer_{name}"), "wb") as out:
             for row in rows():
                 out.write(row + b"\n")
 
