@@ -30,17 +30,30 @@ fn put_posts<J: Naming, R: Wait + Drop>(
     Some(())
 }
 
-// A worker for each port.
-fn jobs<'a, J: Naming>(
+// What the worker of each port begins with.
+fn worker_configs_of(
     alloc: Global,
-    passes: Vec<Pass<J>>,
     setting: Setting<'_>,
-    ports: &'a mut [MemoryPort],
-) -> Option<Vec<Job<'a, J>>> {
+    ports: &mut [MemoryPort],
+) -> Option<Vec<WorkerConfig<RingClient>>> {
     let mut all = Vec::new(alloc);
-    for (pass, port) in passes.into_iter().zip(ports.iter_mut()) {
+    for port in ports {
         let worker_config = worker_config_of(alloc, setting, &mut port.entrance.lobby)?;
-        all.push((pass, worker_config, port)).ok()?;
+        all.push(worker_config).ok()?;
+    }
+    Some(all)
+}
+
+// The first of each, then the second of each, and so on.
+fn in_step<'a, A: Drop, B: Drop, C>(
+    alloc: Global,
+    first: Vec<A>,
+    second: Vec<B>,
+    third: &'a mut [C],
+) -> Option<Vec<(A, B, &'a mut C)>> {
+    let mut all = Vec::new(alloc);
+    for ((a, b), c) in first.into_iter().zip(second).zip(third) {
+        all.push((a, b, c)).ok()?;
     }
     Some(all)
 }
@@ -57,19 +70,39 @@ where
     R: Threads + Wait + Clock + AllocGlobal + Copy + Send + Sync + Drop,
     requires { IsNamed J.book J.name J.parts name }
 {
-    let alloc = rt.alloc();
-    let gate = Latch::new(*rt, setting.is_open, ports.len() == 2);
-    let (node, mut passes) = SharedNode::<J, &R>::new(alloc, rt, name).ok()?;
-    // the first one's pass puts them
-    put_posts(rt, alloc, &node, passes.first_mut()?, setting.posts)?;
-    let all = jobs(alloc, passes, setting, ports)?;
-    if all.len() == 1 {
-        return run_one(rt, setting.worker, &node, all, &gate);
-    }
-    run_all(rt, &node, all, &gate)
+    let worker_configs = worker_configs_of(rt.alloc(), setting, ports)?;
+    let (node, passes) = SharedNode::<J, &R>::new(rt.alloc(), rt, name).ok()?;
+    run_over(rt, &node, setting, passes, worker_configs, ports)
 }
 
-// Runs the first of these workers, as the one of that number.
+// The same, over a node that the first pass puts posts into.
+fn run_over<J, R>(
+    rt: &R,
+    node: &SharedNode<J, &R>,
+    setting: Setting<'_>,
+    mut passes: Vec<Pass<J>>,
+    worker_configs: Vec<WorkerConfig<RingClient>>,
+    ports: &mut [MemoryPort],
+) -> Option<Vec<WorkEnd>>
+where
+    J: Naming + Send + Sync,
+    R: Threads + Wait + Clock + AllocGlobal + Copy + Send + Sync + Drop,
+{
+    let gate = Latch::new(*rt, setting.is_open, ports.len() == 2);
+    put_posts(rt, rt.alloc(), node, passes.first_mut()?, setting.posts)?;
+    let all = in_step(rt.alloc(), passes, worker_configs, ports)?;
+    if all.len() == 1 {
+        return run_one(rt, setting.worker, node, all, &gate);
+    }
+    run_all(rt, node, all, &gate)
+}
+
+// The last of a list, alone.
+fn last_of<T: Drop>(mut all: Vec<T>) -> Option<T> {
+    all.pop()
+}
+
+// Runs the last of these workers, as the one of that number.
 fn run_one<J: Naming, R>(
     rt: &R,
     worker: usize,
@@ -82,7 +115,7 @@ where
 {
     // (the borrow checker knows no type that stands in a port's `Mail` alone)
     let _: Option<&Mail> = None;
-    let (pass, worker_config, port) = all.into_iter().next()?;
+    let (pass, worker_config, port) = last_of(all)?;
     let end = work(rt, worker, node, pass, worker_config, port, gate);
     vec![in rt.alloc(); end].ok()
 }
