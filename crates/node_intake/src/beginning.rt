@@ -84,19 +84,20 @@ where
     if let Some(pass) = passes.first_mut() {
         put_floors(rt, &node, pass, floors)?;
     }
-    let jobs = jobs_of(rt.alloc(), passes, beginnings)?;
+    let jobs = in_step(rt.alloc(), passes, beginnings)?;
     Ok((node, jobs))
 }
 
-// A job for each pass, in their order.
-fn jobs_of<J: Naming, X: Attachment, P: Port>(
+// The first of each list, then the second of each, and so on. What the lists have is any type here, so the proof of this
+// function has none of the parts that a pass or a port is let go by.
+fn in_step<A: Drop, B: Drop, C: Drop>(
     alloc: Global,
-    passes: Vec<Pass<J>>,
-    beginnings: Vec<(WorkerConfig<X>, P)>,
-) -> Result<Vec<Job<J, X, P>>, AllocError> {
-    let mut jobs = Vec::new(alloc);
-    for (pass, (worker_config, port)) in passes.into_iter().zip(beginnings) {
-        jobs.push((pass, worker_config, port))?;
+    first: Vec<A>,
+    second: Vec<(B, C)>,
+) -> Result<Vec<(A, B, C)>, AllocError> {
+    let mut all = Vec::new(alloc);
+    for (a, (b, c)) in first.into_iter().zip(second) {
+        all.push((a, b, c))?;
     }
-    Ok(jobs)
+    Ok(all)
 }
