@@ -9,26 +9,15 @@ use work_peers::Peers;
 use worker_io::{ClockWatch, Context, NodeView};
 
 /// The node, and what waits to be put there or to be sent to peers.
+#[derive(Drop)]
 pub(crate) struct Publisher<N: Node> {
     pub node: N,
     /// Looks at the clocks before floors are put.
-    pub(crate) watch: ClockWatch,
+    pub watch: ClockWatch,
     /// Messages of the server whose turn it is; between turns none.
     pub queue: PutQueue,
     /// Whether something was put that the peers are to have.
     pub has_published: bool,
-}
-
-// Written out, so that this is proved once, and not in each crate that lets a publisher go.
-impl<N: Node> Drop for Publisher<N> {
-    fn drop(self) {
-        let Self {
-            node: _node,
-            watch: _watch,
-            queue: _queue,
-            has_published: _has_published,
-        } = self;
-    }
 }
 
 impl<N: Node> Publisher<N> {
