@@ -31,7 +31,7 @@ use Rattle.cluster_directory.specs.Life.{Life}
 use Rattle.peer_lines.specs.Packet.{Packet, Ack}
 use Rattle.cluster_directory.specs.Version.{is_lower}
 use Rattle.cluster_directory.specs.declared.version.TheConstants.Version.{OWN}
-use Rattle.gossip_link.specs.declared.link.Heard.{Heard}
+use Rattle.gossip_link.specs.declared.link.KnownLife.{KnownLife}
 use Rattle.gossip_link.specs.Peer.{packet_of, packet_is_mine}
 use Rattle.cluster_directory.specs.Directory.{Directory, Account, Network, entry_if, entry_of, entry_of_account, entry_in}
 use Rattle.client_session.specs.Session.{session_after}
@@ -166,7 +166,7 @@ with_sound w sound place node is = record { directory = sound.directory; facts =
 abbrev pub IsSoundPacket : Packet → Type 0
 IsSoundPacket packet = AllByRecursion IsLawfulChange packet.changes
 
-packet_lawful : (me : Life) (name : List ℕ) (heard : Option Heard) (d : Delta) → AllByRecursion IsLawfulChange d.changes → IfSome (packet_of OWN me name heard d) IsSoundPacket
+packet_lawful : (me : Life) (name : List ℕ) (heard : Option KnownLife) (d : Delta) → AllByRecursion IsLawfulChange d.changes → IfSome (packet_of OWN me name heard d) IsSoundPacket
 packet_lawful me name None d all = tt
 packet_lawful me name (Some known) d all = go (is_lower known.version OWN || (length d.changes == 0)) where
   go : (b : Bool) → IfSome (cond b None (Some (record { sender = me; receiver = record { node = name; incarnation = known.incarnation }; from = d.from; to = d.to; changes = d.changes }))) IsSoundPacket

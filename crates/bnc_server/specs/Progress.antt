@@ -56,9 +56,9 @@ abbrev pub items_with : Held → List ℕ → List ℕ → List Item
 items_with held piece more = items_from held (piece ++ more)
 
 -- a call serves a piece of a script, and leaves this
-abbrev pub Serves : {W : Type 0} → (W → Option (List ℕ)) → W → W → Result (Unit {0}) ReplayFault
+abbrev pub ServesPiece : {W : Type 0} → (W → Option (List ℕ)) → W → W → Result (Unit {0}) ReplayFault
     → HeldWorld → Held → List ℕ → HeldWorld → Held → Type 0
-Serves contents old new result before held piece self feeder =
+ServesPiece contents old new result before held piece self feeder =
     (world : World) → before ≡ held_world world →
     MatchResult result
     (λ _. Goes (contents old) (contents new) world (items_with held piece) self feeder [])

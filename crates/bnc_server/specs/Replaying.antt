@@ -16,8 +16,8 @@ abbrev pub names_fault : Names → Option ChangeFault
 names_fault names = buffer_fault names.account names.network names.nick
 
 -- The end where a node can't have these names.
-abbrev pub refusal_of : Names → End
-refusal_of names = end_of_names (fault_or_no_memory (names_fault names))
+abbrev pub end_of_refusal : Names → End
+end_of_refusal names = end_of_names (fault_or_no_memory (names_fault names))
 
 abbrev pub world_of : Names → World
 world_of names = start names.account names.network names.nick
@@ -48,4 +48,4 @@ IsAnswerEnd unread left old w end = EndsByFault unread left old w end ⊎ (end �
 abbrev pub Replays : (unread left old new : Option (List ℕ)) → Names → Result (Unit {0}) End → Type 0
 Replays unread left old new names (Ok _) = IsAnswered unread left old new names
 Replays unread left old new names (Err end) =
-    (end ≡ refusal_of names) ⊎ IsAnswerEnd unread left old (world_of names) end
+    (end ≡ end_of_refusal names) ⊎ IsAnswerEnd unread left old (world_of names) end

@@ -19,11 +19,11 @@ serve_of word path = if bytes_eq word (codes "serve") then Some (Serve path) els
 abbrev pub replay_of : (word : List ℕ) → Names → Option Command
 replay_of word names = if bytes_eq word (codes "replay") then Some (Replay names) else None
 
-abbrev pub command_of : List (List ℕ) → Option Command
-command_of (word ∷ path ∷ []) = serve_of word path
-command_of (word ∷ account ∷ network ∷ nick ∷ []) =
+abbrev pub spelled_command : List (List ℕ) → Option Command
+spelled_command (word ∷ path ∷ []) = serve_of word path
+spelled_command (word ∷ account ∷ network ∷ nick ∷ []) =
     replay_of word (record { account = account; network = network; nick = nick })
-command_of _ = None
+spelled_command _ = None
 
 -- ---- what the code has for them
 

@@ -2,7 +2,7 @@
 ghost use Rattle.std.specs.Prelude.{◌≡◌, [], map, string_bytes};
 ghost use Rattle.std.specs.Fn.{FnOnceReturnsAt};
 ghost use Rattle.std.specs.Io.Buffered.{writer_buffer, writer_inner};
-ghost use Rattle.bnc_server.specs.Words.{command_of};
+ghost use Rattle.bnc_server.specs.Words.{spelled_command};
 ghost use Rattle.bnc_server.specs.Program.{EndsAs};
 ghost use Rattle.bnc_server.specs.Serving.{ServesPath};
 ghost use Rattle.bnc_server.specs.Replaying.{Replays};
@@ -39,7 +39,7 @@ where
         (ServesPath (FnOnceReturnsAt Files.FnOnce read) (FnOnceReturnsAt Node.FnOnce serve))
         (Replays (In.remaining input.old) (In.remaining input.new)
         (Out.contents (writer_inner output.old)) (Out.contents (writer_inner output.new)))
-        (command_of (map string_bytes words.now)) result }
+        (spelled_command (map string_bytes words.now)) result }
 {
     // Each branch returns, since the borrow checker doesn't join branches that move different values.
     match command_in(words) {

@@ -3,7 +3,7 @@ ghost use Rattle.std.specs.Prelude.{◌≡◌, [], None, IfSome, IfErr, OnOk};
 ghost use Rattle.std.specs.Io.KnownBytes.{Appends, IsAtEnd};
 ghost use Rattle.std.specs.Io.Buffered.{writer_buffer, writer_inner};
 ghost use Rattle.bnc_server.specs.Words.{names_of};
-ghost use Rattle.bnc_server.specs.Replaying.{names_fault, refusal_of, world_of, text_of, IsAnswerEnd, Replays};
+ghost use Rattle.bnc_server.specs.Replaying.{names_fault, end_of_refusal, world_of, text_of, IsAnswerEnd, Replays};
 
 use crate::ending::End;
 use crate::script::replay;
@@ -15,7 +15,7 @@ use std::io::{BufWriter, Read, Write};
 /// Refuses names that no node can have.
 fn check_names(alloc: Global, names: Names<'_>) -> Result<(), End<'static>>
     ensures lawful { OnOk result (names_fault (names_of names.entry) ≡ None) }
-    ensures refused { IfErr result (λ end. end ≡ refusal_of (names_of names.entry)) }
+    ensures refused { IfErr result (λ end. end ≡ end_of_refusal (names_of names.entry)) }
 {
     Buffer::new(alloc, names.account, names.network, names.nick)?;
     Ok(())

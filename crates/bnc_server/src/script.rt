@@ -8,7 +8,7 @@ ghost use Rattle.bnc_server.specs.Script.{start, script, text_of};
 ghost use Rattle.bnc_server.specs.World as worlds;
 ghost use Rattle.bnc_server.specs.Ending.{Ends};
 ghost use Rattle.bnc_server.specs.HeldNode.{held_world, WritesTextOf, Becomes, EndsBy};
-ghost use Rattle.bnc_server.specs.Progress.{text_of_next, world_after_next, MayEndNext, IsDrained, Serves, ServesAndSends};
+ghost use Rattle.bnc_server.specs.Progress.{text_of_next, world_after_next, MayEndNext, IsDrained, ServesPiece, ServesAndSends};
 
 use crate::fault::ReplayFault;
 use crate::world::World;
@@ -55,7 +55,7 @@ fn drain<W: Write>(
     alloc: Global,
     writer: &mut W,
 ) -> Result<(), ReplayFault>
-    ensures serves { Serves W.contents writer.old writer.new result
+    ensures serves { ServesPiece W.contents writer.old writer.new result
         world.old feeder.old [] world.new feeder.new }
     ensures drained { OnOk result (IsDrained feeder.new) }
 {
@@ -72,7 +72,7 @@ fn feed_piece<W: Write>(
     writer: &mut W,
 ) -> Result<(), ReplayFault>
     requires drained { IsDrained feeder.old }
-    ensures serves { Serves W.contents writer.old writer.new result
+    ensures serves { ServesPiece W.contents writer.old writer.new result
         world.old feeder.old piece.now world.new feeder.new }
     ensures drained { OnOk result (IsDrained feeder.new) }
 {

@@ -1,6 +1,6 @@
 //! What the words behind the program's name ask for.
 ghost use Rattle.std.specs.Prelude.{◌≡◌, map, option_map, string_bytes};
-ghost use Rattle.bnc_server.specs.Words.{command_of, serve_of, replay_of, names_of, value_of};
+ghost use Rattle.bnc_server.specs.Words.{spelled_command, serve_of, replay_of, names_of, value_of};
 
 /// The three names behind the word `replay`.
 #[derive(Clone, Copy)]
@@ -41,7 +41,7 @@ fn replay_in<'a>(word: &str, names: Names<'a>) -> Option<Command<'a>>
 
 /// The command that the words spell, if they spell one.
 pub(crate) fn command_in<'a>(words: &'a [String]) -> Option<Command<'a>>
-    ensures { option_map value_of result ≡ command_of (map string_bytes words.now) }
+    ensures { option_map value_of result ≡ spelled_command (map string_bytes words.now) }
 {
     match words {
         [word, path] => serve_in(word.as_str(), path.as_str()),

@@ -18,7 +18,7 @@ use Rattle.peer_lines.specs.Packet.{Packet, Ack}
 use Rattle.cluster_directory.specs.Version.{is_lower}
 use Rattle.cluster_directory.specs.declared.version.Version.{Version}
 use Rattle.cluster_directory.specs.Names.{same_name}
-use Rattle.gossip_link.specs.declared.link.Heard.{Heard}
+use Rattle.gossip_link.specs.declared.link.KnownLife.{KnownLife}
 use Rattle.gossip_link.specs.Peer.{Peer, is_news, hello_is_news, after_hello, packet_of, after_packet, packet_is_mine, ack_of, is_known, ack_is_mine, ack_is_too_high, after_ack}
 use Rattle.gossip_link.specs.Cluster.{Node, Made, World, ClusterEvent, Make, Take, Ask, Greet, Hello_comes, Send, Packet_comes, Part_comes, Ack_comes, Restart, with_value, life, with_node, with_peer, with_used, with_taken, new_node, take_made, hear, with_packet, send, packet_comes, part_comes, ack_comes, happens, run, start, IsFresh, LivesDiffer}
 use Rattle.gossip_link.specs.Promises.{ComesFrom, incarnation_of, Knows, PeerIncludes, IsAcknowledged}
@@ -127,7 +127,7 @@ heard_link : (w : World) (name peer : List ℕ) (hello : Life) (version : Versio
 heard_link w name peer hello version s lived =
     let me = life name (w.nodes name) in
     let p = (w.nodes name).peers peer in
-    let heard : Heard = record { incarnation = hello.incarnation; version = version } in
+    let heard : KnownLife = record { incarnation = hello.incarnation; version = version } in
     elim (hello_is_news peer p hello) as (λ b. hello_is_news peer p hello ≡ b → LinkIsSound w.nodes me peer (cond b (record { heard = Some heard; acked = 0; sent = 0 }) p)) [
       | true ↦ λ e known is.
           let named = sym (same_name_is peer hello.node (both_true (same_name peer hello.node) (is_news p.heard hello.incarnation) e).0) in
@@ -143,7 +143,7 @@ IsSound-hear w name peer which s =
     got (HelloIsSound w.nodes) (λ o. IsSound (hear w name peer o)) w.hellos which s.hellos s
     (λ hello lived. IsSound-peer w name peer (after_hello peer ((w.nodes name).peers peer) hello.life hello.version) s (heard_link w name peer hello.life hello.version s lived))
 
-known_is : (heard : Option Heard) (known : Heard) (i : ℕ) → heard ≡ Some known → is_known heard i ≡ true → known.incarnation ≡ i
+known_is : (heard : Option KnownLife) (known : KnownLife) (i : ℕ) → heard ≡ Some known → is_known heard i ≡ true → known.incarnation ≡ i
 known_is heard known i is e = equal_is known.incarnation i (subst (λ o. is_known o i ≡ true) is e)
 
 acked_link : (w : World) (name peer : List ℕ) (a : Ack) → IsSound w → AckIsSound w.nodes a → LinkIsSound w.nodes (life name (w.nodes name)) peer (after_ack (life name (w.nodes name)) peer ((w.nodes name).peers peer) a)
@@ -258,7 +258,7 @@ module _ (w : World) (name peer : List ℕ) (first : List Change) (begins : Begi
   abbrev sender : Peer → Node
   sender q = with_used (with_peer x peer q) peer (length first)
 
-  module _ (enough : x.used peer ≤ length first) (known : Heard) (heard : p.heard ≡ Some known) where
+  module _ (enough : x.used peer ≤ length first) (known : KnownLife) (heard : p.heard ≡ Some known) where
     abbrev i : ℕ
     i = known.incarnation
 
@@ -399,7 +399,7 @@ IsSound-start incarnations versions = record {
 -- ---- what follows
 
 -- what is known of a peer whose incarnation is known
-pub known_life : (heard : Option Heard) (i : ℕ) → incarnation_of heard ≡ Some i → (known : Heard) × (heard ≡ Some known) × (known.incarnation ≡ i)
+pub known_life : (heard : Option KnownLife) (i : ℕ) → incarnation_of heard ≡ Some i → (known : KnownLife) × (heard ≡ Some known) × (known.incarnation ≡ i)
 known_life None i e = cc e
 known_life (Some known) i e = let same : known.incarnation ≡ i = cc e in (known, refl, same)
 

@@ -14,7 +14,7 @@ use Rattle.chat_history.proofs.CallerLemmas.{UpTo-more}
 use Rattle.cluster_directory.specs.Life.{Life}
 use Rattle.peer_lines.specs.Packet.{Hello, Packet, Ack}
 use Rattle.cluster_directory.specs.declared.version.Version.{Version}
-use Rattle.gossip_link.specs.declared.link.Heard.{Heard}
+use Rattle.gossip_link.specs.declared.link.KnownLife.{KnownLife}
 use Rattle.gossip_link.specs.Peer.{Peer}
 use Rattle.gossip_link.specs.Cluster.{Node, Made, World, with_value, life, with_node, new_node, has_lived}
 use Rattle.gossip_link.specs.Promises.{ComesFrom}
@@ -41,7 +41,7 @@ pub record Reached (nodes : Nodes) (holder taker : Life) (first : List Change) (
 -- a node's knowledge of a peer
 abbrev pub LinkIsSound : Nodes → Life → List ℕ → Peer → Type 0
 LinkIsSound nodes me peer p =
-    (known : Heard) → p.heard ≡ Some known →
+    (known : KnownLife) → p.heard ≡ Some known →
     Lived nodes (record { node = peer; incarnation = known.incarnation })
     × ((first : List Change) × Reached nodes me (record { node = peer; incarnation = known.incarnation }) first p.acked)
 

@@ -11,10 +11,10 @@ use Rattle.cluster_directory.specs.Names.{same_name}
 use Rattle.peer_lines.specs.Spelling.{IsPacket}
 use Rattle.cluster_directory.specs.Version.{is_lower}
 use Rattle.cluster_directory.specs.declared.version.Version.{Version}
-use Rattle.gossip_link.specs.declared.link.Heard.{Heard}
+use Rattle.gossip_link.specs.declared.link.KnownLife.{KnownLife}
 
 pub record Peer : Type 0 where
-  pub heard : Option Heard  -- what a hello told of the peer's present life, its incarnation and its version
+  pub heard : Option KnownLife  -- what a hello told of the peer's present life, its incarnation and its version
   pub acked : ℕ  -- the greatest number that this life of the peer acknowledged
   pub sent : ℕ  -- the greatest number that was sent to this life of the peer
 
@@ -24,11 +24,11 @@ unheard = record { heard = None; acked = 0; sent = 0 }
 -- ---- hellos
 
 -- whether an incarnation is the first that is heard of, or greater
-abbrev pub is_news : Option Heard → ℕ → Bool
+abbrev pub is_news : Option KnownLife → ℕ → Bool
 is_news None i = true
 is_news (Some known) i = nat_lt known.incarnation i
 
-abbrev pub is_older : Option Heard → ℕ → Bool
+abbrev pub is_older : Option KnownLife → ℕ → Bool
 is_older None i = false
 is_older (Some known) i = nat_lt i known.incarnation
 
@@ -53,12 +53,12 @@ after_hello name p life version =
 -- ---- packets
 
 -- whether packets are made for a peer by a node that speaks this version: its life is known, and speaks no lower one
-abbrev pub is_served : Version → Option Heard → Bool
+abbrev pub is_served : Version → Option KnownLife → Bool
 is_served own None = false
 is_served own (Some known) = not (is_lower known.version own)
 
 -- the packet of a delta, from my life to the peer's, if the peer is served and the delta has changes
-abbrev pub packet_of : Version → Life → List ℕ → Option Heard → Delta → Option Packet
+abbrev pub packet_of : Version → Life → List ℕ → Option KnownLife → Delta → Option Packet
 packet_of own me name None d = None
 packet_of own me name (Some known) d =
     if is_lower known.version own || (length d.changes == 0)
@@ -92,7 +92,7 @@ ack_of me packet = record { sender = me; receiver = packet.sender; upto = packet
 
 -- ---- acknowledgements
 
-abbrev pub is_known : Option Heard → ℕ → Bool
+abbrev pub is_known : Option KnownLife → ℕ → Bool
 is_known None i = false
 is_known (Some known) i = known.incarnation == i
 

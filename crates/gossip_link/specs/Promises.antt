@@ -10,7 +10,7 @@ use Rattle.chat_change.specs.Key.{Key}
 use Rattle.chat_history.specs.History.{Includes}
 use Rattle.chat_history.specs.Numbering.{Delta, delta, front, number}
 use Rattle.cluster_directory.specs.declared.version.Version.{Version}
-use Rattle.gossip_link.specs.declared.link.Heard.{Heard}
+use Rattle.gossip_link.specs.declared.link.KnownLife.{KnownLife}
 use Rattle.gossip_link.specs.Peer.{is_served}
 use Rattle.gossip_link.specs.Cluster.{Made, World, ClusterEvent, run, start, LivesDiffer}
 
@@ -33,8 +33,8 @@ abbrev pub ComesFrom : List Made → Change → Type 0
 ComesFrom made (Redact b m t) = WasRedacted made b m × IfSome t (IsMadeMoment made b m)
 ComesFrom made c = IsMade made c
 
-abbrev pub incarnation_of : Option Heard → Option ℕ
-incarnation_of heard = option_map (λ (h : Heard). h.incarnation) heard
+abbrev pub incarnation_of : Option KnownLife → Option ℕ
+incarnation_of heard = option_map (λ (h : KnownLife). h.incarnation) heard
 
 -- a node knows the life that a peer has now
 abbrev pub Knows : World → List ℕ → List ℕ → Type 0

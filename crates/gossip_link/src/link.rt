@@ -17,7 +17,7 @@ use std::marker::Model;
 
 // What a node knows of its peer's present life.
 #[derive(Clone, Copy)]
-struct Heard {
+struct KnownLife {
     incarnation: u64,
     // the one of the first hello of this life
     version: Version,
@@ -28,7 +28,7 @@ struct Heard {
 pub struct Link {
     me: Life,
     name: NodeName,
-    heard: Option<Heard>,
+    heard: Option<KnownLife>,
     acked: u64,
     sent: u64,
 }
@@ -55,7 +55,7 @@ fn fault_of(fault: DeltaFault) -> LinkFault
 }
 
 // Whether an incarnation is the first that is heard of, or greater.
-fn is_first_or_greater(heard: Option<Heard>, incarnation: u64) -> bool
+fn is_first_or_greater(heard: Option<KnownLife>, incarnation: u64) -> bool
     ensures { result ≡ is_news heard incarnation }
 {
     match heard {
@@ -64,7 +64,7 @@ fn is_first_or_greater(heard: Option<Heard>, incarnation: u64) -> bool
     }
 }
 
-fn is_smaller(heard: Option<Heard>, incarnation: u64) -> bool
+fn is_smaller(heard: Option<KnownLife>, incarnation: u64) -> bool
     ensures { result ≡ is_older heard incarnation }
 {
     match heard {
@@ -73,7 +73,7 @@ fn is_smaller(heard: Option<Heard>, incarnation: u64) -> bool
     }
 }
 
-fn is_the_known(heard: Option<Heard>, incarnation: u64) -> bool
+fn is_the_known(heard: Option<KnownLife>, incarnation: u64) -> bool
     ensures { result ≡ is_known heard incarnation }
 {
     match heard {
@@ -119,7 +119,7 @@ impl Link {
             return Err(LinkFault::WrongLife);
         }
         if is_first_or_greater(heard, incarnation) {
-            self.heard = Some(Heard {
+            self.heard = Some(KnownLife {
                 incarnation,
                 version,
             });

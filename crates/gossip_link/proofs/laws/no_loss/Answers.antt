@@ -3,7 +3,7 @@ use Rattle.std.proofs.lemmas.Bool.{not-true}
 use Rattle.chat_history.proofs.CallerLemmas.{delta_further}
 use Rattle.cluster_directory.specs.Version.{is_lower}
 use Rattle.cluster_directory.specs.declared.version.Version.{Version}
-use Rattle.gossip_link.specs.declared.link.Heard.{Heard}
+use Rattle.gossip_link.specs.declared.link.KnownLife.{KnownLife}
 use Rattle.gossip_link.specs.Peer.{is_served}
 use Rattle.gossip_link.specs.Cluster.{start}
 use Rattle.gossip_link.proofs.SoundLemmas.{IsSound}
@@ -11,10 +11,10 @@ use Rattle.gossip_link.proofs.EventLemmas.{IsSound-run, IsSound-start, known_lif
 use Rattle.gossip_link.proofs.NoLossLemmas.{acknowledged}
 use Rattle.gossip_link.proofs.laws.no_loss.Goals as goal
 
-same_heard : (heard : Option Heard) (known : Heard) (i : ℕ) → heard ≡ Some known → known.incarnation ≡ i → heard ≡ Some (record { incarnation = i; version = known.version })
+same_heard : (heard : Option KnownLife) (known : KnownLife) (i : ℕ) → heard ≡ Some known → known.incarnation ≡ i → heard ≡ Some (record { incarnation = i; version = known.version })
 same_heard heard known i e f = e ∙ (λ j. Some (record { incarnation = f j; version = known.version }))
 
-no_lower : (own : Version) (heard : Option Heard) (known : Heard) → heard ≡ Some known → is_served own heard ≡ true → is_lower known.version own ≡ false
+no_lower : (own : Version) (heard : Option KnownLife) (known : KnownLife) → heard ≡ Some known → is_served own heard ≡ true → is_lower known.version own ≡ false
 no_lower own heard known e serves = not-true (is_lower known.version own) (subst (λ o. is_served own o ≡ true) e serves)
 
 pub returns : goal.returns
