@@ -101,7 +101,8 @@ def sessions_are_served(file, cases, judge):
             if not mark:
                 raise Failed(f"{script!r} wasn't played: {shortened(told)}, {ran.errors!r}")
             judge(script, told.decode().splitlines())
-        expect("the rest", f"{file}: {len(tried)} cases, {len(tried)} wrong\n".encode(), rest)
+        rows = text.count("\n") + 1
+        expect("the rest", f"{file}: {len(tried)} cases of {rows} rows, {len(tried)} wrong\n".encode(), rest)
         fixture.notes.append(f"{len(tried)} cases")
 
     add(f"hostile: sessions of {file.partition('_')[0]}s", call)
