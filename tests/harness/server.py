@@ -1,5 +1,7 @@
 """An IRC server with sessions of nodes (docs/PROTOCOL.md, "A session with a server")."""
 
+import time
+
 from harness.connection import Listener
 
 
@@ -32,3 +34,9 @@ class Server(Listener):
         """Waits until the node has taken all that the server said."""
         session.say("PING :settled")
         session.hear("PONG :settled")
+
+    def told(self, session):
+        """Waits until all that the server said is told, by the other workers too. These read it as mail, which nobody outside
+        sees, so they get a second for it: who comes by then may hear of what was said before."""
+        self.settled(session)
+        time.sleep(1)

@@ -216,9 +216,10 @@ def two_hundred_channels_are_told_to_a_client_that_attaches(fixture):
     for first in range(0, 200, 50):
         session.say(*(f":al!a@h JOIN {channel}" for channel in CHANNELS[first:first + 50]), f":al!a@h JOIN #{'d' * 200}")
         server.settled(session)
+    server.told(session)
     expect("the channels", CHANNELS, attached(node, "a client"))
     session.say(*(f":al!a@h PART {channel}" for channel in CHANNELS[:100]))
-    server.settled(session)
+    server.told(session)
     expect("the channels", CHANNELS[100:], attached(node, "a later client"))
 
 

@@ -102,7 +102,7 @@ def a_client_that_asks_while_a_page_is_owed_waits(fixture):
     session = server.register(OFFERED)
     lines = [said(number) for number in range(MOST)]
     session.say(*lines)
-    server.settled(session)
+    server.told(session)
     others = [node.client(f"client {number}").register("draft/read-marker", maximum=MOST) for number in range(2)]
     slow = node.client("the slow client", room=4096)
     slow.register("batch draft/chathistory draft/read-marker message-tags", maximum=MOST)
