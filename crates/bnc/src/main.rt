@@ -1,20 +1,27 @@
 //! The bouncer. `bnc replay <account> <network> <nick>` answers the script on standard input; `bnc serve <config>` runs a
 //! node.
 //!
-//! The program reads its words, hands its devices and what runs a node to `bnc_server`, and says by its status how it
-//! ended: 0 once all is done, 2 for its words, 3 for want of memory, 4 for a device or a file, 5 for the configuration. The
-//! whole of a refusal stands on standard error. Read `exit` first, which says which status each end has; what the words ask
-//! for is done by [`end_of_program`].
+//! What the words ask for is done by [`end_of_program`], over devices and a node that it is handed: a script is answered by
+//! `bnc_server`, a configuration is read by `node_config`, and a node is run by `node`. Where the work isn't done, an [`End`]
+//! says why. The status says how the program ended: 0 once all is done, 2 for its words, 3 for want of memory, 4 for a device
+//! or a file, 5 for the configuration. The whole of a refusal stands on standard error. Read [`end_of_program`] first, and then
+//! `exit`, which says which status each end has.
 #![tactic(auto)]
 
+mod ending;
 mod node;
+mod program;
+mod replaying;
+mod serving;
+mod words;
 
 ghost use Rattle.std.specs.Prelude.{◌≡◌, ◌↔◌, Ok, IfErr};
 ghost use Rattle.std.specs.Process.{exit_status};
-ghost use Rattle.bnc_server.specs.Status.{status_of};
+ghost use Rattle.bnc.specs.Status.{status_of};
 
+use crate::ending::End;
 use crate::node::run_prepared;
-use bnc_server::{End, end_of_program};
+use crate::program::end_of_program;
 use bnc_work::WorkEnd;
 use client_places::{Boxed, RingClient};
 use node_config::Config;

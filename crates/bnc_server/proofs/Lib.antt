@@ -11,4 +11,3 @@ mod ScheduleLemmas
 mod ScheduleHelloLemmas
 mod ScheduleStartLemmas
 mod ScheduleLinesLemmas
-mod ReplayLemmas

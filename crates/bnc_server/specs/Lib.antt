@@ -1,6 +1,5 @@
 -- What a reader must believe: what lines ask for, what a node does with them, what a script prints, that it is lines, where
--- it ends with which fault, and what the nodes are in a cluster; what the program's words ask for, how each command ends, and
--- the statuses of the program.
+-- it ends with which fault, and what the nodes are in a cluster.
 pub mod Command
 pub mod Request
 pub mod Node
@@ -12,11 +11,6 @@ pub mod Printed
 pub mod Faults
 pub mod Ending
 pub mod Schedule
-pub mod Words
-pub mod Status
-pub mod Replaying
-pub mod Serving
-pub mod Program
 -- What only the proofs use: what the code's values stand for, and how far a script has come.
 pub mod HeldNode
 pub mod Progress

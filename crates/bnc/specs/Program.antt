@@ -1,8 +1,8 @@
 -- How the program ends, by what its words ask for.
 use Rattle.std.specs.Prelude.{◌≡◌, ℕ, List, Option, None, Some, Result, Err}
-use Rattle.bnc_server.specs.declared.ending.End.{End}
-use Rattle.bnc_server.specs.declared.ending.End.TheVariants.{Usage}
-use Rattle.bnc_server.specs.Words.{Command, Replay, Serve, Names}
+use Rattle.bnc.specs.declared.ending.End.{End}
+use Rattle.bnc.specs.declared.ending.End.TheVariants.{Usage}
+use Rattle.bnc.specs.Words.{Command, Replay, Serve, Names}
 
 -- `serves` says how a node at a path ends, and `replays` how a script of those names does.
 abbrev pub EndsAs : (List ℕ → Result (Unit {0}) End → Type 0)

@@ -2,7 +2,7 @@
 ghost use Rattle.std.specs.Prelude.{◌≢◌, ◌↔◌, IsTrue};
 ghost use Rattle.std.specs.Fn.{FnOnceReturnsAt};
 ghost use Rattle.std.specs.List.{All};
-ghost use Rattle.bnc_server.specs.Serving.{IsConfigOf, IsEndOfRun, Serves};
+ghost use Rattle.bnc.specs.Serving.{IsConfigOf, IsEndOfRun, Serves};
 
 use crate::ending::End;
 use bnc_ports::ServeFault;

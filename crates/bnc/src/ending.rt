@@ -1,9 +1,9 @@
 //! How the program ends before its work is done: its status, and what standard error is told.
 ghost use Rattle.std.specs.Prelude.{◌≡◌};
-ghost use Rattle.bnc_server.specs.Status.{status_of, end_of_file, end_of_words};
+ghost use Rattle.bnc.specs.Status.{status_of, end_of_file, end_of_words};
 
-use crate::fault::ReplayFault;
 use bnc_ports::ServeFault;
+use bnc_server::ReplayFault;
 use chat_change::ChangeFault;
 use node_config::ConfigFault;
 use std::fmt;
@@ -13,7 +13,7 @@ const USAGE: &str = "usage: bnc replay <account> <network> <nick> | bnc serve <c
 
 /// Why the program ends before its work is done.
 #[derive(Clone, Copy)]
-pub enum End<'a> {
+pub(crate) enum End<'a> {
     /// The words are no command, or a name is refused.
     Usage,
     /// There was no memory.
@@ -32,7 +32,7 @@ pub enum End<'a> {
 
 impl End<'_> {
     /// The status that the program ends with.
-    pub fn status(self) -> u8
+    pub(crate) fn status(self) -> u8
         ensures { result ≡ status_of self.entry }
     {
         match self {
@@ -64,7 +64,7 @@ impl End<'_> {
     }
 
     /// The end of a program whose words can't be had: a word that isn't text is no command.
-    pub fn without_words(kind: ErrorKind) -> End<'static>
+    pub(crate) fn without_words(kind: ErrorKind) -> End<'static>
         ensures { result ≡ end_of_words kind }
     {
         match kind {
@@ -91,7 +91,7 @@ impl fmt::Display for End<'_> {
 
 impl From<ChangeFault> for End<'_> {
     ghost use Rattle.std.specs.Prelude.{◌≡◌};
-    ghost use Rattle.bnc_server.specs.Status.{end_of_names};
+    ghost use Rattle.bnc.specs.Status.{end_of_names};
 
     ghost from_gives = { λ fault end. end ≡ end_of_names fault };
 
@@ -105,7 +105,7 @@ impl From<ChangeFault> for End<'_> {
 
 impl From<ReplayFault> for End<'_> {
     ghost use Rattle.std.specs.Prelude.{◌≡◌};
-    ghost use Rattle.bnc_server.specs.Status.{end_of_replay};
+    ghost use Rattle.bnc.specs.Status.{end_of_replay};
 
     ghost from_gives = { λ fault end. end ≡ end_of_replay fault };
 
@@ -119,7 +119,7 @@ impl From<ReplayFault> for End<'_> {
 
 impl From<ServeFault> for End<'_> {
     ghost use Rattle.std.specs.Prelude.{◌≡◌};
-    ghost use Rattle.bnc_server.specs.Status.{end_of_fault};
+    ghost use Rattle.bnc.specs.Status.{end_of_fault};
 
     ghost from_gives = { λ fault end. end ≡ end_of_fault fault };
 
@@ -133,7 +133,7 @@ impl From<ServeFault> for End<'_> {
 
 impl From<ConfigFault> for End<'_> {
     ghost use Rattle.std.specs.Prelude.{◌≡◌};
-    ghost use Rattle.bnc_server.specs.Status.{end_of_config};
+    ghost use Rattle.bnc.specs.Status.{end_of_config};
 
     ghost from_gives = { λ fault end. end ≡ end_of_config fault };
 

@@ -1,7 +1,7 @@
 use Rattle.std.proofs.Common.{refl, inl}
 use Rattle.std.proofs.lemmas.Result.{err_from_is_err_and}
-use Rattle.bnc_server.proofs.ReplayLemmas.{ends-by-fault}
-use Rattle.bnc_server.proofs.replaying.answer.Goals as goal
+use Rattle.bnc.proofs.ReplayLemmas.{ends-by-fault}
+use Rattle.bnc.proofs.replaying.answer.Goals as goal
 
 pub returns-in_err-answered-clause-fault : goal.returns-in_err-answered-clause-fault
 returns-in_err-answered-clause-fault g c =

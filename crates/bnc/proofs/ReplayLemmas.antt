@@ -4,9 +4,9 @@ use Rattle.std.specs.Io.KnownBytes.{append_known}
 use Rattle.bnc_server.specs.declared.fault.ReplayFault.{ReplayFault}
 use Rattle.bnc_server.specs.Ending.{Ends}
 use Rattle.bnc_server.specs.World.{World}
-use Rattle.bnc_server.specs.declared.ending.End.{End}
-use Rattle.bnc_server.specs.Status.{end_of_replay}
-use Rattle.bnc_server.specs.Replaying.{EndsByFault}
+use Rattle.bnc.specs.declared.ending.End.{End}
+use Rattle.bnc.specs.Status.{end_of_replay}
+use Rattle.bnc.specs.Replaying.{EndsByFault}
 
 -- an empty buffer adds nothing
 pub known-nothing : (known : Option (List ℕ)) → append_known known [] ≡ known

@@ -1,6 +1,6 @@
 //! What the words behind the program's name ask for.
 ghost use Rattle.std.specs.Prelude.{◌≡◌, map, option_map, string_bytes};
-ghost use Rattle.bnc_server.specs.Words.{spelled_command, serve_of, replay_of, names_of, value_of};
+ghost use Rattle.bnc.specs.Words.{spelled_command, serve_of, replay_of, names_of, value_of};
 
 /// The three names behind the word `replay`.
 #[derive(Clone, Copy)]

@@ -12,9 +12,9 @@ use Rattle.node_config.specs.declared.config.Config.{Config}
 use Rattle.node_config.specs.declared.fault.ConfigFault.{ConfigFault}
 use Rattle.node_config.specs.Document.{IsRefused}
 use Rattle.node_config.specs.Meaning.{Says}
-use Rattle.bnc_server.specs.declared.ending.End.{End}
-use Rattle.bnc_server.specs.declared.ending.End.TheVariants.{Worker}
-use Rattle.bnc_server.specs.Status.{end_of_file, end_of_config, end_of_fault}
+use Rattle.bnc.specs.declared.ending.End.{End}
+use Rattle.bnc.specs.declared.ending.End.TheVariants.{Worker}
+use Rattle.bnc.specs.Status.{end_of_file, end_of_config, end_of_fault}
 
 -- what reading a file gives, and what running a node gives
 abbrev pub FileRead : Type 0

@@ -1,8 +1,8 @@
 -- What the words behind the program's name ask for.
 use Rattle.std.specs.Prelude.{ℕ, List, [], ◌∷◌, codes, bytes_eq, Option, None, Some, if◌then◌else◌}
-use Rattle.bnc_server.specs.declared.words.Names as held
-use Rattle.bnc_server.specs.declared.words.Command as code
-use Rattle.bnc_server.specs.declared.words.Command.TheVariants as variant
+use Rattle.bnc.specs.declared.words.Names as held
+use Rattle.bnc.specs.declared.words.Command as code
+use Rattle.bnc.specs.declared.words.Command.TheVariants as variant
 
 pub record Names : Type 0 where
   pub account : List ℕ

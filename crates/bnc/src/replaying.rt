@@ -2,12 +2,12 @@
 ghost use Rattle.std.specs.Prelude.{◌≡◌, [], None, IfSome, IfErr, OnOk};
 ghost use Rattle.std.specs.Io.KnownBytes.{Appends, IsAtEnd};
 ghost use Rattle.std.specs.Io.Buffered.{writer_buffer, writer_inner};
-ghost use Rattle.bnc_server.specs.Words.{names_of};
-ghost use Rattle.bnc_server.specs.Replaying.{names_fault, end_of_refusal, world_of, text_of, IsAnswerEnd, Replays};
+ghost use Rattle.bnc.specs.Words.{names_of};
+ghost use Rattle.bnc.specs.Replaying.{names_fault, end_of_refusal, world_of, text_of, IsAnswerEnd, Replays};
 
 use crate::ending::End;
-use crate::script::replay;
 use crate::words::Names;
+use bnc_server::replay;
 use chat_change::Buffer;
 use std::alloc::Global;
 use std::io::{BufWriter, Read, Write};

@@ -1,5 +1,5 @@
 use Rattle.std.proofs.Common.{refl, inr}
-use Rattle.bnc_server.proofs.serving.serve_file.Goals as goal
+use Rattle.bnc.proofs.serving.serve_file.Goals as goal
 
 pub returns : goal.returns
 returns g c = inr (record {

@@ -2,10 +2,10 @@
 ghost use Rattle.std.specs.Prelude.{◌≡◌, [], map, string_bytes};
 ghost use Rattle.std.specs.Fn.{FnOnceReturnsAt};
 ghost use Rattle.std.specs.Io.Buffered.{writer_buffer, writer_inner};
-ghost use Rattle.bnc_server.specs.Words.{spelled_command};
-ghost use Rattle.bnc_server.specs.Program.{EndsAs};
-ghost use Rattle.bnc_server.specs.Serving.{ServesPath};
-ghost use Rattle.bnc_server.specs.Replaying.{Replays};
+ghost use Rattle.bnc.specs.Words.{spelled_command};
+ghost use Rattle.bnc.specs.Program.{EndsAs};
+ghost use Rattle.bnc.specs.Serving.{ServesPath};
+ghost use Rattle.bnc.specs.Replaying.{Replays};
 
 use crate::ending::End;
 use crate::replaying::replay_script;
@@ -19,7 +19,7 @@ use std::io::{BufWriter, Read, Write};
 use worker_io::WorkEnd;
 
 /// Does what the words ask for. `read` reads a file, and `serve` runs a node by a configuration.
-pub fn end_of_program<'a, In, Out, Files, Node>(
+pub(crate) fn end_of_program<'a, In, Out, Files, Node>(
     alloc: Global,
     words: &'a [String],
     input: &mut In,

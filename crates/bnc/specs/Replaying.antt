@@ -7,10 +7,10 @@ use Rattle.bnc_server.specs.declared.fault.ReplayFault.{ReplayFault}
 use Rattle.bnc_server.specs.Ending.{Ends}
 use Rattle.bnc_server.specs.World.{World}
 use Rattle.bnc_server.specs.Script.{script, start}
-use Rattle.bnc_server.specs.declared.ending.End.{End}
-use Rattle.bnc_server.specs.declared.ending.End.TheVariants.{Device}
-use Rattle.bnc_server.specs.Status.{end_of_names, end_of_replay}
-use Rattle.bnc_server.specs.Words.{Names}
+use Rattle.bnc.specs.declared.ending.End.{End}
+use Rattle.bnc.specs.declared.ending.End.TheVariants.{Device}
+use Rattle.bnc.specs.Status.{end_of_names, end_of_replay}
+use Rattle.bnc.specs.Words.{Names}
 
 abbrev pub names_fault : Names → Option ChangeFault
 names_fault names = buffer_fault names.account names.network names.nick
