@@ -18,7 +18,8 @@ pub enum Happening<M> {
         number: usize,
         ticket: u64,
     },
-    /// The client that came under the ticket is to go, if it isn't registered: others wait for its place.
+    /// Others wait for the place of the client that came under the ticket. If it isn't registered, it is to go once what it
+    /// has sent by now is read, unless that registers it.
     Leave {
         ticket: u64,
     },

@@ -1,4 +1,5 @@
-//! Laws of connections with peers: when packets are made, and what comes of a connection's lines.
+//! Laws of connections with peers: when packets are made, and what comes of a connection's lines. Their contracts are the
+//! laws, and their bodies do nothing but name the law that they rest on, where there is one.
 ghost use Rattle.std.specs.Prelude.{◌≡◌, ◌⊎◌, ◌++◌, ◌∷◌, [], ◌&&◌, ℕ, List, Option, Some, None};
 ghost use Rattle.std.specs.Prelude.{false, true, length, nat_le, slice_get};
 ghost use Rattle.std.specs.List.{list_any, count_by};
