@@ -106,7 +106,28 @@ fn play_on<J: Naming + Send + Sync, R: Threads + Wait + Sync>(
     }
 }
 
-// Plays on a new node, and says how many changes were put.
+// Plays on a new node for a session of these facts, and says how many changes were put.
+fn play_for<J: Naming + Send + Sync, R: Threads + Wait + AllocGlobal + Sync>(
+    rt: &R,
+    name: Unnamed,
+    facts: &Facts,
+    play: Play,
+) -> Result<u64, Fault>
+    requires { IsNamed J.book J.name J.parts name }
+{
+    let alloc = rt.alloc();
+    let (node, passes) = SharedNode::<J, &R>::new(alloc, rt, name)?;
+    let cluster = Cluster {
+        rt,
+        alloc,
+        facts,
+        node,
+        passes,
+    };
+    play_on(cluster, play)
+}
+
+// The same, for a session of the usual facts.
 fn play<J: Naming + Send + Sync, R: Threads + Wait + AllocGlobal + Sync>(
     rt: &R,
     name: Unnamed,
@@ -114,17 +135,8 @@ fn play<J: Naming + Send + Sync, R: Threads + Wait + AllocGlobal + Sync>(
 ) -> Result<u64, Fault>
     requires { IsNamed J.book J.name J.parts name }
 {
-    let alloc = rt.alloc();
-    let facts = facts(alloc).ok_or(Fault::NoMemory)?;
-    let (node, passes) = SharedNode::<J, &R>::new(alloc, rt, name)?;
-    let cluster = Cluster {
-        rt,
-        alloc,
-        facts: &facts,
-        node,
-        passes,
-    };
-    play_on(cluster, play)
+    let facts = facts(rt.alloc()).ok_or(Fault::NoMemory)?;
+    play_for::<J, R>(rt, name, &facts, play)
 }
 
 // Plays on a new node of so many passes.

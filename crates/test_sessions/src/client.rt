@@ -156,6 +156,26 @@ fn tell_effect(out: &mut Vec<u8>, effect: &Effect) -> Result<(), AllocError> {
     }
 }
 
+// A step that has no answer for want of memory fails the case.
+fn tell_fault(fault: StepFault, out: &mut Vec<u8>) -> Result<(), Error> {
+    match fault {
+        StepFault::NoEntry => Ok(tell_row(out, b"no entry", b"")?),
+        StepFault::NoMemory => Err(Error::from(AllocError)),
+    }
+}
+
+// Tells what a question is answered: of which kind the answer was.
+fn tell_answer(
+    alloc: Global,
+    state: &State,
+    facts: &Facts,
+    question: &str,
+    out: &mut Vec<u8>,
+) -> Result<Answered, Error> {
+    let line = read_line(question.as_bytes(), TagLimit::Client)?;
+    Ok(answer(alloc, state, facts, &line, out)?)
+}
+
 impl Player {
     fn step(&mut self, alloc: Global, line: &[u8]) -> Result<Vec<Effect>, StepFault> {
         if self.is_closed {
@@ -185,11 +205,11 @@ impl Player {
 
     // Tells what a line of the client comes to.
     fn play(&mut self, alloc: Global, line: &[u8], out: &mut Vec<u8>) -> Result<(), Error> {
-        match self.step_again(alloc, line) {
-            Ok(effects) => Ok(self.tell_all(effects, out)?),
-            Err(StepFault::NoEntry) => Ok(tell_row(out, b"no entry", b"")?),
-            Err(StepFault::NoMemory) => Err(Error::from(AllocError)),
-        }
+        let effects = match self.step_again(alloc, line) {
+            Ok(effects) => effects,
+            Err(fault) => return tell_fault(fault, out),
+        };
+        Ok(self.tell_all(effects, out)?)
     }
 
     // The same of a line that was too long.
@@ -207,11 +227,10 @@ impl Player {
 
     // Tells the number of the session's next batch.
     fn tell_reference(&self, out: &mut Vec<u8>) -> Result<(), Error> {
-        match self.session.facts() {
-            None => tell_row(out, b"no facts", b"")?,
-            Some(facts) => write!(out, "reference {}\n", facts.reference)?,
-        }
-        Ok(())
+        let Some(facts) = self.session.facts() else {
+            return Ok(tell_row(out, b"no facts", b"")?);
+        };
+        Ok(write!(out, "reference {}\n", facts.reference)?)
     }
 
     // Tells what a question is answered, and of which kind the answer was.
@@ -219,11 +238,9 @@ impl Player {
         let Some(facts) = self.session.facts() else {
             return Ok(tell_row(out, b"no facts", b"")?);
         };
-        let line = read_line(question.as_bytes(), TagLimit::Client)?;
-        let answered = answer(alloc, &self.state, facts, &line, out)?;
+        let answered = tell_answer(alloc, &self.state, facts, question, out)?;
         self.session.answered(answered);
-        write!(out, "{}\n", name_of(answered))?;
-        Ok(())
+        Ok(write!(out, "{}\n", name_of(answered))?)
     }
 
     // Does what a line that begins with `%` says, without that sign.

@@ -35,16 +35,21 @@ fn play(alloc: Global, path: &str, case: Case<'_>, out: &mut Vec<u8>) -> Result<
     }
 }
 
-/// Whether a case comes to what it is to come to. What else it comes to is told.
-fn is_right(rt: &HostRuntime, path: &str, case: Case<'_>) -> Result<bool, Error> {
-    let mut out = Vec::new(rt.alloc());
-    play(rt.alloc(), path, case, &mut out)?;
-    let expected = spelled(rt.alloc(), case.expected)?;
-    if out.as_slice() == expected.as_bytes() {
+/// Whether that was found which is expected. What else was found is told.
+fn is_expected(rt: &HostRuntime, found: &[u8], expected: &[u8]) -> Result<bool, Error> {
+    if found == expected {
         return Ok(true);
     }
-    tell(rt, &out)?;
+    tell(rt, found)?;
     Ok(false)
+}
+
+/// Whether a case comes to what it is to come to.
+fn is_right(rt: &HostRuntime, path: &str, case: Case<'_>) -> Result<bool, Error> {
+    let expected = spelled(rt.alloc(), case.expected)?;
+    let mut found = Vec::new(rt.alloc());
+    play(rt.alloc(), path, case, &mut found)?;
+    is_expected(rt, &found, expected.as_bytes())
 }
 
 /// Writes bytes to the standard output.

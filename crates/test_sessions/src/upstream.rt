@@ -178,6 +178,12 @@ fn step_again(
     step(alloc, session, mark, line)
 }
 
+// The session says a line that has its ending.
+fn say_whole(alloc: Global, session: &mut Upstream, line: &str) -> Result<Vec<UpEffect>, Error> {
+    let whole = format!(in alloc; "{line}\r\n")?;
+    step_again(alloc, session, ">", whole.as_str())
+}
+
 fn play_line(
     alloc: Global,
     session: &mut Upstream,
@@ -189,10 +195,7 @@ fn play_line(
         "?" => return tell_session(out, session),
         "=" => return tell_joined(out, session, line),
         "*" => return Ok(tell_row(out, b"refused ", session.refusal())?),
-        "+" => {
-            let whole = format!(in alloc; "{line}\r\n")?;
-            step_again(alloc, session, ">", whole.as_str())?
-        }
+        "+" => say_whole(alloc, session, line)?,
         "<" | ">" | "!" => step_again(alloc, session, mark, line)?,
         _ => return Ok(tell_row(out, b"no line of a script", b"")?),
     };

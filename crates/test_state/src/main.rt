@@ -57,19 +57,35 @@ fn comes_again(
     Ok(is_standing && found.as_slice() == wanted.as_bytes())
 }
 
-/// Plays a row, and says whether that came of it that is to come of it.
-fn comes(alloc: Global, player: &mut Player, sight: Sight<'_>, row: &str) -> Result<bool, Error> {
-    if let Some((input, wanted)) = row.split_once(" => ") {
-        return match &lines::comes(alloc, input, wanted) {
-            Ok(is_right) => Ok(*is_right),
-            Err(_) => lines::comes(alloc, input, wanted),
-        };
+/// Whether that comes of a row of lines that is to come of it. Where it is refused memory it is played again.
+fn line_comes(alloc: Global, input: &str, wanted: &str) -> Result<bool, Error> {
+    match &lines::comes(alloc, input, wanted) {
+        Ok(is_right) => Ok(*is_right),
+        Err(_) => lines::comes(alloc, input, wanted),
     }
-    let (words, wanted) = row.split_once(" = ").unwrap_or((row, ""));
+}
+
+/// The same, of a row of states.
+fn state_comes(
+    alloc: Global,
+    player: &mut Player,
+    sight: Sight<'_>,
+    words: &str,
+    wanted: &str,
+) -> Result<bool, Error> {
     match &told(alloc, player, sight, words) {
         Ok(found) => Ok(found.as_slice() == wanted.as_bytes()),
         Err(_) => comes_again(alloc, player, sight, words, wanted),
     }
+}
+
+/// Plays a row, and says whether that came of it that is to come of it.
+fn comes(alloc: Global, player: &mut Player, sight: Sight<'_>, row: &str) -> Result<bool, Error> {
+    if let Some((input, wanted)) = row.split_once(" => ") {
+        return line_comes(alloc, input, wanted);
+    }
+    let (words, wanted) = row.split_once(" = ").unwrap_or((row, ""));
+    state_comes(alloc, player, sight, words, wanted)
 }
 
 /// The same, and shows the row where something else came of it.
@@ -145,10 +161,15 @@ fn play_files(rt: &HostRuntime, words: &[String]) -> Result<(), Error> {
     Ok(())
 }
 
+/// Plays the files that the words behind the program's name name, or measures.
+fn play(rt: &HostRuntime, words: &[String]) -> Result<(), Error> {
+    match words.get(1) {
+        Some(word) if word.as_str() == "speed" => Ok(speed::print_measure(rt, words)?),
+        _ => play_files(rt, words),
+    }
+}
+
 fn main(rt: HostRuntime) -> Result<(), Error> {
     let words: Vec<String> = env::args(&rt)?.collect(rt.alloc())?;
-    match words.get(1) {
-        Some(word) if word.as_str() == "speed" => Ok(speed::print_measure(&rt, &words)?),
-        _ => play_files(&rt, &words),
-    }
+    play(&rt, &words)
 }

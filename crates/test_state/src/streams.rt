@@ -65,6 +65,23 @@ fn feed_block(feeder: &mut Feeder, block: &[u8], size: usize) -> u64
     bytes
 }
 
+/// How long it takes to feed a block so many times, and the bytes of the lines' parameters.
+fn timed(
+    rt: &HostRuntime,
+    feeder: &mut Feeder,
+    block: &[u8],
+    size: u64,
+    count: u64,
+) -> Option<(Duration, u64)> {
+    let size = usize::try_from(size).unwrap_or(1).max(1);
+    let start = Instant::now(rt).ok()?;
+    let mut total = 0u64;
+    for _ in 0..count {
+        total = total.wrapping_add(feed_block(feeder, block, size));
+    }
+    Some((start.elapsed(rt).ok()?, total))
+}
+
 /// Reads the block `count` times in pieces of that many bytes, and counts the bytes of the lines' parameters.
 pub fn read_lines(
     rt: &HostRuntime,
@@ -72,13 +89,7 @@ pub fn read_lines(
     size: u64,
     count: u64,
 ) -> Option<(Duration, u64)> {
-    let size = usize::try_from(size).unwrap_or(1).max(1);
     let block = block(alloc)?;
     let mut feeder = Feeder::new(alloc).ok()?;
-    let start = Instant::now(rt).ok()?;
-    let mut total = 0u64;
-    for _ in 0..count {
-        total = total.wrapping_add(feed_block(&mut feeder, &block, size));
-    }
-    Some((start.elapsed(rt).ok()?, total))
+    timed(rt, &mut feeder, &block, size, count)
 }

@@ -106,11 +106,28 @@ fn directory_with(alloc: Global, account: &str, network: &str) -> Option<Directo
     Some(directory)
 }
 
+// A guest who is registered with that network.
+fn registered(alloc: Global, directory: &Directory, account: &str, network: &str) -> Option<Guest> {
+    let mut guest = Guest::new(alloc)?;
+    guest.register(alloc, directory, account, network)?;
+    Some(guest)
+}
+
+// What a guest says who is registered with that network.
+fn said_in(
+    alloc: Global,
+    directory: &Directory,
+    account: &str,
+    network: &str,
+    line: &str,
+) -> Option<SaidLine> {
+    let mut guest = registered(alloc, directory, account, network)?;
+    guest.say(alloc, directory, line.as_bytes())
+}
+
 /// A line for the server of that network, as a client that is registered with it says it. None where it says none.
 pub fn said_to(alloc: Global, network: usize, line: &str) -> Option<SaidLine> {
     let (account, name) = names_at(network);
     let directory = directory_with(alloc, account, name)?;
-    let mut guest = Guest::new(alloc)?;
-    guest.register(alloc, &directory, account, name)?;
-    guest.say(alloc, &directory, line.as_bytes())
+    said_in(alloc, &directory, account, name, line)
 }

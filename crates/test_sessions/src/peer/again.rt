@@ -227,6 +227,12 @@ fn tell_to(
     tell_arrived(alloc, link, &peer, arrived, sent)
 }
 
+// What arrives with these lines at a gather that is empty.
+fn arrived_of(alloc: Global, lines: &[u8]) -> Result<Option<Arrived>, LinkFault> {
+    let mut gather = Gather::new();
+    arrive(alloc, &mut gather, lines)
+}
+
 // What n2 hears of these lines in that incarnation, and n1 of n2.
 fn tell_lines(
     alloc: Global,
@@ -235,7 +241,7 @@ fn tell_lines(
     lines: &[u8],
     sent: &mut Vec<u8>,
 ) -> Result<(), Error> {
-    let arrived = arrive(alloc, &mut Gather::new(), lines)?;
+    let arrived = arrived_of(alloc, lines)?;
     tell_to(alloc, link, incarnation, &arrived, sent)
 }
 
