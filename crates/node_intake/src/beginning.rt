@@ -95,9 +95,6 @@ fn in_step<A: Drop, B: Drop, C: Drop>(
     first: Vec<A>,
     second: Vec<(B, C)>,
 ) -> Result<Vec<(A, B, C)>, AllocError> {
-    let mut all = Vec::new(alloc);
-    for (a, (b, c)) in first.into_iter().zip(second) {
-        all.push((a, b, c))?;
-    }
-    Ok(all)
+    let all = first.into_iter().zip(second);
+    all.map(|(a, (b, c))| (a, b, c)).collect(alloc)
 }

@@ -44,18 +44,16 @@ fn worker_configs_of(
     Some(all)
 }
 
-// The first of each, then the second of each, and so on.
+// The first of each, then the second of each, and so on. What the lists have is any type here, so the proof of this function
+// has none of the parts that a pass or a port is let go by.
 fn in_step<'a, A: Drop, B: Drop, C>(
     alloc: Global,
     first: Vec<A>,
     second: Vec<B>,
     third: &'a mut [C],
 ) -> Option<Vec<(A, B, &'a mut C)>> {
-    let mut all = Vec::new(alloc);
-    for ((a, b), c) in first.into_iter().zip(second).zip(third) {
-        all.push((a, b, c)).ok()?;
-    }
-    Some(all)
+    let all = first.into_iter().zip(second).zip(third);
+    all.map(|((a, b), c)| (a, b, c)).collect(alloc).ok()
 }
 
 // Runs the workers over their ports, each in a thread of its own; or the one of a number, where there is one port.
@@ -71,7 +69,9 @@ where
     requires { IsNamed J.book J.name J.parts name }
 {
     let worker_configs = worker_configs_of(rt.alloc(), setting, ports)?;
-    let (node, passes) = SharedNode::<J, &R>::new(rt.alloc(), rt, name).ok()?;
+    let Ok((node, passes)) = SharedNode::<J, &R>::new(rt.alloc(), rt, name) else {
+        return None;
+    };
     run_over(rt, &node, setting, passes, worker_configs, ports)
 }
 
@@ -97,7 +97,7 @@ where
     run_all(rt, node, all, &gate)
 }
 
-// The last of a list, alone.
+// The last of a list, alone, of any type too.
 fn last_of<T: Drop>(mut all: Vec<T>) -> Option<T> {
     all.pop()
 }
