@@ -103,21 +103,26 @@ fn case_in(part: &str) -> Option<Case<'_>> {
     })
 }
 
+/// Prints what else a case came to.
+fn print_wrong<R: Print + AllocGlobal>(rt: &R, name: &str, told: &[u8]) -> io::Result<()> {
+    let text = String::from_utf8_lossy(rt.alloc(), told)?;
+    println!(rt; "{name} came to:\n{text}")
+}
+
 /// Plays a case, and says whether it came to what it is to come to.
 fn is_right<R>(rt: &R, case: Case<'_>) -> io::Result<bool>
 where
     R: Print + Threads + Wait + Clock + AllocGlobal + Copy + Send + Sync + Drop,
 {
-    let Some(told) = played(rt, case.setting, case.script) else {
+    let Some(told) = &played(rt, case.setting, case.script) else {
         println!(rt; "{} can't be played", case.name)?;
         return Ok(false);
     };
-    if told.as_slice() == case.script.as_bytes() {
-        return Ok(true);
+    let is_right = told.as_slice() == case.script.as_bytes();
+    if !is_right {
+        print_wrong(rt, case.name, told)?;
     }
-    let text = String::from_utf8_lossy(rt.alloc(), &told)?;
-    println!(rt; "{} came to:\n{}", case.name, text)?;
-    Ok(false)
+    Ok(is_right)
 }
 
 /// Plays the cases of a file, and says how many there were and how many came to something else.

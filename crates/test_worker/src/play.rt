@@ -144,14 +144,18 @@ fn name_of(end: WorkEnd) -> &'static str {
     }
 }
 
-// Tells what came of the last act and how the work ended, and appends all that the port told.
+// Tells what came of the last act and how the work ended, and appends all that the port told, behind a line `--` where another
+// one has told something.
 fn tell_end(port: &mut MemoryPort, end: WorkEnd, told: &mut Vec<u8>) -> Result<(), AllocError> {
     port.tell_lines()?;
     port.tell(name_of(end))?;
+    if !told.is_empty() {
+        told.extend_from_slice(b"--\n")?;
+    }
     told.extend_from_slice(port.told())
 }
 
-// What a script came to: with a line `--` between, where there are two workers.
+// What a script came to.
 fn told_by(
     alloc: Global,
     ports: &mut [MemoryPort],
@@ -159,9 +163,6 @@ fn told_by(
 ) -> Result<Vec<u8>, AllocError> {
     let mut told = Vec::new(alloc);
     for (port, end) in ports.iter_mut().zip(ends.iter()) {
-        if !told.is_empty() {
-            told.extend_from_slice(b"--\n")?;
-        }
         tell_end(port, *end, &mut told)?;
     }
     Ok(told)
