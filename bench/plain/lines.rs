@@ -1,4 +1,4 @@
-//! What `test_state speed lines` measures, in plain Rust, with the same feeder and the same reading of a line.
+//! What `test_speed lines` measures, in plain Rust, with the same feeder and the same reading of a line.
 //! Build it by `rustc -O --edition 2021 lines.rs`, and call it with the same words.
 use std::time::Instant;
 

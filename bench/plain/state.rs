@@ -1,4 +1,4 @@
-//! What `test_state speed` measures of states, in plain Rust. Build it by `rustc -O --edition 2021 state.rs`, and call it with the
+//! What `test_speed` measures of states, in plain Rust. Build it by `rustc -O --edition 2021 state.rs`, and call it with the
 //! same words.
 mod history;
 

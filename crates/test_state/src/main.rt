@@ -10,8 +10,7 @@
 //! without ` = ` is nothing. `tables.py` and `line_tables.py` write files, with the answers of a plain model or reader.
 //!
 //! A row that is refused memory is played again; of a state, what stands is looked at first, and it is wrong where a row
-//! `stands` says otherwise. `tests/suites/calls.py` refuses each request of the files `.._refused`. With `speed` as its first
-//! word it measures, by hand, and plays nothing (`speed`).
+//! `stands` says otherwise. `tests/suites/calls.py` refuses each request of the files `.._refused`.
 #![tactic(auto)]
 
 mod acts;
@@ -19,8 +18,6 @@ mod lines;
 mod looks;
 mod numbers;
 mod questions;
-mod speed;
-mod streams;
 mod texts;
 mod walks;
 
@@ -154,22 +151,9 @@ fn play_file(rt: &HostRuntime, path: &str) -> Result<(), Error> {
     play_cases(rt, path, text.as_str())
 }
 
-fn play_files(rt: &HostRuntime, words: &[String]) -> Result<(), Error> {
-    for path in words.iter().skip(1) {
-        play_file(rt, path.as_str())?;
+fn main(rt: HostRuntime) -> Result<(), Error> {
+    for path in env::args(&rt)?.skip(1) {
+        play_file(&rt, path.as_str())?;
     }
     Ok(())
-}
-
-/// Plays the files that the words behind the program's name name, or measures.
-fn play(rt: &HostRuntime, words: &[String]) -> Result<(), Error> {
-    match words.get(1) {
-        Some(word) if word.as_str() == "speed" => Ok(speed::print_measure(rt, words)?),
-        _ => play_files(rt, words),
-    }
-}
-
-fn main(rt: HostRuntime) -> Result<(), Error> {
-    let words: Vec<String> = env::args(&rt)?.collect(rt.alloc())?;
-    play(&rt, &words)
 }

@@ -1,12 +1,16 @@
-//! Measures one call at one size, by hand: `test_state speed WHAT HELD COUNT` does WHAT so often as COUNT says, over a state
-//! that holds HELD messages, and prints how many nanoseconds each took. Nothing is measured in the gate.
+//! Measures one call at one size, by hand: `test_speed WHAT HELD COUNT` does WHAT so often as COUNT says, over a state that
+//! holds HELD messages, and prints how many nanoseconds each took. Nothing is measured in the gate.
 //!
 //! `newest` and `mixed` take further messages, in the order of their moments and in no order; `latest` and `before` answer a
 //! client that asks for a page of 100; `delta` makes a delta of 256 for a peer; `floor` takes the floor of an account whose
 //! messages lie in COUNT buffers, once, and lets half of each go; `lines` cuts and reads 1,000 lines that come in pieces of
-//! HELD bytes (`streams`). `bench/plain/state.rs` and `bench/plain/lines.rs` do the same in plain Rust.
+//! HELD bytes (`streams`). `bench/plain/state.rs` and `bench/plain/lines.rs` do the same in plain Rust. Read `done` first.
+#![tactic(auto)]
+
+mod streams;
+
 use crate::streams::read_lines;
-use crate::texts::number_of;
+use byte_text::number_to;
 use chat_batch::{Facts, answer};
 use chat_change::{Account, Buffer, Change, Moment};
 use chat_state::State;
@@ -14,11 +18,10 @@ use gossip_delta::{delta_since, read_change_in};
 use irc_caps::CapSet;
 use irc_line::{TagLimit, read_line};
 use std::alloc::Global;
-use std::io;
 use std::time::{Duration, Instant};
+use std::{env, io};
 
-const USAGE: &str =
-    "usage: test_state speed newest|mixed|latest|before|delta|floor|lines HELD COUNT";
+const USAGE: &str = "usage: test_speed newest|mixed|latest|before|delta|floor|lines HELD COUNT";
 
 /// A body of 40 bytes.
 const BODY: &str = "a body of forty bytes, as many lines are";
@@ -243,9 +246,14 @@ fn measured(rt: &HostRuntime, task: Task<'_>) -> Option<(Duration, u64)> {
     measured_on(rt, &buffers_of(rt.alloc(), count)?, task)
 }
 
-/// Measures what the words say behind `speed`, or prints how they are to be.
-pub fn print_measure(rt: &HostRuntime, words: &[String]) -> io::Result<()> {
-    let [_, _, what, held, count] = words else {
+/// The number that a word spells, and 0 of another word.
+fn number_of(word: &str) -> u64 {
+    number_to(u64::MAX, word.as_bytes()).unwrap_or(0)
+}
+
+/// Measures what the words say behind the program's name, or prints how they are to be.
+fn print_measure(rt: &HostRuntime, words: &[String]) -> io::Result<()> {
+    let [_, what, held, count] = words else {
         return println!(rt; "{USAGE}");
     };
     let (what, held, count) = (
@@ -258,4 +266,9 @@ pub fn print_measure(rt: &HostRuntime, words: &[String]) -> io::Result<()> {
     };
     let each = took.as_nanos() / u128::from(count.max(1));
     println!(rt; "{what} {held} {count}: {each} ns each, {total} in all")
+}
+
+fn main(rt: HostRuntime) -> io::Result<()> {
+    let words: Vec<String> = env::args(&rt)?.collect(rt.alloc())?;
+    print_measure(&rt, &words)
 }
