@@ -5,24 +5,27 @@
 //!     --
 //!     what it is to come to
 //!
-//! What stands before the first `: ` of a title is the case's setting. Where there is no `--` the script itself is what it is
-//! to come to. A NUL may be spelled `␀`, and a CR `␍`. `client`, `upstream`, `peer` and `replays` say what else stands in
-//! theirs.
+//! What stands before the first `: ` of a title is the case's setting. A case of `peer` may have no `--`: then the script
+//! itself is what it is to come to. A NUL may be spelled `␀`, and a CR `␍`. `client`, `upstream`, `peer` and `replays` say what
+//! else stands in theirs.
 use std::alloc::{AllocError, Global};
 
-/// A case's name, what is played, and what that is to come to.
+/// A case's name, what is played, and what that is to come to, where it says so.
 #[derive(Clone, Copy)]
 pub struct Case<'a> {
     pub title: &'a str,
     pub script: &'a str,
-    pub expected: &'a str,
+    pub expected: Option<&'a str>,
 }
 
 impl<'a> Case<'a> {
     /// The case that a part of a file spells.
     pub fn of(part: &'a str) -> Case<'a> {
         let (title, rest) = part.split_once("\n").unwrap_or((part, ""));
-        let (script, expected) = rest.split_once("\n--\n").unwrap_or((rest, rest));
+        let (script, expected) = match rest.split_once("\n--\n") {
+            Some((script, expected)) => (script, Some(expected)),
+            None => (rest, None),
+        };
         Case {
             title,
             script,

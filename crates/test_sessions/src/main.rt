@@ -44,9 +44,20 @@ fn is_expected(rt: &HostRuntime, found: &[u8], expected: &[u8]) -> Result<bool, 
     Ok(false)
 }
 
+/// What a case of that file is to come to.
+fn expected_of<'a>(path: &str, case: Case<'a>) -> Option<&'a str> {
+    match case.expected {
+        None if path.starts_with("peer_") => Some(case.script),
+        expected => expected,
+    }
+}
+
 /// Whether a case comes to what it is to come to.
 fn is_right(rt: &HostRuntime, path: &str, case: Case<'_>) -> Result<bool, Error> {
-    let expected = spelled(rt.alloc(), case.expected)?;
+    let Some(expected) = expected_of(path, case) else {
+        return Ok(false);
+    };
+    let expected = spelled(rt.alloc(), expected)?;
     let mut found = Vec::new(rt.alloc());
     play(rt.alloc(), path, case, &mut found)?;
     is_expected(rt, &found, expected.as_bytes())
