@@ -10,7 +10,6 @@
 mod streams;
 
 use crate::streams::read_lines;
-use byte_text::number_to;
 use chat_batch::{Facts, answer};
 use chat_change::{Account, Buffer, Change, Moment};
 use chat_state::State;
@@ -246,29 +245,32 @@ fn measured(rt: &HostRuntime, task: Task<'_>) -> Option<(Duration, u64)> {
     measured_on(rt, &buffers_of(rt.alloc(), count)?, task)
 }
 
-/// The number that a word spells, and 0 of another word.
-fn number_of(word: &str) -> u64 {
-    number_to(u64::MAX, word.as_bytes()).unwrap_or(0)
+/// What the words behind the program's name say; None where they say nothing that is measured.
+fn task_in(words: &[String]) -> Option<Task<'_>> {
+    let [_, what, held, count] = words else {
+        return None;
+    };
+    Some(Task {
+        what: what.as_str(),
+        held: held.as_str().parse::<u64>().ok()?,
+        count: count.as_str().parse::<u64>().ok()?,
+    })
 }
 
-/// Measures what the words say behind the program's name, or prints how they are to be.
-fn print_measure(rt: &HostRuntime, words: &[String]) -> io::Result<()> {
-    let [_, what, held, count] = words else {
+/// Measures what is to be measured, and prints it.
+fn print_measure(rt: &HostRuntime, task: Task<'_>) -> io::Result<()> {
+    let Some((took, total)) = measured(rt, task) else {
         return println!(rt; "{USAGE}");
     };
-    let (what, held, count) = (
-        what.as_str(),
-        number_of(held.as_str()),
-        number_of(count.as_str()),
-    );
-    let Some((took, total)) = measured(rt, Task { what, held, count }) else {
-        return println!(rt; "{USAGE}");
-    };
+    let Task { what, held, count } = task;
     let each = took.as_nanos() / u128::from(count.max(1));
     println!(rt; "{what} {held} {count}: {each} ns each, {total} in all")
 }
 
 fn main(rt: HostRuntime) -> io::Result<()> {
     let words: Vec<String> = env::args(&rt)?.collect(rt.alloc())?;
-    print_measure(&rt, &words)
+    match task_in(&words) {
+        Some(task) => print_measure(&rt, task),
+        None => println!(rt; "{USAGE}"),
+    }
 }
