@@ -106,28 +106,7 @@ fn play_on<J: Naming + Send + Sync, R: Threads + Wait + Sync>(
     }
 }
 
-// Plays on a new node for a session of these facts, and says how many changes were put.
-fn play_for<J: Naming + Send + Sync, R: Threads + Wait + AllocGlobal + Sync>(
-    rt: &R,
-    name: Unnamed,
-    facts: &Facts,
-    play: Play,
-) -> Result<u64, Fault>
-    requires { IsNamed J.book J.name J.parts name }
-{
-    let alloc = rt.alloc();
-    let (node, passes) = SharedNode::<J, &R>::new(alloc, rt, name)?;
-    let cluster = Cluster {
-        rt,
-        alloc,
-        facts,
-        node,
-        passes,
-    };
-    play_on(cluster, play)
-}
-
-// The same, for a session of the usual facts.
+// Plays on a new node, and says how many changes were put.
 fn play<J: Naming + Send + Sync, R: Threads + Wait + AllocGlobal + Sync>(
     rt: &R,
     name: Unnamed,
@@ -135,8 +114,17 @@ fn play<J: Naming + Send + Sync, R: Threads + Wait + AllocGlobal + Sync>(
 ) -> Result<u64, Fault>
     requires { IsNamed J.book J.name J.parts name }
 {
-    let facts = facts(rt.alloc()).ok_or(Fault::NoMemory)?;
-    play_for::<J, R>(rt, name, &facts, play)
+    let alloc = rt.alloc();
+    let facts = facts(alloc).ok_or(Fault::NoMemory)?;
+    let (node, passes) = SharedNode::<J, &R>::new(alloc, rt, name)?;
+    let cluster = Cluster {
+        rt,
+        alloc,
+        facts: &facts,
+        node,
+        passes,
+    };
+    play_on(cluster, play)
 }
 
 // Plays on a new node of so many passes.

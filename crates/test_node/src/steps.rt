@@ -58,27 +58,17 @@ fn tell_second<J: Naming, H: Wait + Drop, W: Wait>(
     }
 }
 
-// The number that a pass reads.
-fn number_read<J: Naming>(
-    alloc: Global,
-    facts: &Facts,
-    pass: &mut Pass<J>,
-    read: Read,
-) -> Result<u64, Fault> {
-    match read {
-        Read::Marker => marker(alloc, facts, pass, A),
-        Read::Delta => delta_count(alloc, pass),
-        Read::Shown(id) => shown(alloc, pass, id),
-        Read::Due => due_floor(alloc, pass),
-    }
-}
-
 impl<J: Naming, R: Wait> Cluster<'_, J, R> {
-    // The number that the pass at a place reads.
+    // The number that a pass reads.
     fn read(&mut self, place: usize, read: Read) -> Result<u64, Fault> {
-        match self.passes.get_mut(place) {
-            Some(pass) => number_read(self.alloc, self.facts, pass, read),
-            None => Err(Fault::NoPass),
+        let Some(pass) = self.passes.get_mut(place) else {
+            return Err(Fault::NoPass);
+        };
+        match read {
+            Read::Marker => marker(self.alloc, self.facts, pass, A),
+            Read::Delta => delta_count(self.alloc, pass),
+            Read::Shown(id) => shown(self.alloc, pass, id),
+            Read::Due => due_floor(self.alloc, pass),
         }
     }
 
