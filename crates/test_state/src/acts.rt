@@ -4,7 +4,7 @@ use anyhow::Error;
 use chat_change::Change;
 use chat_state::{State, StateFault, TakeFault, run};
 use gossip_delta::read_change;
-use std::alloc::{AllocError, Global};
+use std::alloc::Global;
 use std::io::Write;
 use std::mem;
 
@@ -58,20 +58,6 @@ fn absorb_one(state: &mut State, change: &Change) -> Result<u8, Error> {
     }
 }
 
-// Takes the change with that number, if there is one.
-fn absorb_at(
-    state: &mut State,
-    changes: &[Change],
-    word: &str,
-    out: &mut Vec<u8>,
-) -> Result<(), Error> {
-    let sign = match changes.get(number_of(word) as usize) {
-        Some(change) => absorb_one(state, change)?,
-        None => b'?',
-    };
-    Ok(out.push(sign)?)
-}
-
 fn absorb(
     state: &mut State,
     changes: &[Change],
@@ -81,33 +67,26 @@ fn absorb(
     // (so that no sign is missing of a change that was taken)
     out.reserve(words.len())?;
     for word in words.split(" ") {
-        absorb_at(state, changes, word, out)?;
+        match changes.get(number_of(word) as usize) {
+            Some(change) => out.push(absorb_one(state, change)?)?,
+            None => out.push(b'?')?,
+        }
     }
     Ok(())
 }
 
-// Adds a copy of the change with that number.
-fn add_copy(changes: &[Change], word: &str, list: &mut Vec<Change>) -> Result<(), AllocError> {
-    let Some(change) = changes.get(number_of(word) as usize) else {
-        return Ok(());
-    };
-    Ok(list.push(change.try_clone()?)?)
-}
-
 // The changes with these numbers.
-fn list_of(alloc: Global, changes: &[Change], words: &str) -> Result<Vec<Change>, AllocError> {
+fn list_of(alloc: Global, changes: &[Change], words: &str) -> Result<Vec<Change>, Error> {
     let mut list = Vec::new(alloc);
     for word in words.split(" ") {
-        add_copy(changes, word, &mut list)?;
+        if let Some(change) = changes.get(number_of(word) as usize) {
+            list.push(change.try_clone()?)?;
+        }
     }
     Ok(list)
 }
 
-fn lists_of(
-    alloc: Global,
-    changes: &[Change],
-    words: &str,
-) -> Result<Vec<Vec<Change>>, AllocError> {
+fn lists_of(alloc: Global, changes: &[Change], words: &str) -> Result<Vec<Vec<Change>>, Error> {
     let mut lists = Vec::new(alloc);
     for part in words.split(" | ") {
         lists.push(list_of(alloc, changes, part)?)?;
