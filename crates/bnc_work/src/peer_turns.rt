@@ -1,14 +1,12 @@
 //! The turns of peers.
 use crate::marker_turns::tell_risen;
-use crate::marks::{MarkAhead, marks_ahead};
+use crate::marks::marks_ahead;
 use crate::node::Node;
 use crate::publisher::Publisher;
 use crate::work_port::{PortClients, PortPeers, WorkPort};
-use bnc_ports::Connection;
 use client_places::Attachment;
 use gossip_link::changes_of;
-use std::alloc::Global;
-use work_peers::{PeerStep, Peers};
+use work_peers::PeerStep;
 use worker_io::{Context, WorkEnd};
 
 /// So many lines of a peer are taken before the others have their turn.
@@ -57,19 +55,6 @@ fn serve_peer<N: Node, X: Attachment, P: WorkPort>(
     Ok(())
 }
 
-// The markers that are further in the message of a connection than in the node, where one is to be carried out.
-fn marks_in_message<N: Node, C: Connection>(
-    node: &mut N,
-    alloc: Global,
-    peers: &Peers<C>,
-    number: usize,
-) -> Vec<MarkAhead> {
-    match peers.message(number) {
-        Some(arrived) => marks_ahead(node, alloc, changes_of(arrived)),
-        None => Vec::new(alloc),
-    }
-}
-
 // Carries out the message that came over a connection with a peer. Sessions are told of the markers that rose by it.
 fn take_message<N: Node, X: Attachment, P: WorkPort>(
     publisher: &mut Publisher<N>,
@@ -79,7 +64,10 @@ fn take_message<N: Node, X: Attachment, P: WorkPort>(
     number: usize,
 ) -> Result<(), WorkEnd> {
     peers.greet(context, number);
-    let marks = marks_in_message(&mut publisher.node, context.view.alloc, peers, number);
+    let marks = match peers.message(number) {
+        Some(arrived) => marks_ahead(&mut publisher.node, context.view.alloc, changes_of(arrived)),
+        None => Vec::new(context.view.alloc),
+    };
     let done = if publisher.take(context, peers, number) {
         tell_risen(&mut publisher.node, context, clients, &marks)
     } else {
