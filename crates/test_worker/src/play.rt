@@ -97,7 +97,7 @@ where
     run_all(rt, node, all, &gate)
 }
 
-// The last of a list, alone, of any type too.
+// The last of a list, which has values of any type here too, for the same reason.
 fn last_of<T: Drop>(mut all: Vec<T>) -> Option<T> {
     all.pop()
 }
