@@ -32,25 +32,17 @@ impl<'a> Sight<'a> {
     };
 
     /// What is looked at after a row, if the row sets it.
-    pub fn turned(self, row: &'a str) -> Option<Sight<'a>> {
+    pub fn turned(mut self, row: &'a str) -> Option<Sight<'a>> {
         let (word, rest) = row.split_once(" ")?;
         match word {
-            "channels" => Some(Sight {
-                channels: rest,
-                ..self
-            }),
-            "ids" => Some(Sight { ids: rest, ..self }),
-            "cuts" => Some(Sight { cuts: rest, ..self }),
-            "wanted" => Some(Sight {
-                wanted: rest,
-                ..self
-            }),
-            "stands" => Some(Sight {
-                stands: rest,
-                ..self
-            }),
-            _ => None,
+            "channels" => self.channels = rest,
+            "ids" => self.ids = rest,
+            "cuts" => self.cuts = rest,
+            "wanted" => self.wanted = rest,
+            "stands" => self.stands = rest,
+            _ => return None,
         }
+        Some(self)
     }
 }
 
