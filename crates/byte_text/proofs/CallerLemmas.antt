@@ -1,4 +1,5 @@
--- What the crates above may name of these proofs: texts written one after another, looks at parts of a text, and numbers.
+-- What the crates above may name of these proofs: texts written one after another, looks at parts of a text,
+-- numbers, and the order of texts.
 use Rattle.std.proofs.Common.{◌≡◌, ℕ, List, [], ◌++◌, Option, Result, Ok, Err, refl, sym, ap, ◌∙◌, append_assoc, subst}
 use Rattle.std.specs.Prelude.{IsErrAnd}
 use Rattle.std.specs.Io.KnownBytes.{Appends}
@@ -10,6 +11,8 @@ pub use Rattle.byte_text.proofs.TextsLemmas.{texts_at, texts_through, own_texts_
 pub use Rattle.byte_text.proofs.LookLemmas.{any_behind, any_within, both_ends}
 -- what a search for a first byte tells of the whole
 pub use Rattle.byte_text.proofs.FoundLemmas.{found_is_any}
+-- the order of texts is total, and only equal texts tie
+pub use Rattle.byte_text.proofs.OrderLemmas.{text_total, text_exact}
 -- a number has one spelling, its decimal digits; what digits come to, digit by digit
 pub use Rattle.byte_text.proofs.NumberLemmas.{decimal_digits, number_read, number_spelled, one_digit_more}
 

@@ -6,11 +6,12 @@ use Rattle.std.specs.List.{list_any, list_all}
 use Rattle.std.proofs.lemmas.Bool.{false≢true, true≢false, eqb-true}
 use Rattle.std.proofs.lemmas.Bool.Decides.{nat_tests}
 use Rattle.byte_text.specs.Bytes.{ends_line}
-use Rattle.chat_change.specs.Order.{text_cmp}
-use Rattle.chat_change.specs.Words.{is_name, is_target, is_id, is_tags, MayBeTags, is_name_byte, ends_word, ends_target, has_length_to}
+use Rattle.byte_text.specs.Order.{text_cmp}
+use Rattle.byte_text.specs.Words.{ends_word, has_length_to}
+use Rattle.chat_change.specs.Words.{is_name, is_target, is_id, is_tags, MayBeTags, is_name_byte, ends_target}
 use Rattle.chat_change.specs.Words as text
 use Rattle.chat_change.specs.declared.words.TheConstants.{NAME_LIMIT, TARGET_LIMIT, ID_LIMIT, TAGS_LIMIT}
-use Rattle.chat_change.proofs.CallerLemmas.{text_exact}
+use Rattle.byte_text.proofs.CallerLemmas.{text_exact}
 use Rattle.change_lines.specs.Words.{is_text, is_space, has_space, is_filled}
 use Rattle.change_lines.specs.PostLine.{may_be_tags}
 

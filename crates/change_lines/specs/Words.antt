@@ -2,7 +2,7 @@
 use Rattle.std.specs.Prelude.{ℕ, Bool, not, ◌&&◌, ◌==◌, nat_lt, List, [], ◌∷◌, ◌++◌, codes, length, if◌then◌else◌}
 use Rattle.std.specs.List.{list_any, flat_map}
 use Rattle.std.specs.Ordering.{is_eq}
-use Rattle.chat_change.specs.Order.{text_cmp}
+use Rattle.byte_text.specs.Order.{text_cmp}
 
 -- whether the text is that word, byte for byte
 abbrev pub is_text : List ℕ → List ℕ → Bool

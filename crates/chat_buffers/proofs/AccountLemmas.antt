@@ -20,10 +20,12 @@ use Rattle.std.specs.declared.ops.Bound.TheVariants.{Included, Excluded, Unbound
 use Rattle.std.specs.FinMap as finite
 use Rattle.chat_change.specs.Buffer.{Buffer}
 use Rattle.chat_change.specs.Extent.{Extent, OfAccount, OfBuffer}
-use Rattle.chat_change.specs.Order.{text_cmp, buffer_cmp}
+use Rattle.byte_text.specs.Order.{text_cmp}
+use Rattle.chat_change.specs.Order.{buffer_cmp}
 use Rattle.chat_change.specs.declared.change.Change.TheVariants.{Floor, Mark, AccountFloor}
 use Rattle.chat_change.specs.Key.{Key, FloorOf, MarkerOf, MessageOf, key_extent, same_key}
-use Rattle.chat_change.proofs.CallerLemmas.{text_total, text_exact, buffer_total, buffer_exact, same_key_itself}
+use Rattle.byte_text.proofs.CallerLemmas.{text_total, text_exact}
+use Rattle.chat_change.proofs.CallerLemmas.{buffer_total, buffer_exact, same_key_itself}
 use Rattle.chat_history.specs.Choice.{Among}
 use Rattle.chat_history.specs.Retention.{same_account, is_covered}
 use Rattle.chat_history.proofs.CallerLemmas.{among, contained, image, among-filter, among_passing, among-reverse, reverse_among, sorted_reverse, got}

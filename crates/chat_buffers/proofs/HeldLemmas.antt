@@ -9,11 +9,13 @@ use Rattle.std.specs.Option.{option_map}
 use Rattle.std.specs.FinMap as finite
 use Rattle.chat_change.specs.Buffer.{Buffer}
 use Rattle.chat_change.specs.Extent.{OfAccount, OfBuffer}
-use Rattle.chat_change.specs.Order.{text_cmp, buffer_cmp, id_cmp}
+use Rattle.byte_text.specs.Order.{text_cmp}
+use Rattle.chat_change.specs.Order.{buffer_cmp, id_cmp}
 use Rattle.chat_change.specs.Key.{Key, FloorOf, MarkerOf, MessageOf, key_cmp, key_extent, same_key}
 use Rattle.chat_history.specs.Retention.{same_account, same_buffer}
 use Rattle.chat_buffers.specs.Store.{Numbered}
-use Rattle.chat_change.proofs.CallerLemmas.{key_total, same_key_itself, same_key_is, buffer_exact, text_exact, id_exact}
+use Rattle.byte_text.proofs.CallerLemmas.{text_exact}
+use Rattle.chat_change.proofs.CallerLemmas.{key_total, same_key_itself, same_key_is, buffer_exact, id_exact}
 use Rattle.chat_buffers.specs.declared.held.Held.{Held}
 use Rattle.chat_buffers.specs.Stamps.{floor_moment}
 use Rattle.chat_buffers.specs.Held.{ByAccount, ByBuffer, held_piece, account_piece, piece_in, held_floor, numbered, tabulated, account_key, keys_of, store_in}

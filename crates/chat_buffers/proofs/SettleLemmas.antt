@@ -9,8 +9,10 @@ use Rattle.std.specs.BTreeMap as tree
 use Rattle.std.specs.FinMap as finite
 use Rattle.chat_change.specs.Buffer.{Buffer}
 use Rattle.chat_change.specs.Record.{Record}
-use Rattle.chat_change.specs.Order.{text_cmp, buffer_cmp}
-use Rattle.chat_change.proofs.CallerLemmas.{text_total, buffer_total, buffer_exact, id_total, key_total, key_exact, same_key_is, same_key_itself}
+use Rattle.byte_text.specs.Order.{text_cmp}
+use Rattle.chat_change.specs.Order.{buffer_cmp}
+use Rattle.byte_text.proofs.CallerLemmas.{text_total}
+use Rattle.chat_change.proofs.CallerLemmas.{buffer_total, buffer_exact, id_total, key_total, key_exact, same_key_is, same_key_itself}
 use Rattle.chat_change.specs.declared.change.Change.{Change}
 use Rattle.chat_change.specs.declared.change.Change.TheVariants.{Post, Redact, Mark, Floor, AccountFloor}
 use Rattle.chat_change.specs.Extent.{Extent, OfAccount, OfBuffer}

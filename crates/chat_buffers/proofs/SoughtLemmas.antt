@@ -16,10 +16,12 @@ use Rattle.std.specs.FinMap as finite
 use Rattle.std.proofs.lemmas.Map.Keys.{sorted_head, sorted_tail}
 use Rattle.chat_change.specs.Buffer.{Buffer}
 use Rattle.chat_change.specs.Record.{Record}
-use Rattle.chat_change.specs.Order.{text_cmp, buffer_cmp}
+use Rattle.byte_text.specs.Order.{text_cmp}
+use Rattle.chat_change.specs.Order.{buffer_cmp}
 use Rattle.chat_change.specs.declared.change.Change.{Change}
 use Rattle.chat_change.specs.declared.change.Change.TheVariants.{Post}
-use Rattle.chat_change.proofs.CallerLemmas.{buffer_total, buffer_exact, text_total, text_exact}
+use Rattle.byte_text.proofs.CallerLemmas.{text_total, text_exact}
+use Rattle.chat_change.proofs.CallerLemmas.{buffer_total, buffer_exact}
 use Rattle.chat_history.specs.Buffers.{is_of_network}
 use Rattle.chat_history.specs.Choice.{keep, Among, IsFirst}
 use Rattle.chat_history.specs.History.{History, changes_of}

@@ -5,7 +5,8 @@ use Rattle.std.specs.List.{filter_map, flat_map}
 use Rattle.std.specs.FinMap as finite
 use Rattle.chat_change.specs.Buffer.{Buffer}
 use Rattle.chat_change.specs.Extent.{Extent, OfAccount, OfBuffer}
-use Rattle.chat_change.specs.Order.{text_cmp, buffer_cmp}
+use Rattle.byte_text.specs.Order.{text_cmp}
+use Rattle.chat_change.specs.Order.{buffer_cmp}
 use Rattle.chat_change.specs.declared.change.Change.{Change}
 use Rattle.chat_change.specs.declared.change.Change.TheVariants.{Post, Redact, Mark, Floor, AccountFloor}
 use Rattle.chat_change.specs.Key.{Key, FloorOf, MarkerOf, MessageOf, key_extent, key_of, same_key, floor_change}

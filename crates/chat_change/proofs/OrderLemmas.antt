@@ -13,17 +13,13 @@ use Rattle.chat_change.specs.Message.{Message, kind_letter, message_texts}
 use Rattle.chat_change.specs.Record.{Record}
 use Rattle.chat_change.specs.declared.message.Kind.{Kind}
 use Rattle.chat_change.specs.declared.message.Kind.TheVariants.{Privmsg, Notice}
-use Rattle.chat_change.specs.Order.{text_cmp, id_cmp, texts_cmp, buffer_cmp, message_cmp, record_texts, latest_first, greatest_tags_first, tie_cmp, record_cmp, WinsTie, GoesBefore}
+use Rattle.byte_text.specs.Order.{text_cmp}
+use Rattle.byte_text.proofs.CallerLemmas.{text_total, text_exact}
+use Rattle.chat_change.specs.Order.{id_cmp, texts_cmp, buffer_cmp, message_cmp, record_texts, latest_first, greatest_tags_first, tie_cmp, record_cmp, WinsTie, GoesBefore}
 use Rattle.std.proofs.lemmas.Map.Views.{tells_apart}
 
 pub on_exact : {K J : Type 0} (f : K → J) {R : J → J → Ordering} → ((x y : K) → f x ≡ f y → x ≡ y) → CmpEqualImpliesEq R → CmpEqualImpliesEq (on f R)
 on_exact f apart exact x y e = apart x y (exact (f x) (f y) e)
-
-pub text_total : IsTotalOrder text_cmp
-text_total = lists_total nat_cmp_total
-
-pub text_exact : CmpEqualImpliesEq text_cmp
-text_exact = slice_cmp-IsAntisymmetric exact_unsigned
 
 pub id_total : IsTotalOrder id_cmp
 id_total = back_total text_total

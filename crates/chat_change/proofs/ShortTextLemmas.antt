@@ -8,7 +8,7 @@ use Rattle.std.specs.Ordering.{nat_cmp, ordering_then}
 use Rattle.std.specs.Int.{from_be_bytes, w128}
 use Rattle.std.proofs.Math.Nat.{mul-le-mul_right}
 use Rattle.std.proofs.lemmas.Nat.{pow-add}
-use Rattle.chat_change.specs.Order.{text_cmp}
+use Rattle.byte_text.specs.Order.{text_cmp}
 use Rattle.chat_change.specs.Words.{lower_case_of}
 use Rattle.chat_change.specs.ShortText.{CanBeRoom, HasZerosFrom, leading, AreBytes, IsWordOf}
 

@@ -6,7 +6,8 @@ use Rattle.irc_tags.specs.TagList.{Tag, tag_list}
 use Rattle.irc_tags.specs.Text.{tags_text}
 use Rattle.irc_tags.specs.ClientOnly.{is_client_only_text}
 use Rattle.irc_tags.proofs.CallerLemmas.{kept_as_written, kept_text, kept_keys, CanStand-tag_list}
-use Rattle.chat_change.specs.Words.{is_tags, has_length_to, ends_word}
+use Rattle.byte_text.specs.Words.{has_length_to, ends_word}
+use Rattle.chat_change.specs.Words.{is_tags}
 use Rattle.chat_change.specs.Tags.{Spells}
 use Rattle.chat_change.specs.declared.words.TheConstants.{TAGS_LIMIT}
 

@@ -1,16 +1,13 @@
--- The orders of texts, buffers and messages, and the order between records of one message: which of them is kept.
+-- The orders of ids, buffers and messages, and the order between records of one message: which of them is kept.
 use Rattle.std.specs.Prelude.{ℕ, ◌≡◌, ◌<◌, ◌⊎◌, List, ◌∷◌, ◌++◌}
 use Rattle.std.specs.declared.cmp.Ordering.{Ordering}
 use Rattle.std.specs.declared.cmp.Ordering.TheVariants.{Less}
 use Rattle.std.specs.Ordering.{nat_cmp, on, then_cmp, flip_args}
 use Rattle.std.specs.Cmp.Lexicographic.{slice_cmp}
+use Rattle.byte_text.specs.Order.{text_cmp}
 use Rattle.chat_change.specs.Buffer.{Buffer, buffer_texts}
 use Rattle.chat_change.specs.Message.{Message, message_texts}
 use Rattle.chat_change.specs.Record.{Record}
-
--- texts are compared byte by byte
-abbrev pub text_cmp : List ℕ → List ℕ → Ordering
-text_cmp = slice_cmp nat_cmp
 
 -- ids, the greatest first
 abbrev pub id_cmp : List ℕ → List ℕ → Ordering

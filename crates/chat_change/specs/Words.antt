@@ -1,24 +1,17 @@
 -- The words that changes are made of: names of accounts and networks, targets, message ids, sources and bodies
 -- (RFC 1459 and RFC 2812, section 2.3; IRCv3 message-ids), and how letters are folded.
-use Rattle.std.specs.Prelude.{ℕ, ◌≡◌, ◌⊎◌, Bool, true, not, ◌&&◌, ◌||◌, ◌==◌, nat_lt, nat_le, List, [], length, map}
+use Rattle.std.specs.Prelude.{ℕ, ◌≡◌, ◌⊎◌, Bool, true, not, ◌&&◌, ◌||◌, ◌==◌, nat_le, List, [], length, map}
 use Rattle.std.specs.List.{list_any, list_all}
 use Rattle.std.specs.Char.{to_ascii_lowercase}
 use Rattle.byte_text.specs.Bytes.{begins_with, ends_line}
+use Rattle.byte_text.specs.Words.{has_length_to, ends_word}
 use Rattle.irc_tags.specs.ClientOnly.{is_client_only_text}
 use Rattle.chat_change.specs.declared.words.TheConstants.{NAME_LIMIT, TARGET_LIMIT, ID_LIMIT, TAGS_LIMIT}
-
--- the text has at least one byte and at most so many
-abbrev pub has_length_to : ℕ → List ℕ → Bool
-has_length_to most text = nat_lt 0 (length text) && nat_le (length text) most
 
 abbrev pub begins_with_colon : List ℕ → Bool
 begins_with_colon = begins_with 58
 
--- nor does a space stand in a word
-abbrev pub ends_word : ℕ → Bool
-ends_word b = ends_line b || (b == 32)
-
--- nor a comma in a target, since targets are listed with commas between them
+-- a comma stands in no target either, since targets are listed with commas between them
 abbrev pub ends_target : ℕ → Bool
 ends_target b = ends_word b || (b == 44)
 

@@ -2,7 +2,7 @@
 ghost use Rattle.std.specs.Prelude.{◌≡◌, ◌↔◌, IsTrue, true, ℕ, List, IfOk, IfErr, None};
 ghost use Rattle.chat_change.specs.Words.{is_name};
 ghost use Rattle.chat_change.specs.Faults.{account_fault, fault_or_no_memory};
-ghost use Rattle.chat_change.specs.Order.{text_cmp};
+ghost use Rattle.byte_text.specs.Order.{text_cmp};
 
 use crate::faults::ChangeFault;
 use crate::short_text::ShortText;

@@ -1,7 +1,7 @@
 //! Where the bytes of a message id or of a target lie.
 ghost use Rattle.std.specs.Prelude.{◌≡◌, IfOk};
 ghost use Rattle.chat_change.specs.CompactText.{bytes_of};
-ghost use Rattle.chat_change.specs.Order.{text_cmp};
+ghost use Rattle.byte_text.specs.Order.{text_cmp};
 ghost use Rattle.chat_change.specs.Words.{lower_case_of};
 
 use crate::short_text::ShortText;

@@ -3,7 +3,8 @@ ghost use Rattle.std.specs.Prelude.{◌≡◌, ◌↔◌, IsTrue, true, ℕ, Lis
 ghost use Rattle.chat_change.specs.Words as spec;
 ghost use Rattle.chat_change.specs.Faults.{id_fault, fault_or_no_memory};
 ghost use Rattle.chat_change.specs.CompactText.{bytes_of};
-ghost use Rattle.chat_change.specs.Order.{text_cmp, id_cmp};
+ghost use Rattle.byte_text.specs.Order.{text_cmp};
+ghost use Rattle.chat_change.specs.Order.{id_cmp};
 
 use crate::compact_text::CompactText;
 use crate::faults::ChangeFault;

@@ -1,7 +1,7 @@
 //! Short texts, whose bytes lie in the value itself.
 ghost use Rattle.std.specs.Prelude.{◌≡◌, ◌≤◌, ◌-◌, drop, length};
 ghost use Rattle.chat_change.specs.ShortText.{CanBeRoom, IsWordOf};
-ghost use Rattle.chat_change.specs.Order.{text_cmp};
+ghost use Rattle.byte_text.specs.Order.{text_cmp};
 ghost use Rattle.chat_change.specs.Words.{lower_case_of};
 
 use std::cmp::Ordering;

@@ -1,10 +1,10 @@
 //! Tests of the texts that changes are made of. They take no memory.
-ghost use Rattle.std.specs.Prelude.{◌≡◌, ◌≤◌, ◌*◌, length, not, take};
+ghost use Rattle.std.specs.Prelude.{◌≡◌};
 ghost use Rattle.std.specs.List.{list_any, list_all};
-ghost use Rattle.byte_text.specs.Bytes.{ends_line};
+ghost use Rattle.byte_text.specs.Words.{has_length_to};
 ghost use Rattle.chat_change.specs.Words as spec;
 
-use byte_text::{LANES, begins_with, begins_without, has_line_end};
+use byte_text::{begins_with, ends_word, has_line_end, has_word_end};
 use irc_tags::is_client_only_text;
 
 /// The most bytes that the name of an account or of a network has.
@@ -21,7 +21,7 @@ pub const ID_LIMIT: usize = 255;
 pub const TAGS_LIMIT: usize = 4094;
 
 fn has_length_to(most: usize, text: &[u8]) -> bool
-    ensures { result ≡ spec.has_length_to most text.now }
+    ensures { result ≡ has_length_to most text.now }
 {
     !text.is_empty() && text.len() <= most
 }
@@ -38,18 +38,6 @@ fn is_star(text: &[u8]) -> bool
     text.len() == 1 && begins_with(b'*', text)
 }
 
-fn ends_line(byte: u8) -> bool
-    ensures { result ≡ ends_line byte }
-{
-    byte == 0 || byte == b'\n' || byte == b'\r'
-}
-
-fn ends_word(byte: u8) -> bool
-    ensures { result ≡ spec.ends_word byte }
-{
-    ends_line(byte) || byte == b' '
-}
-
 fn ends_target(byte: u8) -> bool
     ensures { result ≡ spec.ends_target byte }
 {
@@ -60,36 +48,6 @@ fn is_name_byte(byte: u8) -> bool
     ensures { result ≡ spec.is_name_byte byte }
 {
     (b'a' <= byte && byte <= b'z') || (b'0' <= byte && byte <= b'9') || byte == b'-' || byte == b'_'
-}
-
-// Whether none of the first bytes ends a word.
-fn begins_within_word(text: &[u8]) -> bool
-    requires { LANES ≤ length text.now }
-    ensures { result ≡ not (list_any spec.ends_word (take LANES text.now)) }
-{
-    begins_without(text, 0)
-        & begins_without(text, b'\n')
-        & begins_without(text, b'\r')
-        & begins_without(text, b' ')
-}
-
-// Whether no byte ends a word, where two looks, which overlap, see all of them.
-fn is_within_word(text: &[u8]) -> bool
-    requires long { LANES ≤ length text.now }
-    requires short { length text.now ≤ 2 * LANES }
-    ensures { result ≡ not (list_any spec.ends_word text.now) }
-{
-    begins_within_word(text) & begins_within_word(&text[text.len() - LANES..])
-}
-
-/// Whether NUL, LF, CR or a space stands in the text. Most ids and sources are seen by two looks.
-pub fn has_word_end(text: &[u8]) -> bool
-    ensures { result ≡ list_any spec.ends_word text.now }
-{
-    if text.len() < LANES || text.len() > 2 * LANES {
-        return text.iter().any(|byte| ends_word(*byte));
-    }
-    !is_within_word(text)
 }
 
 fn has_target_end(text: &[u8]) -> bool

@@ -11,10 +11,12 @@ use Rattle.std.specs.Prelude.{nat_lt, nat_le, not, IsTrue, ◌↔◌}
 use Rattle.std.specs.FinMap.{get}
 use Rattle.chat_change.specs.Buffer.{Buffer}
 use Rattle.chat_change.specs.Record.{Record}
-use Rattle.chat_change.specs.Order.{record_cmp, text_cmp, buffer_cmp}
+use Rattle.byte_text.specs.Order.{text_cmp}
+use Rattle.chat_change.specs.Order.{record_cmp, buffer_cmp}
 use Rattle.chat_change.specs.declared.change.Change.{Change}
 use Rattle.chat_change.specs.declared.change.Change.TheVariants.{Post, Redact, Mark, Floor, AccountFloor}
-use Rattle.chat_change.proofs.CallerLemmas.{record_total, text_total, text_exact, buffer_total, buffer_exact}
+use Rattle.byte_text.proofs.CallerLemmas.{text_total, text_exact}
+use Rattle.chat_change.proofs.CallerLemmas.{record_total, buffer_total, buffer_exact}
 use Rattle.chat_history.proofs.ChoiceLemmas.{gt_of_lt}
 use Rattle.chat_history.specs.Choice.{first_by, greatest, keep, later}
 use Rattle.chat_change.specs.Extent.{Extent, OfAccount, OfBuffer}

@@ -13,10 +13,12 @@ use Rattle.std.specs.Option.{option_map}
 use Rattle.std.specs.FinMap.{get}
 use Rattle.chat_change.specs.Buffer.{Buffer}
 use Rattle.chat_change.specs.Record.{Record}
-use Rattle.chat_change.specs.Order.{text_cmp, buffer_cmp}
+use Rattle.byte_text.specs.Order.{text_cmp}
+use Rattle.chat_change.specs.Order.{buffer_cmp}
 use Rattle.chat_change.specs.declared.change.Change.{Change}
 use Rattle.chat_change.specs.declared.change.Change.TheVariants.{Post, Redact, Mark, Floor, AccountFloor}
-use Rattle.chat_change.proofs.CallerLemmas.{text_total, text_exact, buffer_total, buffer_exact}
+use Rattle.byte_text.proofs.CallerLemmas.{text_total, text_exact}
+use Rattle.chat_change.proofs.CallerLemmas.{buffer_total, buffer_exact}
 use Rattle.chat_change.specs.Key.{MessageOf, key_of}
 use Rattle.chat_history.specs.Choice.{Among}
 use Rattle.chat_history.specs.History.{History, norm, changes_of, is_gone, kept_record, position_of, IsKeyed}

@@ -4,7 +4,8 @@ use Rattle.std.specs.Ordering.{eq_by_cmp, is_eq}
 use Rattle.chat_change.specs.declared.change.Change.{Change}
 use Rattle.chat_change.specs.declared.change.Change.TheVariants.{Post, Redact, Floor}
 use Rattle.chat_change.specs.Buffer.{Buffer}
-use Rattle.chat_change.specs.Order.{text_cmp, buffer_cmp}
+use Rattle.byte_text.specs.Order.{text_cmp}
+use Rattle.chat_change.specs.Order.{buffer_cmp}
 use Rattle.chat_change.specs.Extent.{Extent, OfAccount, OfBuffer}
 use Rattle.chat_history.specs.Choice.{keep}
 use Rattle.chat_history.specs.History.{History}

@@ -14,7 +14,7 @@ use Rattle.std.proofs.lemmas.List.Elements.{filter-append}
 use Rattle.std.proofs.lemmas.List.Kept.{IsStrictlySortedBy-filter}
 use Rattle.std.proofs.lemmas.Map.Keys.{sorted_head, sorted_tail}
 use Rattle.chat_change.specs.Record.{Record}
-use Rattle.chat_change.specs.Order.{text_cmp}
+use Rattle.byte_text.specs.Order.{text_cmp}
 use Rattle.chat_history.specs.declared.cut.Cut.{Cut}
 use Rattle.chat_history.specs.declared.cut.Cut.TheVariants.{Bottom, UnderTime, OverTime, UnderMsg, OverMsg, Top}
 use Rattle.chat_history.specs.Cut.{cut_total, of_record, is_after as is_after_cut, after as after_cut, before as before_cut}

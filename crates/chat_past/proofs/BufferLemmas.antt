@@ -14,7 +14,7 @@ use Rattle.std.specs.FinMap.Entries.{below_all}
 use Rattle.std.proofs.lemmas.Cmp.{tied_itself}
 use Rattle.std.proofs.lemmas.List.Kept.{IsStrictlySortedBy-filter}
 use Rattle.std.proofs.lemmas.Map.Lookups.{btree_set_from_contains}
-use Rattle.chat_change.specs.Order.{text_cmp}
+use Rattle.byte_text.specs.Order.{text_cmp}
 use Rattle.chat_history.specs.Choice.{Among}
 use Rattle.chat_history.specs.Visible.{spot_cmp}
 use Rattle.chat_history.proofs.CallerLemmas.{spot_total}

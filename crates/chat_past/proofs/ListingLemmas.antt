@@ -9,9 +9,9 @@ use Rattle.std.proofs.lemmas.Cmp.{tied_itself}
 use Rattle.std.proofs.lemmas.List.Kept.{IsStrictlySortedBy-filter}
 use Rattle.chat_change.specs.Buffer.{Buffer}
 use Rattle.chat_change.specs.Record.{Record}
-use Rattle.chat_change.specs.Order.{text_cmp}
+use Rattle.byte_text.specs.Order.{text_cmp}
 use Rattle.chat_change.specs.declared.change.Change.{Change}
-use Rattle.chat_change.proofs.CallerLemmas.{text_total, text_exact}
+use Rattle.byte_text.proofs.CallerLemmas.{text_total, text_exact}
 use Rattle.chat_history.specs.Choice.{Among}
 use Rattle.chat_history.specs.History.{History, norm, IsKeyed}
 use Rattle.chat_history.specs.Visible.{records_in, spot_cmp}

@@ -13,7 +13,8 @@ use Rattle.chat_change.specs.Extent.{Extent, OfAccount, OfBuffer}
 use Rattle.chat_change.specs.Key.{Key, FloorOf, MarkerOf, MessageOf, same_key, key_of, key_extent, bearers_of}
 use Rattle.chat_change.specs.declared.change.Change.{Change}
 use Rattle.chat_change.specs.declared.change.Change.TheVariants.{Post, Redact}
-use Rattle.chat_change.proofs.CallerLemmas.{same_key_is, text_total}
+use Rattle.byte_text.proofs.CallerLemmas.{text_total}
+use Rattle.chat_change.proofs.CallerLemmas.{same_key_is}
 use Rattle.chat_history.specs.Choice.{first_by, greatest}
 use Rattle.chat_history.specs.History.{History, norm, mark, piece, floor_moment, marker_moment, posted_record, message_moment, is_redaction, IsKeyed}
 use Rattle.chat_history.specs.Visible.{records_in}

@@ -11,7 +11,8 @@ use Rattle.irc_tags.specs.Value.{byte_spelling, value_text, semicolon, backslash
 use Rattle.irc_time.specs.Text.{time_text}
 use Rattle.byte_text.proofs.CallerLemmas.{any_behind, any_within, found_is_any}
 use Rattle.chat_change.specs.Record.{Record}
-use Rattle.chat_change.specs.Words.{is_id, ends_word}
+use Rattle.byte_text.specs.Words.{ends_word}
+use Rattle.chat_change.specs.Words.{is_id}
 use Rattle.irc_caps.specs.declared.CapSet.{CapSet}
 use Rattle.irc_caps.specs.Words.{only_if}
 use Rattle.chat_past.specs.Tags.{tag_part, more_tags, has_own_tags, batch_tags, message_tags, next_tag, is_plain_byte}

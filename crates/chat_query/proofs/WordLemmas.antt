@@ -13,7 +13,8 @@ use Rattle.chat_change.specs.declared.words.TheConstants.{TARGET_LIMIT, ID_LIMIT
 use Rattle.chat_change.specs.declared.message.Kind.{Kind}
 use Rattle.chat_change.specs.declared.message.Kind.TheVariants.{Privmsg, Notice}
 use Rattle.chat_change.specs.Message.{kind_word}
-use Rattle.chat_change.specs.Words.{has_length_to, begins_with_colon, ends_word, ends_target, is_star, is_target, is_id, is_body, MayBeTags}
+use Rattle.byte_text.specs.Words.{has_length_to, ends_word}
+use Rattle.chat_change.specs.Words.{begins_with_colon, ends_target, is_star, is_target, is_id, is_body, MayBeTags}
 
 any_weaker : (p q : ℕ → Bool) → ((b : ℕ) → p b ≡ false → q b ≡ false) → (text : List ℕ) → list_any p text ≡ false → list_any q text ≡ false
 any_weaker p q h [] e = refl

@@ -7,8 +7,10 @@ use Rattle.std.specs.List.{filter, filter_map}
 use Rattle.std.specs.Option.{IfSome, option_map}
 use Rattle.chat_change.specs.Buffer.{Buffer}
 use Rattle.chat_change.specs.Record.{Record}
-use Rattle.chat_change.specs.Order.{text_cmp, buffer_cmp}
-use Rattle.chat_change.proofs.CallerLemmas.{text_exact, buffer_total}
+use Rattle.byte_text.specs.Order.{text_cmp}
+use Rattle.chat_change.specs.Order.{buffer_cmp}
+use Rattle.byte_text.proofs.CallerLemmas.{text_exact}
+use Rattle.chat_change.proofs.CallerLemmas.{buffer_total}
 use Rattle.chat_history.specs.Choice.{Among, IsFirst}
 use Rattle.chat_history.specs.History.{History, IsKeyed, changes_of}
 use Rattle.chat_history.specs.Latest.{latest_moment, with_moment}

@@ -9,11 +9,13 @@ use Rattle.std.specs.FinMap as finite
 use Rattle.chat_change.specs.Buffer.{Buffer}
 use Rattle.chat_change.specs.Extent.{Extent, OfAccount, OfBuffer}
 use Rattle.chat_change.specs.Record.{Record}
-use Rattle.chat_change.specs.Order.{text_cmp, buffer_cmp}
+use Rattle.byte_text.specs.Order.{text_cmp}
+use Rattle.chat_change.specs.Order.{buffer_cmp}
 use Rattle.chat_change.specs.declared.change.Change.{Change}
 use Rattle.chat_change.specs.declared.change.Change.TheVariants.{Post, Redact, Mark, Floor, AccountFloor}
 use Rattle.chat_change.specs.Key.{Key, FloorOf, key_cmp, key_of, same_key, floor_change}
-use Rattle.chat_change.proofs.CallerLemmas.{text_total, text_exact, buffer_total, buffer_exact, key_total, same_key_is, same_key_itself}
+use Rattle.byte_text.proofs.CallerLemmas.{text_total, text_exact}
+use Rattle.chat_change.proofs.CallerLemmas.{buffer_total, buffer_exact, key_total, same_key_is, same_key_itself}
 use Rattle.chat_history.specs.Retention.{same_account, same_buffer, is_covered, outlasts, remainder}
 use Rattle.chat_buffers.specs.Store.{Store, Numbered, IsKeyedStore, piece_left, piece_above}
 use Rattle.chat_buffers.specs.Entering.{with_remainder, is_below, IsSweptOf}

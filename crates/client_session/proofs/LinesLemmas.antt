@@ -29,7 +29,8 @@ use Rattle.irc_reply.specs.Reply.{reply, unknown_text, need_more_params}
 use Rattle.irc_reply.specs.Standing.{IsCluster, IsWordTo, target_limit}
 use Rattle.irc_reply.proofs.CallerLemmas.{reply_line, unknown_line, too_long_line}
 use Rattle.chat_change.specs.declared.words.TheConstants.{NAME_LIMIT}
-use Rattle.chat_change.specs.Words.{has_length_to, is_name_byte, is_name, is_target, is_id}
+use Rattle.byte_text.specs.Words.{has_length_to}
+use Rattle.chat_change.specs.Words.{is_name_byte, is_name, is_target, is_id}
 use Rattle.chat_change.specs.Buffer.{IsLawfulBuffer, buffer_of}
 use Rattle.chat_change.specs.Faults.{unless_lawful}
 use Rattle.chat_change.specs.declared.faults.ChangeFault.TheVariants.{BadName, BadTarget}

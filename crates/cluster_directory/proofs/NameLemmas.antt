@@ -4,8 +4,8 @@ use Rattle.std.proofs.lemmas.Bool.{false≢true}
 use Rattle.std.proofs.lemmas.Cmp.{tied_itself}
 use Rattle.std.specs.Cmp.{Equal-is}
 use Rattle.std.specs.Ordering.{is_eq}
-use Rattle.chat_change.specs.Order.{text_cmp}
-use Rattle.chat_change.proofs.CallerLemmas.{text_total, text_exact}
+use Rattle.byte_text.specs.Order.{text_cmp}
+use Rattle.byte_text.proofs.CallerLemmas.{text_total, text_exact}
 use Rattle.cluster_directory.specs.Names.{same_name}
 
 pub same_name_is : (a b : List ℕ) → same_name a b ≡ true → a ≡ b

@@ -2,8 +2,8 @@
 use Rattle.std.specs.Prelude.{ℕ, Bool, not, ◌&&◌, ◌||◌, List, nat_le}
 use Rattle.std.specs.Ordering.{eq_by_cmp}
 use Rattle.std.specs.List.{list_any, list_all}
-use Rattle.chat_change.specs.Order.{text_cmp}
-use Rattle.chat_change.specs.Words.{has_length_to, ends_word}
+use Rattle.byte_text.specs.Order.{text_cmp}
+use Rattle.byte_text.specs.Words.{has_length_to, ends_word}
 use Rattle.cluster_directory.specs.declared.names.TheConstants.{NODE_NAME_LIMIT}
 use Rattle.cluster_directory.specs.declared.shared_word.TheConstants.{SHARED_WORD_LIMIT}
 

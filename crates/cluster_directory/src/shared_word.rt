@@ -3,8 +3,7 @@ ghost use Rattle.std.specs.Prelude.{◌≡◌, ℕ, List, IfOk, IfErr, if◌then
 ghost use Rattle.cluster_directory.specs.Names as spec;
 
 use crate::fault::LinkFault;
-use byte_text::{NoMemory, Text};
-use chat_change::has_word_end;
+use byte_text::{NoMemory, Text, has_word_end};
 use std::alloc::Global;
 use std::marker::Model;
 

@@ -1,7 +1,7 @@
 -- Names of clusters.
 use Rattle.std.specs.Prelude.{ℕ, Bool, ◌&&◌, ◌||◌, ◌==◌, List, nat_le}
 use Rattle.std.specs.List.{list_all}
-use Rattle.chat_change.specs.Words.{has_length_to}
+use Rattle.byte_text.specs.Words.{has_length_to}
 use Rattle.node_config.specs.declared.names.TheConstants.{CLUSTER_NAME_LIMIT}
 
 -- a letter, a digit, `.` or `-`

@@ -13,7 +13,8 @@ use Rattle.irc_time.specs.Time.{greatest}
 use Rattle.irc_line.specs.Stream.{items, line, max_line}
 use Rattle.irc_line.specs.CanStand.{HasNoBadByte}
 use Rattle.irc_line.proofs.CallerLemmas.{bytes_cut, good_append}
-use Rattle.chat_change.specs.Words.{has_length_to, is_name_byte, ends_word, ends_target, begins_with_colon, is_star, is_name, is_target, is_id, MayBeTags}
+use Rattle.byte_text.specs.Words.{has_length_to, ends_word}
+use Rattle.chat_change.specs.Words.{is_name_byte, ends_target, begins_with_colon, is_star, is_name, is_target, is_id, MayBeTags}
 use Rattle.chat_change.specs.Buffer.{Buffer, IsLawfulBuffer}
 use Rattle.chat_change.specs.Message.{Message, IsLawfulMessage, kind_letter, kind_word}
 use Rattle.chat_change.specs.Record.{Record}

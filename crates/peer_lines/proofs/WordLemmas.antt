@@ -9,7 +9,7 @@ use Rattle.std.proofs.lemmas.Fmt.{decimal_is_IsNumeral, digits_decimal}
 use Rattle.std.proofs.lemmas.Str.Parse.{numerals_by_value, tells_all_ascii_digits}
 use Rattle.std.proofs.lemmas.Bool.{false≢true, lt-ltb, ltb-true}
 use Rattle.std.proofs.lemmas.Bool.Decides.{nat_tests}
-use Rattle.chat_change.specs.Words.{ends_word}
+use Rattle.byte_text.specs.Words.{ends_word}
 use Rattle.change_lines.specs.Words.{is_space, word, behind}
 use Rattle.change_lines.proofs.CallerLemmas.{word_of, behind_of, rejoined}
 use Rattle.cluster_directory.specs.Names.{is_node_byte, is_node_name, is_shared_word}

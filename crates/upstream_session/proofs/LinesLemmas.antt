@@ -33,7 +33,8 @@ use Rattle.irc_caps.specs.CapSet.{holds, names_among}
 use Rattle.irc_caps.specs.Words.{joined, parts_of, with_words}
 use Rattle.irc_caps.specs.Offers.{with_offers, wanted, request_of, request}
 use Rattle.irc_caps.specs.Negotiation.{list_in}
-use Rattle.chat_change.specs.Words.{ends_word, ends_target, begins_with_colon, is_star, has_length_to, is_target, is_id}
+use Rattle.byte_text.specs.Words.{ends_word, has_length_to}
+use Rattle.chat_change.specs.Words.{ends_target, begins_with_colon, is_star, is_target, is_id}
 use Rattle.chat_change.specs.declared.words.TheConstants.{TARGET_LIMIT}
 use Rattle.chat_change.specs.Message.{Message}
 use Rattle.chat_change.specs.declared.message.Kind.{Kind}

@@ -17,7 +17,8 @@ use Rattle.irc_tags.proofs.CallerLemmas.{is_client_only_text-client_only_text, c
 use Rattle.irc_reply.specs.Tagged.{tag_part, client_tags}
 use Rattle.irc_reply.specs.ToServer.{passed_line}
 use Rattle.chat_change.specs.declared.words.TheConstants.{TAGS_LIMIT}
-use Rattle.chat_change.specs.Words.{ends_word, has_length_to, is_tags}
+use Rattle.byte_text.specs.Words.{ends_word, has_length_to}
+use Rattle.chat_change.specs.Words.{is_tags}
 use Rattle.chat_change.specs.Message.{Message}
 use Rattle.chat_change.specs.declared.message.Kind.{Kind}
 use Rattle.chat_change.specs.declared.message.Kind.TheVariants as kind

@@ -1,6 +1,7 @@
 use Rattle.std.proofs.Common.{refl}
-use Rattle.chat_change.specs.Order.{text_cmp}
-use Rattle.chat_change.proofs.OrderLemmas.{text_total, text_exact, equal_is_one}
+use Rattle.byte_text.specs.Order.{text_cmp}
+use Rattle.byte_text.proofs.CallerLemmas.{text_total, text_exact}
+use Rattle.chat_change.proofs.OrderLemmas.{equal_is_one}
 use Rattle.chat_change.proofs.laws.ids_are_ordered_by_their_bytes.Goals as goal
 
 pub returns : goal.returns

@@ -2,7 +2,8 @@ use Rattle.std.proofs.Common.{rules, ◌≡◌, ◌∙◌, ap, ℕ, List, None}
 use Rattle.std.specs.FinMap as map
 use Rattle.std.specs.BTreeMap as tree
 use Rattle.chat_change.specs.Buffer.{Buffer}
-use Rattle.chat_change.specs.Order.{text_cmp, buffer_cmp}
+use Rattle.byte_text.specs.Order.{text_cmp}
+use Rattle.chat_change.specs.Order.{buffer_cmp}
 use Rattle.chat_buffers.specs.Store.{Store, IsKeyedStore}
 use Rattle.chat_buffers.proofs.SettleLemmas.{Accounts, Tree, seen, none_seen}
 use Rattle.chat_buffers.proofs.buffers.Buffers.new.Goals as goal

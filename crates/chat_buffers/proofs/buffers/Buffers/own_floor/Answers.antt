@@ -3,7 +3,8 @@ use Rattle.std.specs.BTreeMap as tree
 use Rattle.std.specs.FinMap as map
 use Rattle.std.specs.Option.{option_map}
 use Rattle.chat_change.specs.Extent.{Extent, OfAccount, OfBuffer, value_of}
-use Rattle.chat_change.specs.Order.{text_cmp, buffer_cmp}
+use Rattle.byte_text.specs.Order.{text_cmp}
+use Rattle.chat_change.specs.Order.{buffer_cmp}
 use Rattle.chat_change.specs.Key.{FloorOf}
 use Rattle.chat_buffers.specs.Store.{Store}
 use Rattle.chat_buffers.specs.Held.{account_piece, floor_piece}

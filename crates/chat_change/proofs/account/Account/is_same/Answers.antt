@@ -1,7 +1,8 @@
 use Rattle.std.proofs.Common.{◌≡◌, ◌∙◌, sym, ap}
 use Rattle.std.specs.Ordering.{is_eq}
-use Rattle.chat_change.specs.Order.{text_cmp}
-use Rattle.chat_change.proofs.OrderLemmas.{text_total, text_exact, equal_is_one}
+use Rattle.byte_text.specs.Order.{text_cmp}
+use Rattle.byte_text.proofs.CallerLemmas.{text_total, text_exact}
+use Rattle.chat_change.proofs.OrderLemmas.{equal_is_one}
 use Rattle.chat_change.proofs.account.Account.is_same.Goals as goal
 
 pub returns : goal.returns

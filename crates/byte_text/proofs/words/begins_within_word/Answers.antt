@@ -1,6 +1,6 @@
 use Rattle.std.proofs.Common.{◌∙◌, ◌&&◌, take}
-use Rattle.chat_change.proofs.WordsLemmas.{no_word_end}
-use Rattle.chat_change.proofs.words.begins_within_word.Goals as goal
+use Rattle.byte_text.proofs.WordLemmas.{no_word_end}
+use Rattle.byte_text.proofs.words.begins_within_word.Goals as goal
 
 pub returns : goal.returns
 returns c =

@@ -1,7 +1,7 @@
 use Rattle.std.proofs.Common.{◌∙◌, ◌&&◌}
-use Rattle.byte_text.proofs.CallerLemmas.{both_ends}
-use Rattle.chat_change.specs.Words.{ends_word}
-use Rattle.chat_change.proofs.words.is_within_word.Goals as goal
+use Rattle.byte_text.proofs.LookLemmas.{both_ends}
+use Rattle.byte_text.specs.Words.{ends_word}
+use Rattle.byte_text.proofs.words.is_within_word.Goals as goal
 
 pub returns : goal.returns
 returns c =
