@@ -188,7 +188,7 @@ impl<R: Net + Wait + Clock + Eprint + AllocGlobal + Drop, M: Drop> SocketPort<R,
         }
     }
 
-    // Who came in next. Somebody for whom there is no memory is closed.
+    // Who came in next. A peer for whom there is no memory is closed.
     fn next_newcomer(&mut self) -> Option<Happening<M>> {
         for _ in 0..usize::MAX {
             let Ok(newcomer) = self.newcomers.try_recv(&self.rt) else {
@@ -209,7 +209,9 @@ impl<R: Net + Wait + Clock + Eprint + AllocGlobal + Drop, M: Drop> SocketPort<R,
                 address,
                 ticket,
             } => {
-                let number = self.add(stream, address, Stage::Connected)?;
+                // The worker is told also where that fails: it finds no connection then, and lets the place go.
+                let number = self.number;
+                let _ = self.add(stream, address, Stage::Connected);
                 Some(Happening::Client { number, ticket })
             }
             Newcomer::Peer { stream, address } => {
