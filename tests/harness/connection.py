@@ -82,13 +82,18 @@ def connect(fixture, address, room=None):
 class Listener:
     """A port of this machine where others connect."""
 
-    def __init__(self, fixture, host="127.0.0.1"):
+    def __init__(self, fixture, host="127.0.0.1", is_there=True):
         self.fixture = fixture
         self.socket = socket.socket()
         self.socket.bind((host, 0))
-        self.socket.listen(16)
         self.address = self.socket.getsockname()
         fixture.at_end(self.socket.close)
+        if is_there:
+            self.listen()
+
+    def listen(self):
+        """Takes connections from now on. Before that they are refused."""
+        self.socket.listen(16)
 
     def accept(self, name):
         """The next connection."""

@@ -1,8 +1,10 @@
 """Clients of a node (docs/PROTOCOL.md, "Capability negotiation" and "A client's session"; docs/OPERATING.md, "Clients")."""
 
+import signal
 import time
 
 from harness.client import greeting
+from harness.clocks import Clocks
 from harness.connection import spelled
 from harness.failure import expect
 from harness.node import Node
@@ -189,6 +191,50 @@ def the_place_of_a_client_that_left_is_given_to_the_next(fixture):
     first.close()
     node.wait_for(f"client out: demo/net from {spelled(first.address)}: the other end closed it")
     node.client("the next client").register()
+
+
+# So many places there are, and so many clients come at once: more than wait for a place at a time.
+PLACES, AT_ONCE = 8, 24
+
+
+def come_at_once(node):
+    """Clients that have connected and said who they are by the time that a node comes to accept them."""
+    node.process.send_signal(signal.SIGSTOP)
+    try:
+        clients = [node.client(f"client {number} of those who come at once") for number in range(AT_ONCE)]
+        for client in clients:
+            client.say("PASS s3cret", "NICK al", "USER demo/net 0 * :Al", "PING here")
+    finally:
+        node.process.send_signal(signal.SIGCONT)
+    return clients
+
+
+@test
+def of_many_who_come_at_once_as_many_get_in_as_places_are_free(fixture):
+    """In the order in which they connected. Those beyond are closed: the operator is told of the first ten, and how many more
+    there were. Each place that is left, at either worker, is there for the next."""
+    clocks = Clocks(fixture)
+    node = Node(fixture, servers=[NOBODY], places=PLACES, front=clocks.front).begin()
+    inside, refused, left = [], [], 0
+    for leaves in (0, 3, PLACES, 1):
+        for client in inside[:leaves]:
+            client.close()
+        left += leaves
+        fixture.until("they have left", lambda: sum("client out: " in line for line in node.log()) == left)
+        del inside[:leaves]
+        clients, free = come_at_once(node), PLACES - len(inside)
+        for client in clients[:free]:
+            client.hear(*greeting(), ":bnc.example PONG bnc.example :here")
+        for client in clients[free:]:
+            client.hear_end()
+        inside += clients[:free]
+        refused += clients[free:]
+        for client in inside:
+            client.ping()
+    told = [line.partition(" ")[2] for line in node.log() if " refused: " in line]
+    expect("who was refused", [f"client refused: {spelled(it.address)}: each place is taken" for it in refused[:10]], told)
+    clocks.skip(60)
+    node.wait_for(f"clients refused: {len(refused) - 10} more within a minute")
 
 
 @test

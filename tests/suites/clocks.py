@@ -4,11 +4,12 @@ logs"; docs/PROTOCOL.md, "A connection"). A library before the C library has the
 import datetime
 import os
 import re
+import socket
 import time
 
 from harness.client import greeting, page
 from harness.clocks import Clocks
-from harness.connection import Listener, spelled
+from harness.connection import Listener, connect, spelled
 from harness.failure import Failed, expect
 from harness.node import Node
 from harness.peer import Peer
@@ -103,6 +104,54 @@ def a_server_is_tried_again_after_60_seconds(fixture):
     expect("whether it is tried before", False, has_come(server))
     clocks.skip(3)
     server.register()
+
+
+def full(fixture):
+    """A port whose queue is full. Who connects there waits, and is refused once the port is closed."""
+    it = socket.socket()
+    fixture.at_end(it.close)
+    it.bind(("127.0.0.1", 0))
+    it.listen(0)
+    fixture.at_end(connect(fixture, it.getsockname()).close)
+    return it
+
+
+@test
+def who_is_not_there_is_tried_again_each_60_seconds(fixture):
+    """A server and a peer refuse the first connection at once, and one of each late. Who is there by then is reached."""
+    clocks, server, peer = Clocks(fixture), Server(fixture, is_there=False), Listener(fixture, is_there=False)
+    late = [full(fixture) for _ in range(2)]
+    addresses = [it.getsockname() for it in late]
+    node = Node(fixture, servers=[server.address, addresses[0]], peers=[("n2", peer.address), ("n3", addresses[1])],
+                front=clocks.front).begin()
+    at_once = ["upstream down: demo/net: it could not be reached", f"peer unreachable: n2 at {spelled(peer.address)}"]
+    others = ["upstream down: demo/two: it could not be reached", f"peer unreachable: n3 at {spelled(addresses[1])}"]
+
+    def are_told(lines, times):
+        fixture.until(f"{lines} are told {times} times", lambda: [count_of(node, it) for it in lines] == len(lines) * [times])
+
+    are_told(at_once, 1)
+    time.sleep(0.5)
+    expect("how often the others were told before", [0, 0], [count_of(node, it) for it in others])
+    for it in late:
+        it.close()
+    are_told(others, 1)
+    for times in range(1, 4):
+        # (those who refuse late did so some seconds after the others)
+        clocks.skip(50)
+        are_told(at_once + others, times)
+        if times == 3:
+            server.listen()
+            peer.listen()
+        clocks.skip(15)
+    server.register()
+    reached = Peer(fixture, peer.accept("the peer n2").socket, "n2")
+    reached.hear("W green")
+    reached.hear_hello()
+    reached.say("W green", reached.hello())
+    node.wait_for("peer greeted: n2")
+    are_told(at_once, 3)
+    are_told(others, 4)
 
 
 @test

@@ -1,6 +1,7 @@
 """Sockets that take little, are interrupted, are read late, or aren't there (docs/OPERATING.md, "Clients that are slow, or gone",
 "What it logs" and "Size"). What comes over them is whole."""
 
+import os
 import time
 
 from harness.client import greeting, page
@@ -171,6 +172,24 @@ def without_descriptors_nobody_spins_and_everybody_is_served_in_the_end(fixture)
     node.client("one that comes later").register()
     server.settled(session)
     fixture.notes.append(f"{rounds} rounds, {used:.2f} seconds of processor time in {WHILE}")
+
+
+@test
+def who_comes_while_no_further_socket_can_be_waited_for_is_closed(fixture):
+    """As where the system lets a user wait for so many and no more. The others are served meanwhile. Its place is free once another
+    client of its worker has come."""
+    unwatched = fixture.path("unwatched")
+    front = ["env", f"LD_PRELOAD={fixture.shims.path('waits')}", f"UNWATCHED={unwatched}"]
+    node = Node(fixture, servers=[NOBODY], workers=1, places=3, front=front).begin()
+    first = node.client("the first client").register()
+    fixture.write("unwatched", b"")
+    node.client("a client that comes meanwhile").hear_end()
+    first.ping()
+    os.remove(unwatched)
+    others = [node.client(f"client {number} that comes later").register() for number in range(2)]
+    node.client("a client beyond the places").hear_end()
+    for client in (first, *others):
+        client.ping()
 
 
 # So many strangers come to the peers' port of a node that has so many descriptors.

@@ -28,17 +28,21 @@ def a_folder_is_no_configuration(fixture):
         raise Failed(f"expected status 4 and {start}, came {ran.status} and {ran.errors}")
 
 
+def can_not_listen(fixture, which, address, why):
+    """A node that is to listen at an address where it can't. That address is told, and why."""
+    node = Node(fixture)
+    setattr(node, which, address)
+    path = fixture.write("bnc.toml", node.text().encode())
+    fixture.run("serve", path).expect(4, b"", FAILED + f"can't listen at {spelled(address)}: {why}\n".encode())
+
+
 def taken(fixture, which):
-    """A node one of whose addresses is somebody else's. That one is told."""
+    """An address that is somebody else's."""
     other = socket.socket()
     fixture.at_end(other.close)
     other.bind(("127.0.0.1", 0))
     other.listen(1)
-    node = Node(fixture)
-    setattr(node, which, other.getsockname())
-    path = fixture.write("bnc.toml", node.text().encode())
-    words = f"can't listen at {spelled(other.getsockname())}: address in use\n"
-    fixture.run("serve", path).expect(4, b"", FAILED + words.encode())
+    can_not_listen(fixture, which, other.getsockname(), "address in use")
 
 
 @test
@@ -49,6 +53,13 @@ def an_address_for_clients_that_is_taken_is_told(fixture):
 @test
 def an_address_for_peers_that_is_taken_is_told(fixture):
     taken(fixture, "peers")
+
+
+@test
+def an_address_that_the_machine_does_not_have_is_told(fixture):
+    """192.0.2.1 is no machine's (RFC 5737)."""
+    for which in ("clients", "peers"):
+        can_not_listen(fixture, which, ("192.0.2.1", 6670), "address not available")
 
 
 def fails(fixture, words, **how):
@@ -62,8 +73,8 @@ def fails(fixture, words, **how):
 
 @test
 def too_few_descriptors_are_told(fixture):
-    """The system gives no socket: its reason stands behind the colon."""
-    fails(fixture, "no socket: .+", front=["sh", "-c", 'ulimit -n 5; exec "$@"', "sh"])
+    """The system gives no socket, since too many files are open."""
+    fails(fixture, "no socket: uncategorized error", front=["sh", "-c", 'ulimit -n 5; exec "$@"', "sh"])
 
 
 @test

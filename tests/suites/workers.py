@@ -135,6 +135,57 @@ def all_are_answered_beside_a_server_without_pause_at_the_second_worker(fixture)
     answered(fixture, 1)
 
 
+# So many clients hear each line, at the worker that is told it by a mail.
+MANY = 30
+
+
+def times(calls):
+    """How many seconds each of these calls takes."""
+    took = []
+    for call in calls:
+        began = time.monotonic()
+        call()
+        took.append(time.monotonic() - began)
+    return took
+
+
+def sockets_are_looked_at(fixture, which):
+    """A server of that worker says lines without pause. All clients that hear them are at the other worker, which has more to do
+    for each of them, so mail waits there at any time. There a client is answered, another one lets itself in, and those who read
+    what they hear stay."""
+    servers = [Server(fixture), Server(fixture)]
+    node = Node(fixture, servers=[it.address for it in servers], bound=1 << 20, places=2 * MANY + 8).begin()
+    sessions, network, other = [it.register() for it in servers], node.networks[which], node.networks[1 - which]
+    # (clients go to the workers in turn)
+    quiet = [node.client(f"client {number} of the other network").register(network=other) for number in range(2)]
+    for number in range(2 * MANY):
+        client = node.client(f"client {number}").register(network=other if number % 2 == which else network)
+        if number % 2 != which:
+            reads_all(fixture, client)
+    says_without_pause(fixture, sessions[which], ":irc.example 372 al :- hi")
+    Ear(sessions[which], "nothing").beside()
+    # (until more is said than the other worker has read)
+    time.sleep(1)
+    pings, entries = [], []
+    for _ in range(ROUNDS):
+        pings += times(client.ping for client in quiet)
+        entries += times(lambda: node.client("a newcomer").register(network=other).close() for _ in range(2))
+    soon("a PING", pings)
+    soon("a registration", entries)
+    expect("who was closed", [], [line for line in node.log() if "it did not read what was owed to it" in line])
+    fixture.notes.append(f"a PING {max(pings):.3f} seconds at most; a registration {max(entries):.3f} seconds at most")
+
+
+@test
+def sockets_are_looked_at_while_mail_of_the_first_worker_comes_without_pause(fixture):
+    sockets_are_looked_at(fixture, 0)
+
+
+@test
+def sockets_are_looked_at_while_mail_of_the_second_worker_comes_without_pause(fixture):
+    sockets_are_looked_at(fixture, 1)
+
+
 # So many strangers connect again and again, for so many seconds, and what each of them does.
 STRANGERS, SECONDS = 8, 3
 STRANGER = """
