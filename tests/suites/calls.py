@@ -87,8 +87,8 @@ def passes(crate, name, may_come_to=()):
     add(f"calls: {crate}, {name.rpartition('::')[2].replace('_', ' ')}", call)
 
 
-passes("test_sockets", "memory::a_refused_ring_is_asked_for_again")
-passes("test_sockets", "memory::a_refused_box_or_entry_is_asked_for_again")
+passes("test_node", "memory::a_refused_ring_is_asked_for_again")
+passes("test_node", "memory::a_refused_box_or_entry_is_asked_for_again")
 # (of three markers so many waited as the word says, and all else was right)
 passes("test_node", "play::short_rows_come_to_their_totals", ("Waited(0", "Waited(1", "Waited(2", "Waited(3"))
 

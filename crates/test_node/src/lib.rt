@@ -1,19 +1,37 @@
-//! Shows what the passes of a shared node see of one another's changes: in one thread, also where memory is refused, and
-//! with puts beside asks in two threads and in four. It stands on `shared_node`. Read `rows` first, the table of what is
-//! played on nodes; `play` plays a row.
+//! What has to be shown in one process. What the passes of a shared node see of one another's changes: in one thread, also
+//! where memory is refused, and with puts beside asks in two threads and in four (`shared_node`). Places and clients at their
+//! stands (`client_places`), further kinds of clients and halls (`attach`). And bytes that are written (`byte_text`), with the
+//! devices on which other tests stand (`test_devices`).
 //!
-//! `tests/suites/calls.py` refuses each request for memory of the short rows in turn: a put that is refused is looked at, and
-//! the rest is put.
+//! The contracts of these crates say what most calls do. Here is what no clause promises: that there is memory at the greatest
+//! sizes, that a pass is let in, that the lowest free place is given, also after it was freed in another thread, and what
+//! stands where memory was refused. What the built program shows from outside is tested there. Read `rows` first, the table of
+//! what is played on nodes, and `limits`; `play` plays a row.
+//!
+//! `tests/suites/calls.py` refuses each request for memory of the short rows and of `memory` in turn: a put that is refused is
+//! looked at, and the rest is put; a stand or a box that is handed back still has its place.
 #![tactic(auto)]
 
 #[cfg(test)]
 mod asks;
 #[cfg(test)]
+mod byte_texts;
+#[cfg(test)]
 mod changes;
+#[cfg(test)]
+mod clients;
+#[cfg(test)]
+mod devices;
 #[cfg(test)]
 mod fault;
 #[cfg(test)]
 mod growth;
+#[cfg(test)]
+mod limits;
+#[cfg(test)]
+mod memory;
+#[cfg(test)]
+mod places;
 #[cfg(test)]
 mod play;
 #[cfg(test)]

@@ -4,7 +4,9 @@ ghost use Rattle.client_places.specs.Attachment.{with_line};
 ghost use Rattle.attach.specs.Hall.{Changes};
 
 use crate::limits::{is_flushed, is_offered};
-use crate::places::{clerk_of, counting_client, is_full, next_place, recorder, ring_client};
+use crate::places::{
+    claimed, clerk_of, counting_client, is_full, next_place, recorder, ring_client,
+};
 use attach::{Attachment, Boxed, Clerk, Hall, HallFault, Overrun, Recorder, RingClient, Stand};
 use std::alloc::Global;
 use std::process::Abort;
@@ -15,6 +17,14 @@ fn stand_at<R: Abort>(rt: &R, clerk: &mut Clerk, place: usize) -> Stand {
     let stand = clerk.claim().expect(rt, "a place");
     assert!(rt; stand.place() == place);
     stand
+}
+
+#[test]
+fn a_stand_has_a_text(rt: HostRuntime) {
+    let mut clerk = clerk_of(&rt, rt.alloc(), 1);
+    let stand = claimed(&rt, &mut clerk);
+    let printed = format!(in rt.alloc(); "{stand:?}").expect(&rt, "memory");
+    assert!(rt; printed.as_str() == "Stand { place: 0 }");
 }
 
 #[test]

@@ -1,8 +1,7 @@
-//! Writes of what a writer doesn't take at once, and the text of want of memory.
-use byte_text::{NoMemory, put};
-use std::alloc::{AllocError, Global};
+//! Writes of what a writer doesn't take at once.
+use byte_text::put;
+use std::alloc::Global;
 use std::io::ErrorKind;
-use std::test::Fail;
 use test_devices::Sink;
 
 const TEXT: &[u8] = b"PING :x\r\n";
@@ -48,11 +47,4 @@ fn writes_what_is_left(rt: HostRuntime) {
     let mut writer = two_writes(rt.alloc());
     assert!(rt; put(&mut writer, TEXT).is_ok() && writer.bytes() == TEXT);
     assert!(rt; put(&mut writer, b"").is_ok() && put(&mut writer, b"x").is_err());
-}
-
-#[test]
-fn says_that_there_is_no_memory(rt: HostRuntime) -> Result<(), Fail> {
-    let fault = NoMemory::from(AllocError);
-    assert!(rt; format!(in rt.alloc(); "{fault}")?.as_str() == "no memory");
-    Ok(())
 }
