@@ -176,8 +176,8 @@ def without_descriptors_nobody_spins_and_everybody_is_served_in_the_end(fixture)
 
 @test
 def who_comes_while_no_further_socket_can_be_waited_for_is_closed(fixture):
-    """As where the system lets a user wait for so many and no more. The others are served meanwhile. Its place is free once another
-    client of its worker has come."""
+    """As where the system lets a user wait for so many and no more. The others are served meanwhile. Its place is free once
+    another client of its worker has come."""
     unwatched = fixture.path("unwatched")
     front = ["env", f"LD_PRELOAD={fixture.shims.path('waits')}", f"UNWATCHED={unwatched}"]
     node = Node(fixture, servers=[NOBODY], workers=1, places=3, front=front).begin()
