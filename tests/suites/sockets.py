@@ -176,19 +176,19 @@ def without_descriptors_nobody_spins_and_everybody_is_served_in_the_end(fixture)
 
 @test
 def who_comes_while_no_further_socket_can_be_waited_for_is_closed(fixture):
-    """As where the system lets a user wait for so many and no more. The others are served meanwhile. Its place is free once
-    another client of its worker has come."""
+    """As where the system lets a user wait for so many and no more. The others are served meanwhile, and its place is free."""
     unwatched = fixture.path("unwatched")
     front = ["env", f"LD_PRELOAD={fixture.shims.path('waits')}", f"UNWATCHED={unwatched}"]
-    node = Node(fixture, servers=[NOBODY], workers=1, places=3, front=front).begin()
+    node = Node(fixture, servers=[NOBODY], workers=1, places=2, front=front).begin()
     first = node.client("the first client").register()
     fixture.write("unwatched", b"")
     node.client("a client that comes meanwhile").hear_end()
     first.ping()
+    node.wait_for("client refused: ")
     os.remove(unwatched)
-    others = [node.client(f"client {number} that comes later").register() for number in range(2)]
+    second = node.client("a client that comes later").register()
     node.client("a client beyond the places").hear_end()
-    for client in (first, *others):
+    for client in (first, second):
         client.ping()
 
 
