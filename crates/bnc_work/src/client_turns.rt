@@ -7,7 +7,8 @@ use crate::work_port::{PortClients, PortServers, WorkPort};
 use bnc_ports::{Carries, Connection, Port, Reason};
 use chat_change::Change;
 use client_places::Attachment;
-use passed_lines::{Mail, mail_said};
+use network_session::mail_said;
+use passed_lines::Mail;
 use work_clients::{ClientEffect, ClientPut, ClientStep, Clients, ToClient};
 use worker_io::{Context, WorkEnd};
 

@@ -1,7 +1,8 @@
 //! How the sessions with networks' servers stand, as all workers know it.
 use bnc_ports::{Carries, Connection, Port};
 use client_places::Attachment;
-use passed_lines::{Mail, NetworkEntry, News, mail_others};
+use network_session::{News, mail_others};
+use passed_lines::{Mail, NetworkEntry};
 use work_clients::{Clients, ToClient};
 use work_servers::EntryUpdate;
 use worker_io::Context;

@@ -4,7 +4,8 @@ use crate::node::Node;
 use bnc_ports::{Carries, Connection, Port};
 use chat_change::Buffer;
 use client_places::Attachment;
-use passed_lines::{Mail, News, mail_others};
+use network_session::{News, mail_others};
+use passed_lines::Mail;
 use work_clients::{Clients, ToClient};
 use worker_io::{Context, NodeView, WorkEnd};
 

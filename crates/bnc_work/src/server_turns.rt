@@ -7,10 +7,10 @@ use crate::work_port::{PortClients, PortServers, WorkPort};
 use bnc_ports::{Carries, Connection, Port, Reason};
 use byte_text::NoMemory;
 use client_places::Attachment;
-use passed_lines::{
-    Deed, Live, Mail, News, Passed, PutQueue, ServerEffects, ServerPut, is_another_behind,
-    mail_line, mail_others,
+use network_session::{
+    Deed, News, PutQueue, ServerEffects, ServerPut, is_another_behind, mail_line, mail_others,
 };
+use passed_lines::{Live, Mail, Passed};
 use work_clients::{Clients, ToClient};
 use work_servers::{SaidStep, ServerStep, Servers, ToServer};
 use worker_io::{Context, WorkEnd};

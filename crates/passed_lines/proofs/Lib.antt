@@ -1,3 +1,2 @@
-mod PassingLemmas
 mod OwnLemmas
-mod QueueLemmas
+pub mod CallerLemmas

@@ -1,6 +1,5 @@
--- ---- what a reader has to believe: which lines clients say to which servers, what is put and passed on by a session with a
--- network's server, and how such a session goes on
+-- ---- what a reader has to believe: which lines clients say to which servers, and what is put and passed on by a session with
+-- a network's server
 
 pub mod Saying
 pub mod Passing
-pub mod OwnSession

@@ -11,7 +11,7 @@ use Rattle.upstream_session.specs.Step.{new}
 use Rattle.cluster_directory.specs.declared.config.SessionConfig.{SessionConfig}
 use Rattle.upstream_session.specs.declared.connection.Connection.{Connection}
 use Rattle.upstream_session.specs.declared.effect.UpEffect.{UpEffect}
-use Rattle.upstream_session.specs.declared.effect.UpEffect.TheVariants.{Send, Put, Relay, Close}
+use Rattle.upstream_session.specs.declared.effect.UpEffect.TheVariants.{Put, Relay}
 use Rattle.passed_lines.specs.Saying.{IsSaidFor}
 
 -- any line of the server, and what a client of that account and network says to it
@@ -54,13 +54,6 @@ pub record IsPutBy (account network : List ℕ) (change : Change) : Type 0 where
 -- a session with the server of some account's network puts that change
 abbrev pub IsPutBySome : Change → Type 0
 IsPutBySome change = (account : List ℕ) × (network : List ℕ) × IsPutBy account network change
-
--- what of that is put or passed on, is so by a session of theirs
-abbrev pub MayPass : List ℕ → List ℕ → UpEffect → Type 0
-MayPass account network (Send text) = Unit {0}
-MayPass account network (Put change) = IsPutBy account network change
-MayPass account network (Relay text to) = IsPassedOn account network to text
-MayPass account network Close = Unit {0}
 
 -- some session of theirs has that nick
 pub record IsNickOf (account network nick : List ℕ) : Type 0 where

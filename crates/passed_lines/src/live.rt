@@ -56,8 +56,8 @@ impl LiveMessage {
         }
     }
 
-    // The change that puts it, which shares its memory.
-    pub(crate) fn to_change(&self) -> Result<Change, NoMemory>
+    /// The change that puts it, which shares its memory.
+    pub fn to_change(&self) -> Result<Change, NoMemory>
         ensures { IfOk result (λ change. change ≡ Post self.now.message) }
     {
         let message = self.message.try_clone()?;

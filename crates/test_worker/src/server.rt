@@ -2,7 +2,8 @@
 use crate::worker_config::config_at;
 use byte_text::Text;
 use chat_change::Moment;
-use passed_lines::{Deed, LiveMessage, NetworkEntry, NetworkSession, PassedLine, ServerEffects};
+use network_session::{Deed, NetworkSession, ServerEffects};
+use passed_lines::{LiveMessage, NetworkEntry, PassedLine};
 use std::alloc::Global;
 use worker_io::SharedLine;
 

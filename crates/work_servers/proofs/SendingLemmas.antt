@@ -15,8 +15,8 @@ use Rattle.upstream_session.specs.Step.{new}
 use Rattle.upstream_session.specs.declared.connection.Connection.{Connection}
 use Rattle.upstream_session.specs.declared.effect.UpEffect.{UpEffect}
 use Rattle.upstream_session.specs.declared.effect.UpEffect.TheVariants.{Send, Put, Relay, Close}
-use Rattle.passed_lines.specs.OwnSession.{OwnSession, after}
 use Rattle.passed_lines.specs.Passing.{IsLineFor}
+use Rattle.network_session.specs.OwnSession.{OwnSession, after}
 use Rattle.work_lines.specs.Incoming.{Unread, Kept, Lost, next_of, without_next, AreGiven}
 use Rattle.work_lines.specs.Outgoing.{Traffic, handed}
 use Rattle.work_lines.proofs.CallerLemmas.{none_given, given_next, loses, first_items}

@@ -5,7 +5,7 @@ use Rattle.bnc_ports.specs.declared.event.Reason.{Reason}
 use Rattle.upstream_session.specs.Session.{start}
 use Rattle.cluster_directory.specs.declared.config.SessionConfig.{SessionConfig}
 use Rattle.upstream_session.specs.declared.effect.UpEffect.{UpEffect}
-use Rattle.passed_lines.specs.OwnSession.{OwnSession, begun}
+use Rattle.network_session.specs.OwnSession.{OwnSession, begun}
 use Rattle.work_lines.specs.Incoming.{Unread, AreGiven}
 use Rattle.work_lines.specs.Outgoing.{Traffic, handed}
 use Rattle.work_servers.specs.Sending.{sends_of, IsSent}

@@ -9,7 +9,8 @@ use crate::server::Server;
 use crate::servers::Servers;
 use bnc_ports::{Carries, Connection, Dial, Event, Port, Reason};
 use byte_text::{NoMemory, Text};
-use passed_lines::{NetworkEntry, NetworkSession, ServerEffects};
+use network_session::{NetworkSession, ServerEffects};
+use passed_lines::NetworkEntry;
 use worker_io::{Context, NodeView, RETRY, Timer};
 
 /// A server that sent nothing for so many milliseconds is given up.

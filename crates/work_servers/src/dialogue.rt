@@ -1,7 +1,7 @@
 //! The session with a network's server, over its connection.
 ghost use Rattle.std.specs.Prelude.{◌≡◌, [], None, IfOk, OnErr};
 ghost use Rattle.upstream_session.specs.Events.{Line, effects_of};
-ghost use Rattle.passed_lines.specs.OwnSession.{after};
+ghost use Rattle.network_session.specs.OwnSession.{after};
 ghost use Rattle.work_servers.specs.Owing.{Begins, IsHeldTo, IsOwed};
 
 use crate::kept_line::{KeptLine, LineRoom};
@@ -11,7 +11,8 @@ use bnc_ports::{Carries, Connection, Reason};
 use byte_text::{NoMemory, Text};
 use chat_change::Moment;
 use irc_line::Next;
-use passed_lines::{NetworkSession, Said, SayFault, ServerEffects};
+use network_session::{NetworkSession, SayFault, ServerEffects};
+use passed_lines::Said;
 use std::alloc::Global;
 use upstream_session::is_passed_on;
 use work_lines::{Filled, Input, Pumped, SendQueue};

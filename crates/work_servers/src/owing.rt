@@ -6,7 +6,7 @@ ghost use Rattle.work_servers.specs.Owing.{IsOwed};
 
 use bnc_ports::{Connection, Reason};
 use byte_text::NoMemory;
-use passed_lines::ServerEffects;
+use network_session::ServerEffects;
 use upstream_session::UpEffect;
 use work_lines::SendQueue;
 

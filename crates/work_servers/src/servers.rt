@@ -3,7 +3,8 @@ use crate::kept_line::LineRoom;
 use crate::server::Server;
 use bnc_ports::{Connection, Reason};
 use byte_text::{NoMemory, Text};
-use passed_lines::{Live, PutQueue, ServerEffects, ServerPut};
+use network_session::{PutQueue, ServerEffects, ServerPut};
+use passed_lines::Live;
 use std::alloc::Global;
 use worker_io::Connections;
 

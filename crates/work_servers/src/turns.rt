@@ -6,7 +6,8 @@ use crate::server::ServerStep;
 use crate::servers::Servers;
 use bnc_ports::{Carries, Connection, Event, Port, Reason};
 use byte_text::NoMemory;
-use passed_lines::{Said, SayFault, ServerEffects};
+use network_session::{SayFault, ServerEffects};
+use passed_lines::Said;
 use work_lines::Pumped;
 use worker_io::{Context, NodeView};
 
