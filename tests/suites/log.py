@@ -1,12 +1,15 @@
 """What the operator is told of servers and clients (docs/OPERATING.md, "What it logs"). No line has a secret, the shared word or a
 message."""
 
+import os
+import re
 import time
 
 from harness.connection import spelled
 from harness.failure import Failed, expect
 from harness.node import Node
 from harness.registry import add, test
+from harness.scripts import TESTS
 from harness.server import Server
 
 # Which no line may have.
@@ -125,3 +128,16 @@ def a_client_that_does_not_register_in_time(fixture):
     stranger.hear_end()
     client.ping()
     check(node)
+
+
+@test
+def each_reason_of_the_documents_stands_in_the_program(fixture):
+    """The reasons for which a connection ends are told word for word by rows of test_worker and by other suites, but for one that
+    no test brings about: that the node let no question in. So it is looked for in the program, and so are the others."""
+    with open(os.path.join(os.path.dirname(TESTS), "docs", "OPERATING.md"), encoding="utf-8") as file:
+        listed = re.search(r"^Why a connection ended is one of these: .*$", file.read(), re.M)[0]
+    reasons = [text for text in re.findall(r"`([^`]*)`", listed) if " " in text]
+    expect("whether the last one is listed", True, "the node let no question in" in reasons)
+    with open(fixture.program, "rb") as file:
+        program = file.read()
+    expect("reasons that aren't in the program", [], [text for text in reasons if text.encode() not in program])
