@@ -1,161 +1,18 @@
 #!/usr/bin/env python3
-"""Writes the tables of peer lines in data/, each with what a plain reader makes of the line: it goes by the table of
-docs/PROTOCOL.md alone, field by field. The gate doesn't run it; it runs what it wrote.
+"""Writes the tables of peer lines in data/, each with what arrives with the line by the plain reader of
+tests/harness/peer_lines.py. The gate doesn't run it; it plays what it wrote.
 
-    ./peer_tables.py     writes data/peer_limits, data/peer_changed, data/peer_gathers, data/peer_exchanges
+    ./peer_tables.py     writes data/peer_limits, data/peer_gathers, data/peer_exchanges
 """
 
 import os
-import re
+import sys
 
-GREATEST = 18446744073709551615
-GREATEST_MOMENT = 253402300799999
-LINE_LIMIT = 510
+FOLDER = os.path.dirname(os.path.abspath(__file__))
+sys.path.insert(0, os.path.join(FOLDER, "..", "..", "tests"))
+sys.dont_write_bytecode = True
 
-
-# ---- fields: each is a test of the bytes between two spaces
-
-def number(most):
-    return lambda f: re.fullmatch(rb"0|[1-9][0-9]*", f) is not None and int(f) <= most
-
-
-def plain(f):
-    """Bytes that may stand in a word."""
-    return not set(f) & set(b"\0\r\n ")
-
-
-def node(f):
-    return re.fullmatch(rb"[a-z0-9]{1,32}", f) is not None
-
-
-def name(f):
-    return re.fullmatch(rb"[a-z0-9_-]{1,32}", f) is not None
-
-
-def target(f):
-    return 1 <= len(f) <= 200 and plain(f) and b"," not in f and f[:1] != b":" and f != b"*"
-
-
-def folded_target(f):
-    return target(f) and not set(f) & set(range(ord("A"), ord("Z") + 1))
-
-
-def identity(f):
-    """A message id, and a source."""
-    return 1 <= len(f) <= 255 and plain(f) and f[:1] != b":"
-
-
-def kind(f):
-    return f in (b"P", b"N")
-
-
-def tags(f):
-    """Client-only tags of distinct keys, each alone or with a value, in which five bytes are escaped."""
-    parts = f.split(b";")
-    keys = {part.split(b"=")[0] for part in parts}
-    return 1 <= len(f) <= 4094 and plain(f) and len(keys) == len(parts) and all(
-        re.fullmatch(rb"\+[^=]*(=([^\\]|\\[:s\\rn])+)?", part) for part in parts)
-
-
-def shared_word(f):
-    return 1 <= len(f) <= 64 and plain(f)
-
-
-def version(f):
-    return f in (b"1", b"2", b"3")
-
-
-moment = number(GREATEST_MOMENT)
-count = number(GREATEST)
-BUFFER = [name, name, folded_target]
-LIVES = [node, count, node, count]
-
-SHAPES = {
-    b"W": [shared_word],
-    b"H": [version, node, count],
-    b"D": LIVES + [count, count, number(256)],
-    b"A": LIVES + [count],
-}
-CHANGES = {
-    b"REDACT": BUFFER + [identity, lambda f: f == b"*" or moment(f)],
-    b"MARK": BUFFER + [moment],
-    b"FLOOR": BUFFER + [moment],
-    b"AFLOOR": [name, moment],
-}
-# the words before the body
-POSTS = {
-    b"POST": BUFFER + [identity, moment, kind, target, identity],
-    b"TPOST": BUFFER + [identity, moment, kind, tags, target, identity],
-}
-
-
-def fits(fields, shape):
-    return len(fields) == len(shape) and all(test(f) for f, test in zip(fields, shape))
-
-
-def is_post(line, shape):
-    words = line.split(b" ", len(shape) + 2)[2:]
-    if not fits(words[:-1], shape) or words[-1][:1] != b":" or set(words[-1]) & set(b"\0\r\n"):
-        return False
-    command = {b"P": b"PRIVMSG", b"N": b"NOTICE"}[words[5]]
-    to, source, body = words[-3:]
-    return len(b":%s %s %s %s" % (source, command, to, body)) <= LINE_LIMIT
-
-
-def letter_of(line):
-    """The first word of the line that is read, or `-`."""
-    words = line.split(b" ")
-    if words[0] == b"C":
-        what = b"".join(words[1:2])
-        if what in POSTS:
-            return "C" if is_post(line, POSTS[what]) else "-"
-        return "C" if what in CHANGES and fits(words[2:], CHANGES[what]) else "-"
-    shape = SHAPES.get(words[0])
-    if shape is None or not fits(words[1:], shape):
-        return "-"
-    if words[0] == b"D" and not (int(words[5]) < int(words[6]) and 1 <= int(words[7])):
-        return "-"
-    return words[0].decode()
-
-
-# ---- lines of which a byte is changed
-
-PACKET = [
-    b"W green",
-    b"H 1 n1 1",
-    b"D n1 12 n2 3 0 5 5",
-    b"C POST demo net #a m1 1000 P #A bob!b@h :hi  :all",
-    b"C POST demo net bob m2 0 N al bob!b@h :",
-    b"C REDACT demo net #a m1 1000",
-    b"C REDACT demo net #a m2 *",
-    b"C MARK demo net #a 1001",
-    b"C FLOOR demo net #a 999",
-    b"C TPOST demo net #a m3 0 P +0=\\:;+7 #a bob!b@h :hi",
-    b"C AFLOOR demo 999",
-    b"A n2 3 n1 12 5",
-    b"H 3 n1 1",
-    b"H 2 n1 1",
-]
-PUT = [0, 10, 13, 32, 255] + [ord(c) for c in "07zZ:*"]
-
-
-def changed(line, at, change):
-    before, here, behind = line[:at], line[at:at + 1], line[at + 1:]
-    if change == "dropped":
-        return before + behind
-    if change == "doubled":
-        return before + here + here + behind
-    if change == "cut":
-        return before
-    return before + bytes([change]) + behind
-
-
-def changed_table():
-    for line in PACKET:
-        yield b"== " + line
-        for change in PUT + ["dropped", "doubled", "cut"]:
-            letters = "".join(letter_of(changed(line, at, change)) for at in range(len(line)))
-            yield f"{change} {letters}".encode()
+from harness.peer_lines import GREATEST, GREATEST_MOMENT, LINE_LIMIT, LINES, WORD, arrivals, head, probe  # noqa: E402
 
 
 # ---- limits
@@ -173,7 +30,7 @@ def longest_body(source, to):
 
 
 def limit_lines():
-    yield from PACKET_TEXTS
+    yield from LINES
     for n in (64, 65):
         yield "W " + "w" * n
     yield "W w w"
@@ -243,25 +100,20 @@ def limit_lines():
         yield other
 
 
-PACKET_TEXTS = [line.decode() for line in PACKET]
+def rows(lines):
+    """Each line with what arrives with it."""
+    return (f"{letter} {line}".encode() for letter, line in zip(arrivals(lines), lines))
 
 
 def limits_table():
     yield b"== limits"
-    for line in limit_lines():
-        yield f"{letter_of(line.encode())} {line}".encode()
+    yield from rows([other for line in limit_lines() for other in probe(line)])
 
 
 # ---- lines that come over one connection
 
 MARK = "C MARK demo net #a 1"
-
-
-def head(count):
-    return f"D n1 1 n2 1 0 300 {count}"
-
-
-HELLO, ACK, WORD = "H 3 n1 1", "A n2 1 n1 1 5", "W green"
+HELLO, ACK = "H 3 n1 1", "A n2 1 n1 1 5"
 
 CONNECTIONS = {
     "words, hellos and acknowledgements arrive by themselves": [WORD, HELLO, ACK, WORD],
@@ -271,7 +123,7 @@ CONNECTIONS = {
     "a head of 256 changes, and a hello behind it": [head(256), HELLO, MARK, head(1), MARK],
     "a head that is refused opens no packet": [head(257), MARK, head(1), MARK],
     "a head from where it ends opens no packet": ["D n1 1 n2 1 5 5 1", MARK, head(1), MARK],
-    "a packet of each kind of change": ["D n1 12 n2 3 0 8 8"] + PACKET_TEXTS[3:11] + [MARK, ACK],
+    "a packet of each kind of change": ["D n1 12 n2 3 0 8 8"] + [*LINES[3:11]] + [MARK, ACK],
     "two packets in turn": [head(2), MARK, MARK, head(1), MARK],
 }
 for word, line in (("word", WORD), ("hello", HELLO), ("head", head(1)), ("acknowledgement", ACK)):
@@ -307,35 +159,15 @@ def broken_packets():
                     yield [*front.split("\n"), WORD, *PACKETS[0]]
 
 
-def arrivals(lines):
-    """What arrives with each line, where a line that can't be read doesn't come to the gather."""
-    missing = 0
-    for line in lines:
-        read = letter_of(line.encode())
-        if read == "-":
-            yield "-"
-        elif missing:
-            missing = missing - 1 if read == "C" else 0
-            yield "-" if read != "C" else ("." if missing else "P")
-        elif read == "D":
-            missing = int(line.split(" ")[7])
-            yield "."
-        else:
-            yield "-" if read == "C" else read
-
-
 def gathers_table():
     for name, lines in CONNECTIONS.items():
         yield f"== {name}".encode()
-        for letter, line in zip(arrivals(lines), lines):
-            yield f"{letter} {line}".encode()
+        yield from rows(lines)
     # (a case ends with a whole packet, so the next one begins with a gather that is empty)
     yield b"== broken packets, each with a whole one behind it"
     for lines in broken_packets():
-        letters = list(arrivals(lines))
-        assert letters[-len(PACKETS[0]):] == [".", ".", "P"]
-        for letter, line in zip(letters, lines):
-            yield f"{letter} {line}".encode()
+        assert list(arrivals(lines))[-len(PACKETS[0]):] == [".", ".", "P"]
+        yield from rows(lines)
 
 
 # ---- two nodes that are connected, as the part "Between nodes" of docs/PROTOCOL.md has them
@@ -429,14 +261,13 @@ def exchanges_table():
             yield f"front {len(node.changes)}".encode()
 
 
-TABLES = {"limits": limits_table, "changed": changed_table, "gathers": gathers_table, "exchanges": exchanges_table}
+TABLES = {"limits": limits_table, "gathers": gathers_table, "exchanges": exchanges_table}
 
 
 def main():
-    data = os.path.join(os.path.dirname(os.path.abspath(__file__)), "data")
-    for name, rows in TABLES.items():
-        with open(os.path.join(data, f"peer_{name}"), "wb") as out:
-            for row in rows():
+    for name, table in TABLES.items():
+        with open(os.path.join(FOLDER, "data", f"peer_{name}"), "wb") as out:
+            for row in table():
                 out.write(row + b"\n")
 
 

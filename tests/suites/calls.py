@@ -62,7 +62,7 @@ file_is_right("test_state", "lines_refused", "1 cases of 6 rows, 0 rows wrong")
 file_is_right("test_state", "states_refused", "4 cases of 172 rows, 0 rows wrong")
 file_is_right("test_state", "delta_refused", "1 cases of 266 rows, 0 rows wrong", rows=SAMPLED)
 file_is_right("test_state", "pages_refused", "1 cases of 91 rows, 0 rows wrong", rows=ALONE)
-file_is_right("test_sessions", "peer_refused", "2 cases of 40 rows, 0 wrong")
+file_is_right("test_sessions", "peer_refused", "2 cases of 56 rows, 0 wrong")
 
 
 # How a test fails that says what it came to.

@@ -11,6 +11,8 @@ from harness.failure import Failed, expect, shortened
 from harness.mutations import mutated, prefixes
 from harness.node import Node
 from harness.peer import Peer
+from harness.peer_lines import LINES as PEER_LINES
+from harness.peer_lines import arrivals, probe
 from harness.registry import add, test
 from harness.scripts import TESTS
 
@@ -182,6 +184,28 @@ def upstream_serves(script, told):
 
 
 sessions_are_served("upstream_mutated", from_server, upstream_serves)
+
+
+def changed(line):
+    """Each beginning of a line, and the line with one character replaced, left out or doubled. (A CR at its end is its ending.)"""
+    for at in range(len(line)):
+        before, here, behind = line[:at], line[at], line[at + 1:]
+        yield before
+        others = (before + other + behind for other in (*SPELLED, *"07zZ:*", "", here + here))
+        yield from (other for other in others if not other.endswith("␍"))
+
+
+@test
+def lines_between_nodes_are_read_or_refused(fixture):
+    """Lines of each kind through one gather: what arrives is what a plain reader makes of them, and the next line is heard."""
+    tried = [other for line in PEER_LINES for other in changed(line)]
+    lines = [row for other in tried for part in other.split("\n") for row in probe(part)]
+    letters = arrivals([line.replace("␀", "\0").replace("␍", "\r") for line in lines])
+    text = "== lines\n" + "".join(f"{letter} {line}\n" for letter, line in zip(letters, lines))
+    fixture.write("peer_gathers", text.encode())
+    ran = fixture.play("test_sessions", "peer_gathers", most=100)
+    expect("what it told", f"peer_gathers: 1 cases of {len(lines) + 1} rows, 0 wrong\n", ran.output.decode()[-300:])
+    fixture.notes.append(f"{len(tried)} lines")
 
 
 @test

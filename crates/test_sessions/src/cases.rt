@@ -10,10 +10,10 @@
 //! else stands in theirs.
 use std::alloc::{AllocError, Global};
 
-/// A case's name, what is played, and what that is to come to, where it says so.
+/// How what is played stands at first, what is played, and what that is to come to, where it says so.
 #[derive(Clone, Copy)]
 pub struct Case<'a> {
-    pub title: &'a str,
+    pub setting: &'a str,
     pub script: &'a str,
     pub expected: Option<&'a str>,
 }
@@ -22,22 +22,15 @@ impl<'a> Case<'a> {
     /// The case that a part of a file spells.
     pub fn of(part: &'a str) -> Case<'a> {
         let (title, rest) = part.split_once("\n").unwrap_or((part, ""));
+        let (setting, _) = title.split_once(": ").unwrap_or((title, ""));
         let (script, expected) = match rest.split_once("\n--\n") {
             Some((script, expected)) => (script, Some(expected)),
             None => (rest, None),
         };
         Case {
-            title,
+            setting,
             script,
             expected,
-        }
-    }
-
-    /// How what is played stands at first.
-    pub fn setting(self) -> &'a str {
-        match self.title.split_once(": ") {
-            Some((setting, _)) => setting,
-            None => self.title,
         }
     }
 }

@@ -13,15 +13,16 @@
 //! A line that begins with `%` is none of the client's. It names another such standing from then on; or it is `%too-long`
 //! for a line that was too long to be taken in, `%batch`, `%plain` or `%no-query` for what an answer was, `%reference` to
 //! tell the number of the next batch, or `%no-entry`: from then on no message can be looked up. `%ask line` tells what a question
-//! is answered of the message m1, and of which kind the answer was.
-use crate::facts::{config_of, facts_of, state_of};
-use crate::telling::{tell_row, without_ending};
+//! is answered of the message m1, which takes a number where the answer is a batch.
+use crate::telling::{absorb, tell_change, tell_row, without_ending};
 use anyhow::Error;
 use byte_text::Text;
 use chat_batch::{Facts, answer};
-use chat_change::{Buffer, Change, MsgId};
+use chat_change::{Buffer, MsgId};
 use chat_state::{NoEntry, Peek, State};
-use client_session::{Answered, Directory, Effect, Entry, NoMemory, Session, StepFault};
+use client_session::{
+    Account, Answered, Directory, Effect, Entry, Network, NoMemory, Session, StepFault,
+};
 use irc_caps::CapSet;
 use irc_line::{TagLimit, read_line};
 use std::alloc::{AllocError, Global};
@@ -53,11 +54,12 @@ impl Peek for Closed {
     }
 }
 
-/// How the network stands of which a word tells.
-fn entry_of(alloc: Global, word: &str) -> Result<Entry, Error> {
+/// The network `net`, as it stands of which a word tells.
+fn network_of(alloc: Global, word: &str) -> Result<Network, Error> {
     let is_up = !matches!(word, "down" | "redact-down");
     let takes_redact = matches!(word, "redact" | "redact-down");
     let nick = if word == "renamed" { b"bo" } else { b"al" };
+    let name = Text::new(alloc, b"net")?;
     let mut entry = Entry::new(
         is_up,
         Text::new(alloc, nick)?,
@@ -67,53 +69,48 @@ fn entry_of(alloc: Global, word: &str) -> Result<Entry, Error> {
     if word == "channel" {
         entry.join(Text::new(alloc, b"#a")?)?;
     }
-    Ok(entry)
+    Ok(Network::new(name, entry))
 }
 
-// The directory of the configuration.
-fn known_directory(alloc: Global) -> Result<Directory, Error> {
-    let config = config_of(alloc)?;
-    Ok(config.directory(alloc)?)
-}
-
-fn set_entries(alloc: Global, directory: &mut Directory, word: &str) -> Result<(), Error> {
-    directory.set_entry(b"demo", b"net", entry_of(alloc, word)?);
-    directory.set_entry(b"open", b"net", entry_of(alloc, word)?);
-    Ok(())
+// An account of that name and with that secret, which has that network.
+fn account_of(alloc: Global, name: &[u8], secret: &[u8], word: &str) -> Result<Account, Error> {
+    let name = Text::new(alloc, name)?;
+    let mut account = Account::new(alloc, name, Text::new(alloc, secret)?);
+    account.add(network_of(alloc, word)?)?;
+    Ok(account)
 }
 
 /// The directory of which a word tells; `nowhere` has no account.
 fn directory_of(alloc: Global, word: &str) -> Result<Directory, Error> {
-    if word == "nowhere" {
-        return Ok(Directory::new(alloc));
+    let mut directory = Directory::new(alloc);
+    if word != "nowhere" {
+        directory.add(account_of(alloc, b"demo", b"s3cret", word)?)?;
+        directory.add(account_of(alloc, b"open", b"", word)?)?;
     }
-    let mut directory = known_directory(alloc)?;
-    set_entries(alloc, &mut directory, word)?;
     Ok(directory)
 }
 
-// A session of a member whose next batch has the greatest number.
-fn last_session(alloc: Global) -> Result<Session, Error> {
-    Ok(Session::registered(Facts {
-        reference: u32::MAX,
-        ..facts_of(alloc, CapSet::all())?
-    }))
-}
-
-fn session_of(alloc: Global, word: &str) -> Result<Session, Error> {
-    let caps = match word {
-        "member" => CapSet::all(),
-        "bare" => CapSet::none(),
-        "wide" => return Ok(Session::new(alloc, b"~", 1000)?),
-        "last" => return last_session(alloc),
-        _ => return Ok(Session::new(alloc, b"~", 100)?),
+fn session_of(alloc: Global, word: &str) -> Result<Session, NoMemory> {
+    let (caps, reference) = match word {
+        "member" => (CapSet::all(), 1),
+        "last" => (CapSet::all(), u32::MAX),
+        "bare" => (CapSet::none(), 1),
+        "wide" => return Session::new(alloc, b"~", 1000),
+        _ => return Session::new(alloc, b"~", 100),
     };
-    Ok(Session::registered(facts_of(alloc, caps)?))
+    let mut facts = Facts::new(alloc, b"demo", b"net", b"al", caps, b"~", 100)?;
+    facts.reference = reference;
+    Ok(Session::registered(facts))
 }
 
 fn player_of(alloc: Global, setting: &str) -> Result<Player, Error> {
     let (who, standing) = setting.split_once(" ").unwrap_or((setting, ""));
-    let state = state_of(alloc)?;
+    let mut state = State::new(alloc);
+    absorb(
+        alloc,
+        &mut state,
+        b"C POST demo net #a m1 1000 P #a bob!b@h :hi",
+    )?;
     let directory = directory_of(alloc, standing)?;
     let session = session_of(alloc, who)?;
     Ok(Player {
@@ -124,60 +121,27 @@ fn player_of(alloc: Global, setting: &str) -> Result<Player, Error> {
     })
 }
 
-/// The kind of an answer, as a table names it.
-fn name_of(answered: Answered) -> &'static str {
-    match answered {
-        Answered::Batch => "Batch",
-        Answered::Plain => "Plain",
-        Answered::NotAQuery => "NotAQuery",
-    }
-}
-
-// A marker as its target and its milliseconds after 1970 began.
-fn tell_change(out: &mut Vec<u8>, change: &Change) -> Result<(), AllocError> {
-    match change {
-        Change::Mark { buffer, at } => {
-            out.extend_from_slice(b"put ")?;
-            let moment: &[u8] = if at.ms() == 5000 { b" 5000" } else { b" other" };
-            tell_row(out, buffer.target(), moment)
-        }
-        _ => tell_row(out, b"put ", b"no marker"),
-    }
-}
-
 // Tells an effect in a row: a line to the client as it is, the others with a word before them.
-fn tell_effect(out: &mut Vec<u8>, effect: &Effect) -> Result<(), AllocError> {
+fn tell_effect(alloc: Global, out: &mut Vec<u8>, effect: &Effect) -> Result<(), Error> {
     match effect {
-        Effect::Send(text) => tell_row(out, b"", without_ending(text.as_bytes())),
-        Effect::Put(change) => tell_change(out, change),
-        Effect::Ask(line) => tell_row(out, b"ask ", line.as_bytes()),
-        Effect::Upstream(line) => tell_row(out, b"up ", without_ending(line.as_bytes())),
-        Effect::Close => tell_row(out, b"close", b""),
+        Effect::Send(text) => tell_row(out, b"", without_ending(text.as_bytes()))?,
+        Effect::Put(change) => tell_change(alloc, out, change)?,
+        Effect::Ask(line) => tell_row(out, b"ask ", line.as_bytes())?,
+        Effect::Upstream(line) => tell_row(out, b"up ", without_ending(line.as_bytes()))?,
+        Effect::Close => tell_row(out, b"close", b"")?,
     }
-}
-
-// A step that has no answer for want of memory fails the case.
-fn tell_fault(fault: StepFault, out: &mut Vec<u8>) -> Result<(), Error> {
-    match fault {
-        StepFault::NoEntry => Ok(tell_row(out, b"no entry", b"")?),
-        StepFault::NoMemory => Err(Error::from(AllocError)),
-    }
-}
-
-// Tells what a question is answered: of which kind the answer was.
-fn tell_answer(
-    alloc: Global,
-    state: &State,
-    facts: &Facts,
-    question: &str,
-    out: &mut Vec<u8>,
-) -> Result<Answered, Error> {
-    let line = read_line(question.as_bytes(), TagLimit::Client)?;
-    Ok(answer(alloc, state, facts, &line, out)?)
+    Ok(())
 }
 
 impl Player {
-    fn step(&mut self, alloc: Global, line: &[u8]) -> Result<Vec<Effect>, StepFault> {
+    // What a line of the client comes to. None stands for one that was too long.
+    fn step(&mut self, alloc: Global, line: Option<&[u8]>) -> Result<Vec<Effect>, StepFault> {
+        let Some(line) = line else {
+            return match self.session.too_long(alloc, &self.directory) {
+                Ok(effects) => Ok(effects),
+                Err(NoMemory) => Err(StepFault::NoMemory),
+            };
+        };
         if self.is_closed {
             self.session.step(alloc, line, &self.directory, &mut Closed)
         } else {
@@ -187,7 +151,7 @@ impl Player {
     }
 
     // A step that is refused leaves the session as it was: it is made again.
-    fn step_again(&mut self, alloc: Global, line: &[u8]) -> Result<Vec<Effect>, StepFault> {
+    fn step_again(&mut self, alloc: Global, line: Option<&[u8]>) -> Result<Vec<Effect>, StepFault> {
         if let Ok(effects) = self.step(alloc, line) {
             return Ok(effects);
         }
@@ -195,34 +159,26 @@ impl Player {
     }
 
     // Tells effects, and gives their room back, so that the next line is answered in it.
-    fn tell_all(&mut self, effects: Vec<Effect>, out: &mut Vec<u8>) -> Result<(), AllocError> {
+    fn tell_all(
+        &mut self,
+        alloc: Global,
+        effects: Vec<Effect>,
+        out: &mut Vec<u8>,
+    ) -> Result<(), Error> {
         for effect in &effects {
-            tell_effect(out, effect)?;
+            tell_effect(alloc, out, effect)?;
         }
         self.session.recycle(effects);
         Ok(())
     }
 
-    // Tells what a line of the client comes to.
-    fn play(&mut self, alloc: Global, line: &[u8], out: &mut Vec<u8>) -> Result<(), Error> {
-        let effects = match self.step_again(alloc, line) {
-            Ok(effects) => effects,
-            Err(fault) => return tell_fault(fault, out),
-        };
-        Ok(self.tell_all(effects, out)?)
-    }
-
-    // The same of a line that was too long.
-    fn too_long_again(&mut self, alloc: Global) -> Result<Vec<Effect>, NoMemory> {
-        if let Ok(effects) = self.session.too_long(alloc, &self.directory) {
-            return Ok(effects);
+    // Tells what a line of the client comes to. A step that has no answer for want of memory fails the case.
+    fn play(&mut self, alloc: Global, line: Option<&[u8]>, out: &mut Vec<u8>) -> Result<(), Error> {
+        match self.step_again(alloc, line) {
+            Ok(effects) => self.tell_all(alloc, effects, out),
+            Err(StepFault::NoEntry) => Ok(tell_row(out, b"no entry", b"")?),
+            Err(StepFault::NoMemory) => Err(Error::from(AllocError)),
         }
-        self.session.too_long(alloc, &self.directory)
-    }
-
-    fn play_too_long(&mut self, alloc: Global, out: &mut Vec<u8>) -> Result<(), Error> {
-        let effects = self.too_long_again(alloc)?;
-        Ok(self.tell_all(effects, out)?)
     }
 
     // Tells the number of the session's next batch.
@@ -233,43 +189,41 @@ impl Player {
         Ok(write!(out, "reference {}\n", facts.reference)?)
     }
 
-    // Tells what a question is answered, and of which kind the answer was.
+    // Tells what a question is answered.
     fn ask(&mut self, alloc: Global, question: &str, out: &mut Vec<u8>) -> Result<(), Error> {
         let Some(facts) = self.session.facts() else {
             return Ok(tell_row(out, b"no facts", b"")?);
         };
-        let answered = tell_answer(alloc, &self.state, facts, question, out)?;
+        let line = read_line(question.as_bytes(), TagLimit::Client)?;
+        let answered = answer(alloc, &self.state, facts, &line, out)?;
         self.session.answered(answered);
-        Ok(write!(out, "{}\n", name_of(answered))?)
+        Ok(())
     }
 
     // Does what a line that begins with `%` says, without that sign.
     fn turn(&mut self, alloc: Global, word: &str, out: &mut Vec<u8>) -> Result<(), Error> {
         match word {
-            "too-long" => self.play_too_long(alloc, out)?,
-            "reference" => self.tell_reference(out)?,
+            "too-long" => return self.play(alloc, None, out),
+            "reference" => return self.tell_reference(out),
             "no-entry" => self.is_closed = true,
             "batch" => self.session.answered(Answered::Batch),
             "plain" => self.session.answered(Answered::Plain),
             "no-query" => self.session.answered(Answered::NotAQuery),
             _ => match word.strip_prefix("ask ") {
-                Some(question) => self.ask(alloc, question, out)?,
+                Some(question) => return self.ask(alloc, question, out),
                 None => self.directory = directory_of(alloc, word)?,
             },
         }
         Ok(())
     }
 
-    fn play_line(&mut self, alloc: Global, line: &str, out: &mut Vec<u8>) -> Result<(), Error> {
-        match line.strip_prefix("%") {
-            Some(word) => self.turn(alloc, word, out),
-            None => self.play(alloc, line.as_bytes(), out),
-        }
-    }
-
     fn play_lines(&mut self, alloc: Global, script: &str, out: &mut Vec<u8>) -> Result<(), Error> {
         for line in script.split("\n") {
-            self.play_line(alloc, line, out)?;
+            let played = match line.strip_prefix("%") {
+                Some(word) => self.turn(alloc, word, out),
+                None => self.play(alloc, Some(line.as_bytes()), out),
+            };
+            played?;
         }
         Ok(())
     }

@@ -3,7 +3,6 @@
 //!     == new|up|echo|tags|redact|last|odd: name of the case
 //!     < line of the server
 //!     > line of a client
-//!     + line of a client, which comes with CR LF
 //!     ? tells how the session stands
 //!     = line of the server, of which only the channel is told that the session itself joins by it
 //!     * tells the words by which the server refused the session
@@ -15,55 +14,53 @@
 //! #a and #b, of the node n1 in its incarnation 7. It is new, or the server has welcomed it (`up`), having acknowledged
 //! `echo-message` (`echo`), `message-tags` (`tags`) or `draft/message-redaction` (`redact`); one has used up its serial
 //! numbers (`last`), and one is of a node whose name can't stand in an id (`odd`).
-use crate::facts::{config_of, moment};
-use crate::telling::{tell_next, tell_row, without_ending};
+use crate::telling::{tell_change, tell_row, without_ending};
 use anyhow::Error;
 use byte_text::Text;
-use chat_change::Change;
-use gossip_delta::write_change;
-use node_config::NetworkConfig;
+use chat_change::Moment;
 use std::alloc::{AllocError, Global};
 use std::io::Write;
 use upstream_session::{Channels, Recipients, SessionConfig, UpEffect, Upstream};
 
 const LAST_SERIAL: u64 = 18_446_744_073_709_551_615;
 
-fn first_of(alloc: Global, networks: &[NetworkConfig]) -> Result<NetworkConfig, Error> {
-    match networks.first() {
-        Some(network) => Ok(network.try_clone(alloc)?),
-        None => Err(Error::from(AllocError)),
-    }
+/// The moment 1000.
+fn moment() -> Result<Moment, AllocError> {
+    Moment::from_ms(1000).ok_or(AllocError)
 }
 
-fn network_of(alloc: Global) -> Result<NetworkConfig, Error> {
-    let config = config_of(alloc)?;
-    first_of(alloc, &config.networks)
+fn channels_of(alloc: Global) -> Result<Channels, Error> {
+    let mut channels = Vec::new(alloc);
+    channels.push(Text::new(alloc, b"#a")?)?;
+    channels.push(Text::new(alloc, b"#b")?)?;
+    Ok(Channels::of(channels))
 }
 
-fn session_config(network: NetworkConfig) -> SessionConfig {
-    SessionConfig {
-        account: network.account,
-        network: network.name,
-        nick: network.nick,
-        user: network.user,
-        channels: Channels::of(network.channels),
-    }
-}
-
-// A session that isn't connected yet.
-fn upstream_of(alloc: Global, node: &[u8], first_serial: u64) -> Result<Upstream, Error> {
-    let config = session_config(network_of(alloc)?);
-    let node = Text::new(alloc, node)?;
-    Ok(Upstream::new(alloc, config, node, 7, first_serial))
+fn config_of(alloc: Global) -> Result<SessionConfig, Error> {
+    let account = Text::new(alloc, b"demo")?;
+    let network = Text::new(alloc, b"net")?;
+    let nick = Text::new(alloc, b"al")?;
+    let user = Text::new(alloc, b"alan")?;
+    let channels = channels_of(alloc)?;
+    Ok(SessionConfig {
+        account,
+        network,
+        nick,
+        user,
+        channels,
+    })
 }
 
 /// The session of a setting, before any line came.
 fn begun(alloc: Global, setting: &str) -> Result<Upstream, Error> {
-    match setting {
-        "last" => upstream_of(alloc, b"n1", LAST_SERIAL),
-        "odd" => upstream_of(alloc, b"n 1", 1),
-        _ => upstream_of(alloc, b"n1", 1),
-    }
+    let (node, first_serial) = match setting {
+        "last" => (b"n1".as_slice(), LAST_SERIAL),
+        "odd" => (b"n 1".as_slice(), 1),
+        _ => (b"n1".as_slice(), 1),
+    };
+    let node = Text::new(alloc, node)?;
+    let config = config_of(alloc)?;
+    Ok(Upstream::new(alloc, config, node, 7, first_serial))
 }
 
 // Brings a session to where a setting has it.
@@ -75,9 +72,8 @@ fn step_to(alloc: Global, session: &mut Upstream, setting: &str) -> Result<(), E
         "redact" => "CAP al ACK :draft/message-redaction\n:irc.example 001 al :Welcome",
         _ => ":irc.example 001 al :Welcome",
     };
-    let now = moment()?;
     for line in lines.lines() {
-        let _ = session.step(alloc, line.as_bytes(), now)?;
+        let _ = step(alloc, session, "<", line)?;
     }
     Ok(())
 }
@@ -91,12 +87,6 @@ fn tell_relayed(out: &mut Vec<u8>, line: &[u8], to: Recipients) -> Result<(), Al
             tell_row(out, b" ", line)
         }
     }
-}
-
-fn tell_change(alloc: Global, out: &mut Vec<u8>, change: &Change) -> Result<(), Error> {
-    let mut line = Vec::new(alloc);
-    write_change(change, &mut line)?;
-    Ok(tell_row(out, b"put ", without_ending(&line))?)
 }
 
 // Tells an effect in a row.
@@ -127,26 +117,19 @@ fn tell_all(
 // Tells whether the network is up, whether its server takes REDACT, the nick, the channels and the serial number.
 fn tell_session(out: &mut Vec<u8>, session: &Upstream) -> Result<(), Error> {
     let entry = session.entry();
-    out.extend_from_slice(if entry.is_up() {
-        b"up".as_slice()
-    } else {
-        b"down"
-    })?;
-    if entry.takes_redact() {
-        tell_next(out, b"redact")?;
-    }
-    tell_next(out, entry.nick())?;
+    let standing: &[u8] = match (entry.is_up(), entry.takes_redact()) {
+        (true, true) => b"up redact ",
+        (true, false) => b"up ",
+        (false, true) => b"down redact ",
+        (false, false) => b"down ",
+    };
+    out.extend_from_slice(standing)?;
+    out.extend_from_slice(entry.nick())?;
     for channel in entry.channels() {
-        tell_next(out, channel.as_bytes())?;
+        out.push(b' ')?;
+        out.extend_from_slice(channel.as_bytes())?;
     }
-    write!(out, " {}\n", session.serial())?;
-    Ok(())
-}
-
-// Tells the channel that the session itself joins by a line of the server.
-fn tell_joined(out: &mut Vec<u8>, session: &Upstream, line: &str) -> Result<(), Error> {
-    let channel = session.joined(line.as_bytes()).unwrap_or(b"nothing");
-    Ok(tell_row(out, b"joins ", channel)?)
+    Ok(write!(out, " {}\n", session.serial())?)
 }
 
 fn step(
@@ -178,12 +161,6 @@ fn step_again(
     step(alloc, session, mark, line)
 }
 
-// The session says a line that has its ending.
-fn say_whole(alloc: Global, session: &mut Upstream, line: &str) -> Result<Vec<UpEffect>, Error> {
-    let whole = format!(in alloc; "{line}\r\n")?;
-    step_again(alloc, session, ">", whole.as_str())
-}
-
 fn play_line(
     alloc: Global,
     session: &mut Upstream,
@@ -191,14 +168,17 @@ fn play_line(
     out: &mut Vec<u8>,
 ) -> Result<(), Error> {
     let (mark, line) = text.split_once(" ").unwrap_or((text, ""));
-    let effects = match mark {
+    match mark {
         "?" => return tell_session(out, session),
-        "=" => return tell_joined(out, session, line),
+        "=" => {
+            let channel = session.joined(line.as_bytes()).unwrap_or(b"nothing");
+            return Ok(tell_row(out, b"joins ", channel)?);
+        }
         "*" => return Ok(tell_row(out, b"refused ", session.refusal())?),
-        "+" => say_whole(alloc, session, line)?,
-        "<" | ">" | "!" => step_again(alloc, session, mark, line)?,
+        "<" | ">" | "!" => {}
         _ => return Ok(tell_row(out, b"no line of a script", b"")?),
-    };
+    }
+    let effects = step_again(alloc, session, mark, line)?;
     tell_all(alloc, out, session, effects)
 }
 
