@@ -57,7 +57,6 @@ def file_is_right(program, file, told, rows=ROWS):
 
 file_is_right("test_sessions", "client_refused", "2 cases of 49 rows, 0 wrong")
 file_is_right("test_sessions", "upstream_refused", "2 cases of 41 rows, 0 wrong")
-file_is_right("test_state", "lines_refused", "1 cases of 6 rows, 0 rows wrong")
 # (these have rows that say what stands after a refusal)
 file_is_right("test_state", "states_refused", "4 cases of 172 rows, 0 rows wrong")
 file_is_right("test_state", "delta_refused", "1 cases of 266 rows, 0 rows wrong", rows=SAMPLED)

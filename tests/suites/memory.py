@@ -52,6 +52,7 @@ SCRIPTS = (
     ("floors", "posts below the floor of an account come from a node that hasn't it, and the floor comes back"),
     ("lines", "each kind of question and of refusal in one session"),
     ("sessions", "capabilities are given up and asked for"),
+    ("tags", "every escape comes through a packet"),
     ("orders", "nodes begin again with nothing and are filled by others"),
 )
 

@@ -2,19 +2,17 @@
 //!
 //!     == name of the case
 //!     row = what comes of it
-//!     kind input => what comes of it
 //!
-//! Rows with ` => ` are of lines and changes (`lines`), the others of states of chat histories. A case has a state and another
-//! one beside it, both empty at first. A row that begins with `C` spells a change, and others speak of changes by their numbers
-//! in the case, from 0: `act` says what rows do, `tell` what they ask, and [`Sight`] what is looked at. What comes of a row
-//! without ` = ` is nothing. `tables.py` and `line_tables.py` write files, with the answers of a plain model or reader.
+//! A case has a state of chat histories and another one beside it, both empty at first. A row that begins with `C` spells a
+//! change, and others speak of changes by their numbers in the case, from 0: `act` says what rows do, `tell` what they ask, and
+//! [`Sight`] what is looked at. What comes of a row without ` = ` is nothing. `tables.py` writes files, with the answers of a
+//! plain model.
 //!
-//! A row that is refused memory is played again; of a state, what stands is looked at first, and it is wrong where a row
-//! `stands` says otherwise. `tests/suites/calls.py` refuses each request of the files `.._refused`.
+//! A row that is refused memory is played again. What stands is looked at first, and it is wrong where a row `stands` says
+//! otherwise. `tests/suites/calls.py` refuses each request of the files `.._refused`.
 #![tactic(auto)]
 
 mod acts;
-mod lines;
 mod looks;
 mod numbers;
 mod questions;
@@ -27,7 +25,7 @@ use questions::{Sight, is_standing, tell};
 use std::alloc::Global;
 use std::{env, fs};
 
-/// What comes of a row of states.
+/// What comes of a row.
 fn told(
     alloc: Global,
     player: &mut Player,
@@ -54,35 +52,13 @@ fn comes_again(
     Ok(is_standing && found.as_slice() == wanted.as_bytes())
 }
 
-/// Whether that comes of a row of lines that is to come of it. Where it is refused memory it is played again.
-fn line_comes(alloc: Global, input: &str, wanted: &str) -> Result<bool, Error> {
-    match &lines::comes(alloc, input, wanted) {
-        Ok(is_right) => Ok(*is_right),
-        Err(_) => lines::comes(alloc, input, wanted),
-    }
-}
-
-/// The same, of a row of states.
-fn state_comes(
-    alloc: Global,
-    player: &mut Player,
-    sight: Sight<'_>,
-    words: &str,
-    wanted: &str,
-) -> Result<bool, Error> {
+/// Plays a row, and says whether that came of it that is to come of it.
+fn comes(alloc: Global, player: &mut Player, sight: Sight<'_>, row: &str) -> Result<bool, Error> {
+    let (words, wanted) = row.split_once(" = ").unwrap_or((row, ""));
     match &told(alloc, player, sight, words) {
         Ok(found) => Ok(found.as_slice() == wanted.as_bytes()),
         Err(_) => comes_again(alloc, player, sight, words, wanted),
     }
-}
-
-/// Plays a row, and says whether that came of it that is to come of it.
-fn comes(alloc: Global, player: &mut Player, sight: Sight<'_>, row: &str) -> Result<bool, Error> {
-    if let Some((input, wanted)) = row.split_once(" => ") {
-        return line_comes(alloc, input, wanted);
-    }
-    let (words, wanted) = row.split_once(" = ").unwrap_or((row, ""));
-    state_comes(alloc, player, sight, words, wanted)
 }
 
 /// The same, and shows the row where something else came of it.
@@ -105,8 +81,8 @@ fn play_rows(rt: &HostRuntime, player: &mut Player, rows: &str) -> Result<u64, E
     let mut wrong: u64 = 0;
     for row in rows.lines() {
         match sight.turned(row) {
-            Some(turned) if !row.contains(" => ") => sight = turned,
-            _ => {
+            Some(turned) => sight = turned,
+            None => {
                 let is_right = is_right(rt, player, sight, row)?;
                 wrong = wrong.saturating_add(u64::from(!is_right));
             }
