@@ -1,9 +1,9 @@
 #!/usr/bin/env python3
 """Makes all tables of docs/PERFORMANCE.md anew, one script after another, but for the soak's, which takes an hour.
 
-    bench/all.py PROGRAM TEST_SPEED
+    bench/all.py PROGRAM TEST_STATE
 
-PROGRAM is crates/bnc/out/bnc, and TEST_SPEED is crates/test_speed/out/test_speed. The machine should have nothing else to do.
+PROGRAM is crates/bnc/out/bnc, and TEST_STATE is crates/test_state/out/test_state. The machine should have nothing else to do.
 The scripts that play clients are run at real-time priority where root runs this. A script that fails is told, and the others go
 on; the status is 1 then.
 """
@@ -14,10 +14,10 @@ import sys
 HERE = os.path.dirname(os.path.realpath(__file__))
 
 
-def calls(program, test_speed):
+def calls(program, test_state):
     """The scripts with their words, and whether time that they wait for a processor would count."""
     return (
-        (("beside_plain.py", test_speed, "5"), False),
+        (("beside_plain.py", test_state, "5"), False),
         (("beside_replay.py", program, "7"), False),
         (("beside_znc.py", "turns", program, "9"), True),
         (("beside_znc.py", "both", program, "3"), True),

@@ -3,7 +3,7 @@
 
     bench/beside_plain.py PROGRAM ROUNDS
 
-PROGRAM is crates/test_speed/out/test_speed, as `rt run` in that crate builds it. Plain Rust is built by rustc from bench/plain.
+PROGRAM is crates/test_state/out/test_state, as `rt run` in that crate builds it. Plain Rust is built by rustc from bench/plain.
 Each figure is the median of so many rounds; in each round the two programs run one right after the other, on one processor.
 """
 
@@ -64,7 +64,7 @@ def ratio(one, other):
 def main():
     if len(sys.argv) != 3:
         sys.exit(__doc__)
-    program, rounds = [sys.argv[1]], int(sys.argv[2])
+    program, rounds = [sys.argv[1], "speed"], int(sys.argv[2])
     head = name_of_run(sys.argv[1])
     os.sched_setaffinity(0, {max(os.sched_getaffinity(0))})
     with tempfile.TemporaryDirectory() as folder:

@@ -1,5 +1,5 @@
-//! What `test_speed lines` measures, in plain Rust, with the same feeder and the same reading of a line.
-//! Build it by `rustc -O --edition 2021 lines.rs`, and call it with the same words.
+//! What `test_state speed lines` measures, in plain Rust, with the same feeder and the same reading of a line.
+//! Build it by `rustc -O --edition 2021 lines.rs`, and call it with the words behind `speed`.
 use std::time::Instant;
 
 const ROOM: usize = 8703;

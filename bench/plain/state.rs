@@ -1,5 +1,5 @@
-//! What `test_speed` measures of states, in plain Rust. Build it by `rustc -O --edition 2021 state.rs`, and call it with the
-//! same words.
+//! What `test_state speed` measures of states, in plain Rust. Build it by `rustc -O --edition 2021 state.rs`, and call it with
+//! the words behind `speed`.
 mod history;
 
 use history::{Account, Buffer, LIMIT, MsgId, PAGE, Parts, Record, State, Texts};

@@ -10,18 +10,22 @@
 //!
 //! A row that is refused memory is played again. What stands is looked at first, and it is wrong where a row `stands` says
 //! otherwise. `tests/suites/calls.py` refuses each request of the files `.._refused`.
+//!
+//! Behind the word `speed` the words say what is measured (`speed`).
 #![tactic(auto)]
 
 mod acts;
 mod looks;
 mod numbers;
 mod questions;
+mod speed;
 mod texts;
 mod walks;
 
 use acts::{Player, act};
 use anyhow::Error;
 use questions::{Sight, is_standing, tell};
+use speed::{print_measure, task_in};
 use std::alloc::Global;
 use std::{env, fs};
 
@@ -127,9 +131,18 @@ fn play_file(rt: &HostRuntime, path: &str) -> Result<(), Error> {
     play_cases(rt, path, text.as_str())
 }
 
-fn main(rt: HostRuntime) -> Result<(), Error> {
-    for path in env::args(&rt)?.skip(1) {
-        play_file(&rt, path.as_str())?;
+/// Plays the files that the words name.
+fn play_files(rt: &HostRuntime) -> Result<(), Error> {
+    for path in env::args(rt)?.skip(1) {
+        play_file(rt, path.as_str())?;
     }
     Ok(())
+}
+
+fn main(rt: HostRuntime) -> Result<(), Error> {
+    let words: Vec<String> = env::args(&rt)?.collect(rt.alloc())?;
+    match task_in(&words) {
+        Some(task) => Ok(print_measure(&rt, task)?),
+        None => play_files(&rt),
+    }
 }

@@ -1,15 +1,12 @@
-//! Measures one call at one size, by hand: `test_speed WHAT HELD COUNT` does WHAT so often as COUNT says, over a state that
-//! holds HELD messages, and prints how many nanoseconds each took. Nothing is measured in the gate.
+//! Measures one call at one size, by hand: `test_state speed WHAT HELD COUNT` does WHAT so often as COUNT says, over a state
+//! that holds HELD messages, and prints how many nanoseconds each took. Nothing is measured in the gate.
 //!
 //! `newest` and `mixed` take further messages, in the order of their moments and in no order; `latest` and `before` answer a
 //! client that asks for a page of 100; `delta` makes a delta of 256 for a peer; `floor` takes the floor of an account whose
 //! messages lie in COUNT buffers, once, and lets half of each go; `lines` cuts and reads 1,000 lines that come in pieces of
 //! HELD bytes (`streams`). `bench/plain/state.rs` and `bench/plain/lines.rs` do the same in plain Rust. Read `done` first.
-#![tactic(auto)]
-
 mod streams;
 
-use crate::streams::read_lines;
 use chat_batch::{Facts, answer};
 use chat_change::{Account, Buffer, Change, Moment};
 use chat_state::State;
@@ -17,10 +14,12 @@ use gossip_delta::{delta_since, read_change_in};
 use irc_caps::CapSet;
 use irc_line::{TagLimit, read_line};
 use std::alloc::Global;
+use std::io;
 use std::time::{Duration, Instant};
-use std::{env, io};
+use streams::read_lines;
 
-const USAGE: &str = "usage: test_speed newest|mixed|latest|before|delta|floor|lines HELD COUNT";
+const USAGE: &str =
+    "usage: test_state speed newest|mixed|latest|before|delta|floor|lines HELD COUNT";
 
 /// A body of 40 bytes.
 const BODY: &str = "a body of forty bytes, as many lines are";
@@ -36,7 +35,7 @@ const PAGE: u64 = 100;
 
 /// What is measured, and over how many messages and how often.
 #[derive(Clone, Copy)]
-struct Task<'a> {
+pub struct Task<'a> {
     what: &'a str,
     held: u64,
     count: u64,
@@ -245,11 +244,15 @@ fn measured(rt: &HostRuntime, task: Task<'_>) -> Option<(Duration, u64)> {
     measured_on(rt, &buffers_of(rt.alloc(), count)?, task)
 }
 
-/// What the words behind the program's name say; None where they say nothing that is measured.
-fn task_in(words: &[String]) -> Option<Task<'_>> {
-    let [_, what, held, count] = words else {
+/// What is to be measured, as the words behind the program's name say; None where they don't begin with `speed`, or say no
+/// sizes.
+pub fn task_in(words: &[String]) -> Option<Task<'_>> {
+    let [_, speed, what, held, count] = words else {
         return None;
     };
+    if speed.as_str() != "speed" {
+        return None;
+    }
     Some(Task {
         what: what.as_str(),
         held: held.as_str().parse::<u64>().ok()?,
@@ -258,19 +261,11 @@ fn task_in(words: &[String]) -> Option<Task<'_>> {
 }
 
 /// Measures what is to be measured, and prints it.
-fn print_measure(rt: &HostRuntime, task: Task<'_>) -> io::Result<()> {
+pub fn print_measure(rt: &HostRuntime, task: Task<'_>) -> io::Result<()> {
     let Some((took, total)) = measured(rt, task) else {
         return println!(rt; "{USAGE}");
     };
     let Task { what, held, count } = task;
     let each = took.as_nanos() / u128::from(count.max(1));
     println!(rt; "{what} {held} {count}: {each} ns each, {total} in all")
-}
-
-fn main(rt: HostRuntime) -> io::Result<()> {
-    let words: Vec<String> = env::args(&rt)?.collect(rt.alloc())?;
-    match task_in(&words) {
-        Some(task) => print_measure(&rt, task),
-        None => println!(rt; "{USAGE}"),
-    }
 }
