@@ -288,12 +288,15 @@ def lines_that_are_too_long_are_told(fixture):
 
 @test
 def a_line_that_comes_in_parts_is_one_line(fixture):
-    """Each byte in a packet of its own, and many lines in one."""
+    """Each byte in a packet of its own, and many lines in one. A CR that ends a packet and no line makes it unreadable."""
     node, _ = node_and_server(fixture)
     client = node.client().register()
     for byte in b"PING parts\r\n":
         client.send(bytes([byte]))
     client.hear(":bnc.example PONG bnc.example :parts")
+    for part in (b"PING x", b"\r", b" y\r\n"):
+        client.send(part)
+    client.hear(":bnc.example 421 al * :Unknown command")
     client.say(*(f"PING {number}" for number in range(1000)))
     client.hear(*(f":bnc.example PONG bnc.example :{number}" for number in range(1000)))
 

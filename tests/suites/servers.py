@@ -314,7 +314,7 @@ def garbage_of_a_server_is_dropped(fixture):
     """A line that can't be read is dropped, and what follows is told."""
     node, server, session = begun(fixture)
     client = node.client().register()
-    session.send(b"\x00\xfe\r\n:only.a.source\r\n\r\n:s PRIVMSG\r\n" + b"x" * 20000 + b"\r\n")
+    session.send(b"\x00\xfe\r\n:bob!b@h PRIVMSG #a :o\x00ne\r\n:only.a.source\r\n\r\n:s PRIVMSG\r\n" + b"x" * 20000 + b"\r\n")
     session.say(":bob!b@h PRIVMSG #a :after")
     line = client.line()
     if line == ":s PRIVMSG":

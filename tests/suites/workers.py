@@ -47,6 +47,177 @@ def three_workers_pass_on_each_line_once(fixture):
             client.close()
 
 
+# What the server of a network offers, and what clients of it hold.
+OFFERED = "draft/message-redaction message-tags server-time"
+HOLDING = "draft/message-redaction draft/read-marker message-tags"
+ECHOING = "echo-message"
+AT_FIVE = "timestamp=1970-01-01T00:00:05.000Z"
+AT_SIX = "timestamp=1970-01-01T00:00:06.000Z"
+
+
+def is_told(client, line, answer):
+    """Says that line, and then whether the client was told this and nothing else, or nothing."""
+    client.say(line, "PING done")
+    done = ":bnc.example PONG bnc.example :done"
+    heard = client.line("an answer")
+    if heard == done:
+        return False
+    expect(client.name, answer, heard)
+    client.hear(done)
+    return True
+
+
+class Two:
+    """A node of two workers, each with the server of a network. The network of the worker `serving` is looked at. No server has
+    welcomed anybody yet."""
+
+    def __init__(self, fixture, serving, peers=()):
+        self.fixture, self.serving = fixture, serving
+        self.servers = [Server(fixture), Server(fixture)]
+        self.node = Node(fixture, servers=[it.address for it in self.servers], peers=peers, workers=2).begin()
+        self.network = self.node.networks[serving]
+        self.came = 0
+
+    def client(self, worker, capabilities="", **how):
+        """A registered client at that worker. Clients go to the workers in turn, so one that is silent may come before it."""
+        while True:
+            at, self.came = self.came % 2, self.came + 1
+            client = self.node.client(f"client {self.came} at worker {at}")
+            if at == worker:
+                return client.register(capabilities, **{"network": self.network, **how})
+
+    def welcome(self, nick="al"):
+        """The network's server offers its capabilities, and gives that nick. Answers the session."""
+        session = self.servers[self.serving].greeted()
+        session.say(f":irc.example CAP * LS :{OFFERED}")
+        session.hear(f"CAP REQ :{OFFERED}")
+        session.say(f":irc.example CAP * ACK :{OFFERED}")
+        session.hear("CAP END")
+        session.say(f":irc.example 001 {nick} :Welcome")
+        return session
+
+
+class Across(Two):
+    """Clients of the network at either worker, and clients of the other network, who hear nothing of it. They are told nothing but
+    what is heard here, and each of it once."""
+
+    def __init__(self, fixture, serving):
+        super().__init__(fixture, serving)
+        places, elsewhere = (serving, 1 - serving), self.node.networks[1 - serving]
+        self.holding = [self.client(worker, HOLDING) for worker in places]
+        self.echoing = [self.client(worker, ECHOING) for worker in places]
+        self.strangers = [self.client(worker, HOLDING, network=elsewhere) for worker in places]
+        self.everybody = [*self.holding, *self.echoing]
+        self.session = None
+
+    def hear(self, *lines, by=()):
+        """All clients of the network hear these lines next, or those."""
+        for client in by or self.everybody:
+            client.hear(*lines)
+
+    def nothing_more(self):
+        """Nobody hears anything else. What was told before comes before this line of the server."""
+        self.session.say(":irc.example 372 al :- all")
+        self.hear(":irc.example 372 al :- all")
+        for client in (*self.everybody, *self.strangers):
+            client.ping()
+
+    def says(self, client, line):
+        """What a client says reaches the server."""
+        client.say(line)
+        self.session.hear(line)
+
+    def up(self):
+        """The network is up under another nick, which no line of the server tells."""
+        for client in self.everybody:
+            client.say("JOIN #a")
+            client.hear(f":bnc.example NOTICE al :Not connected to {self.network}")
+        self.session = self.welcome("bo")
+        self.hear(":al NICK bo")
+        self.nothing_more()
+        for client in self.everybody:
+            self.says(client, "JOIN #a")
+
+    def lines(self):
+        """Messages and other lines of the server. Those that echo get what the session's own nick said."""
+        self.session.say("@msgid=z1;time=1970-01-01T00:00:05.000Z :bob!b@h PRIVMSG #A :hi")
+        self.hear("@msgid=z1 :bob!b@h PRIVMSG #A :hi", by=self.holding)
+        self.hear(":bob!b@h PRIVMSG #A :hi", by=self.echoing)
+        self.session.say("@msgid=z2;time=1970-01-01T00:00:06.000Z :bo!a@h PRIVMSG #a :mine")
+        self.hear(":bo!a@h PRIVMSG #a :mine", by=self.echoing)
+        self.session.say(":bo!a@h JOIN #b")
+        self.hear(":bo!a@h JOIN #b")
+        self.hear(":bnc.example MARKREAD #b *", by=self.holding)
+        self.session.say(":bob!b@h TOPIC #b :x", ":bo!a@h NICK cy")
+        self.hear(":bob!b@h TOPIC #b :x", ":bo!a@h NICK cy")
+        self.nothing_more()
+
+    def of_clients(self):
+        """Markers, messages and redactions of clients at either worker."""
+        for client, at in zip(self.holding, (AT_FIVE, AT_SIX)):
+            client.say(f"MARKREAD #a {at}")
+            self.hear(f":bnc.example MARKREAD #a {at}", by=self.holding)
+        for client in self.echoing:
+            self.says(client, f"PRIVMSG #a :from {client.name}")
+            self.hear(f":cy PRIVMSG #a :from {client.name}", by=self.echoing)
+        for client in self.holding:
+            self.says(client, "REDACT #a z1")
+        self.session.say(":bob!b@h REDACT #a z1")
+        self.hear(":bob!b@h REDACT #a z1", by=self.holding)
+        self.nothing_more()
+
+    def come_late(self):
+        """Whoever comes now is told the nick and the channel, at either worker."""
+        for worker in (0, 1):
+            self.client(worker, "draft/read-marker", nick="cy", channels=["#b"]).close()
+
+    def down(self):
+        """The network is down, and the other one never was up."""
+        self.session.close()
+        for client in self.everybody:
+            answer = f":bnc.example NOTICE cy :Not connected to {self.network}"
+            self.fixture.until(f"{client.name} is told {answer}", lambda client=client: is_told(client, "JOIN #a", answer))
+        for client in self.strangers:
+            client.say("JOIN #a")
+            client.hear(f":bnc.example NOTICE al :Not connected to {self.node.networks[1 - self.serving]}")
+            client.ping()
+
+
+def across(fixture, serving):
+    """Clients at the worker that has the network's server, and at the other one, hear the same and are heard."""
+    it = Across(fixture, serving)
+    it.up()
+    it.lines()
+    it.of_clients()
+    it.come_late()
+    it.down()
+
+
+@test
+def clients_of_both_workers_hear_the_same_of_the_first_workers_network(fixture):
+    across(fixture, 0)
+
+
+@test
+def clients_of_both_workers_hear_the_same_of_the_second_workers_network(fixture):
+    across(fixture, 1)
+
+
+@test
+def the_peer_gets_what_the_second_worker_puts(fixture):
+    """The first worker has the peers. They get a message of the other worker's server, and a marker of a client there."""
+    two = Two(fixture, 1, peers=[("n0", NOBODY)])
+    peer = Peer.dial(two.node).greet()
+    session = two.welcome()
+    session.say("@msgid=m1;time=1970-01-01T00:00:07.000Z :bob!b@h PRIVMSG #a :hi")
+    peer.hear_packet(0, 1, "C POST demo two #a m1 7000 P #a bob!b@h :hi")
+    peer.acknowledge(1)
+    client = two.client(1, "draft/read-marker")
+    client.say(f"MARKREAD #a {AT_FIVE}")
+    client.hear(f":bnc.example MARKREAD #a {AT_FIVE}")
+    peer.hear_packet(1, 2, "C MARK demo two #a 5000")
+
+
 @test
 def a_line_that_is_under_way_to_a_server_that_is_gone_reaches_nobody_else(fixture):
     """A client of the other worker speaks while the session ends. Those who come then have the numbers of what is gone: they hear
