@@ -12,8 +12,6 @@ pub enum Act<'a> {
     Back(u64),
     /// The clocks can't be read any more.
     Stop,
-    /// Another worker tells this.
-    Mail(&'a str),
     /// The client of that ticket is to leave.
     Leave(u64),
     /// So much mail waits for the other worker from now on.
@@ -42,18 +40,6 @@ pub fn number_in(text: &str) -> Option<usize> {
     text.parse::<usize>().ok()
 }
 
-fn time_in(text: &str) -> Option<u64> {
-    text.parse::<u64>().ok()
-}
-
-/// The connections to which an act happens one after another, the first and the last, and what happens to each. None where it
-/// happens to one.
-pub fn range_in(text: &str) -> Option<(usize, usize, &str)> {
-    let (word, rest) = cut(text);
-    let (first, last) = word.split_once("-")?;
-    Some((number_in(first)?, number_in(last)?, rest))
-}
-
 // What comes by a connection, or happens to it.
 fn act_at(number: usize, text: &str) -> Option<Act<'_>> {
     let (word, rest) = cut(text);
@@ -65,24 +51,15 @@ fn act_at(number: usize, text: &str) -> Option<Act<'_>> {
     }
 }
 
-// An act that has a time behind its word.
-fn timed_act(word: &str, rest: &str) -> Option<Act<'static>> {
-    let time = time_in(rest)?;
+// An act that has a number behind its word.
+fn numbered_act(word: &str, number: usize) -> Option<Act<'static>> {
     match word {
-        "wait" => Some(Act::Wait(time)),
-        "ahead" => Some(Act::Ahead(time)),
-        "back" => Some(Act::Back(time)),
-        "leave" => Some(Act::Leave(time)),
-        _ => None,
-    }
-}
-
-// An act that has a count behind its word.
-fn counted_act(word: &str, rest: &str) -> Option<Act<'static>> {
-    let count = number_in(rest)?;
-    match word {
-        "behind" => Some(Act::Behind(count)),
-        "together" => Some(Act::Together(count)),
+        "wait" => Some(Act::Wait(number as u64)),
+        "ahead" => Some(Act::Ahead(number as u64)),
+        "back" => Some(Act::Back(number as u64)),
+        "leave" => Some(Act::Leave(number as u64)),
+        "behind" => Some(Act::Behind(number)),
+        "together" => Some(Act::Together(number)),
         _ => None,
     }
 }
@@ -91,11 +68,11 @@ fn counted_act(word: &str, rest: &str) -> Option<Act<'static>> {
 pub fn act_in(text: &str) -> Option<Act<'_>> {
     let (word, rest) = cut(text);
     match word {
-        "wait" | "ahead" | "back" | "leave" => timed_act(word, rest),
-        "behind" | "together" => counted_act(word, rest),
-        "mail" => Some(Act::Mail(rest)),
         "stop" => Some(Act::Stop),
         "fail" => Some(Act::Fail),
-        _ => act_at(number_in(word)?, rest),
+        _ => match number_in(word) {
+            Some(number) => act_at(number, rest),
+            None => numbered_act(word, number_in(rest)?),
+        },
     }
 }

@@ -3,7 +3,9 @@ ghost use Rattle.std.specs.Prelude.{◌≤◌, length, IfOk};
 
 use bnc_ports::{Dial, Halt};
 use byte_text::NoMemory;
-use std::alloc::{AllocError, Global};
+use std::alloc::Global;
+use std::io;
+use std::io::Write;
 use work_lines::Pending;
 
 /// What the other end does.
@@ -36,8 +38,6 @@ pub struct Line {
     output: Pending,
     // so many bytes the other end takes before the worker is told that it takes more
     at_once: usize,
-    // so many bytes it takes of a write
-    mouthful: usize,
     // so many of these it still takes
     room: usize,
     // so many it takes in all from now on
@@ -54,7 +54,6 @@ impl Line {
             input: Pending::new(alloc),
             output: Pending::new(alloc),
             at_once: usize::MAX,
-            mouthful: usize::MAX,
             room: usize::MAX,
             left: usize::MAX,
             other: Other::Sends,
@@ -73,11 +72,6 @@ impl Line {
         self.at_once = at_once;
         self.left = most;
         self.room = 0;
-    }
-
-    /// The other end takes so many bytes of each write.
-    pub fn set_mouthful(&mut self, count: usize) {
-        self.mouthful = count;
     }
 
     /// These bytes come.
@@ -149,7 +143,7 @@ impl Line {
         if self.is_dead() {
             return Err(Halt::Closed);
         }
-        let count = bytes.len().min(self.room).min(self.mouthful);
+        let count = bytes.len().min(self.room);
         if count == 0 {
             return Err(Halt::Blocked);
         }
@@ -171,20 +165,14 @@ impl Line {
     }
 
     /// Tells what was sent over it, and whether the worker closed it, since the last telling.
-    pub fn tell(
-        &mut self,
-        alloc: Global,
-        number: usize,
-        out: &mut Vec<u8>,
-    ) -> Result<(), AllocError> {
+    pub fn tell(&mut self, number: usize, out: &mut Vec<u8>) -> io::Result<()> {
         for text in self.output.as_bytes().split(|byte| *byte == b'\n') {
-            tell_text(alloc, number, text, out)?;
+            tell_text(number, text, out)?;
         }
         self.output.take(usize::MAX);
         if matches!(self.own, Own::JustClosed) {
             self.own = Own::Closed;
-            let text = format!(in alloc; "    {number} closed\n")?;
-            out.extend_from_slice(text.as_bytes())?;
+            write!(out, "    {number} closed\n")?;
         }
         Ok(())
     }
@@ -197,31 +185,24 @@ const TOLD: usize = 40;
 const LONG: usize = 200;
 
 // Tells a line, which ends with a CR here, or bytes that end no line.
-fn tell_text(
-    alloc: Global,
-    number: usize,
-    text: &[u8],
-    out: &mut Vec<u8>,
-) -> Result<(), AllocError> {
+fn tell_text(number: usize, text: &[u8], out: &mut Vec<u8>) -> io::Result<()> {
     let (mark, text) = match text {
         [] => return Ok(()),
         [line @ .., b'\r'] => (">", line),
         _ => (".", text),
     };
-    let start = format!(in alloc; "    {number} {mark} ")?;
-    out.extend_from_slice(start.as_bytes())?;
+    write!(out, "    {number} {mark} ")?;
     if text.len() > LONG {
-        return tell_front(alloc, text, out);
+        return tell_front(text, out);
     }
     out.extend_from_slice(text)?;
-    out.extend_from_slice(b"\n")
+    Ok(out.extend_from_slice(b"\n")?)
 }
 
 // Tells how a long text begins, and how many bytes it has.
-fn tell_front(alloc: Global, text: &[u8], out: &mut Vec<u8>) -> Result<(), AllocError> {
-    let count = format!(in alloc; "… ({} bytes)\n", text.len())?;
+fn tell_front(text: &[u8], out: &mut Vec<u8>) -> io::Result<()> {
     if let Some(front) = text.get(..TOLD) {
         out.extend_from_slice(front)?;
     }
-    out.extend_from_slice(count.as_bytes())
+    write!(out, "… ({} bytes)\n", text.len())
 }

@@ -2,6 +2,7 @@
 use crate::line::Line;
 use bnc_ports::Dial;
 use std::alloc::{AllocError, Global};
+use std::io;
 
 /// The first connection that is begun has this number, and the next one the next.
 const DIALED: usize = 10;
@@ -58,10 +59,9 @@ impl Lines {
     }
 
     /// Tells what was sent, and which connections were closed, since the last telling.
-    pub fn tell(&mut self, told: &mut Vec<u8>) -> Result<(), AllocError> {
-        let alloc = self.alloc;
+    pub fn tell(&mut self, told: &mut Vec<u8>) -> io::Result<()> {
         for (number, line) in self.list.iter_mut().enumerate() {
-            line.tell(alloc, number, told)?;
+            line.tell(number, told)?;
         }
         Ok(())
     }

@@ -3,15 +3,15 @@
 //! The words name files of cases:
 //!
 //!     == name of the case
-//!     with posts 120, clock 5000, networks 3, peers n0 n2, places 2, worker 1, shut, alone
+//!     with posts 120, clock 5000, networks 3, peers n0 n2, places 2, shut, held, alone
 //!     act
 //!         what comes of it
 //!
 //! The second line may be missing, and each of its parts. At first the node n1, in its incarnation 7, holds so many posts of
 //! `#a`, of the network `net` of the account `demo`: m0, m1 and so on, a second apart from the beginning of 1970. It has the
-//! first of the networks demo/net, demo/two and eve/net, the peer n0, four places for clients, one worker and an open gate,
-//! and the wall clock is 1,000 seconds after 1970 began. A peer of the name n9 is told version 1. `worker 1` is the second of
-//! two workers. With `shut` the gate lets nothing through, and with `alone` no connection can be begun.
+//! first of the networks demo/net, demo/two and eve/net, the peer n0, four places for clients and an open gate, and the wall
+//! clock is 1,000 seconds after 1970 began. A peer of the name n9 is told version 1. With `shut` the gate lets nothing through,
+//! with `held` it holds each answer until the other worker has come to it too, and with `alone` no connection can be begun.
 //!
 //! Acts begin a line:
 //!
@@ -24,7 +24,6 @@
 //!     1 + line            a line comes, with what comes next
 //!     1 many 99 line      a line comes 99 times, with what comes next
 //!     1 . bytes           bytes come that end no line
-//!     1 long 9000         a line of so many bytes comes
 //!     1 ends              the other end sends nothing more
 //!     1 gone              the other end is gone
 //!     1 takes 100         the other end takes 100 bytes at once
@@ -32,38 +31,33 @@
 //!     wait 60000          milliseconds pass, by the wall clock and by the monotonic one
 //!     ahead 60000         the wall clock alone is set ahead by so many milliseconds
 //!     back 60000          it is set back by so many
-//!     mail ..             another worker tells something
 //!     leave 1             others wait for the place of the client that came under that ticket
 //!     behind 2000         so much mail waits for the other worker from now on
 //!     together 3          the next three acts happen at once
 //!     fail                the port fails
 //!     stop                the clocks can't be read any more
 //!
-//! Where an act begins with `20-89` it happens to each of these connections, one after another. The address of connection 0
-//! isn't known.
+//! The address of connection 0 isn't known.
 //!
 //! What comes of an act stands behind it, four spaces in. First comes, in its order, which place a client got, what the
 //! operator was told, which connections were begun, and what was told to the other worker; then, connection by connection,
 //! the lines that were sent, behind `>`, bytes that end no line, behind `.`, and whether it was closed. The last line of a
-//! case says how the work ended. A NUL is spelled `␀`, and a CR `␍`. A line of more than 200 bytes is told by the first 40 of
-//! them and their count.
+//! case says how the work ended. A line of more than 200 bytes is told by the first 40 of them and their count.
 //!
-//! Where a case has a line `--`, two workers play at once: the first one what stands before it, and the other what stands
-//! behind it. An open gate holds each of their answers until the other worker has come to the gate too.
+//! One worker plays a case, in a thread of its own. Where a case has a line `--`, two play at once: the first one what stands
+//! before it, and the other what stands behind it. What one tells the other doesn't reach it; the rows say what that was.
 #![tactic(auto)]
 
 mod act;
 mod connection;
 mod entrance;
 mod gate;
-mod guest;
 mod line;
 mod lines;
 mod mail;
 mod play;
 mod port;
 mod script;
-mod server;
 mod setting;
 mod times;
 mod turn;

@@ -5,10 +5,11 @@ use crate::gate::Latch;
 use crate::port::MemoryPort;
 use crate::setting::Setting;
 use crate::worker_config::{posts, worker_config_of};
-use bnc_work::{Mail, WorkEnd, WorkerConfig, work, work_all};
+use bnc_work::{Mail, WorkEnd, WorkerConfig, work_all};
 use client_places::RingClient;
 use shared_node::{Naming, Pass, SharedNode, Unnamed};
-use std::alloc::{AllocError, Global};
+use std::alloc::Global;
+use std::io;
 use std::marker::Brand;
 use std::sync::Wait;
 use std::thread::Threads;
@@ -56,7 +57,7 @@ fn in_step<'a, A: Drop, B: Drop, C>(
     all.map(|((a, b), c)| (a, b, c)).collect(alloc).ok()
 }
 
-// Runs the workers over their ports, each in a thread of its own; or the one of a number, where there is one port.
+// Runs the workers over their ports, each in a thread of its own.
 fn run<J, R>(
     rt: &R,
     name: Unnamed,
@@ -88,36 +89,10 @@ where
     J: Naming + Send + Sync,
     R: Threads + Wait + Clock + AllocGlobal + Copy + Send + Sync + Drop,
 {
-    let gate = Latch::new(*rt, setting.is_open, ports.len() == 2);
+    let gate = Latch::new(*rt, setting.is_open, setting.holds);
     put_posts(rt, rt.alloc(), node, passes.first_mut()?, setting.posts)?;
     let all = in_step(rt.alloc(), passes, worker_configs, ports)?;
-    if all.len() == 1 {
-        return run_one(rt, setting.worker, node, all, &gate);
-    }
     run_all(rt, node, all, &gate)
-}
-
-// The last of a list, which has values of any type here too, for the same reason.
-fn last_of<T: Drop>(mut all: Vec<T>) -> Option<T> {
-    all.pop()
-}
-
-// Runs the last of these workers, as the one of that number.
-fn run_one<J: Naming, R>(
-    rt: &R,
-    worker: usize,
-    node: &SharedNode<J, &R>,
-    all: Vec<Job<'_, J>>,
-    gate: &Latch<R>,
-) -> Option<Vec<WorkEnd>>
-where
-    R: Wait + Clock + AllocGlobal + Copy + Sync + Drop,
-{
-    // (the borrow checker knows no type that stands in a port's `Mail` alone)
-    let _: Option<&Mail> = None;
-    let (pass, worker_config, port) = last_of(all)?;
-    let end = work(rt, worker, node, pass, worker_config, port, gate);
-    vec![in rt.alloc(); end].ok()
 }
 
 // Runs workers, each in a thread of its own.
@@ -146,21 +121,17 @@ fn name_of(end: WorkEnd) -> &'static str {
 
 // Tells what came of the last act and how the work ended, and appends all that the port told, behind a line `--` where another
 // one has told something.
-fn tell_end(port: &mut MemoryPort, end: WorkEnd, told: &mut Vec<u8>) -> Result<(), AllocError> {
+fn tell_end(port: &mut MemoryPort, end: WorkEnd, told: &mut Vec<u8>) -> io::Result<()> {
     port.tell_lines()?;
     port.tell(name_of(end))?;
     if !told.is_empty() {
         told.extend_from_slice(b"--\n")?;
     }
-    told.extend_from_slice(port.told())
+    Ok(told.extend_from_slice(port.told())?)
 }
 
 // What a script came to.
-fn told_by(
-    alloc: Global,
-    ports: &mut [MemoryPort],
-    ends: &[WorkEnd],
-) -> Result<Vec<u8>, AllocError> {
+fn told_by(alloc: Global, ports: &mut [MemoryPort], ends: &[WorkEnd]) -> io::Result<Vec<u8>> {
     let mut told = Vec::new(alloc);
     for (port, end) in ports.iter_mut().zip(ends.iter()) {
         tell_end(port, *end, &mut told)?;
@@ -169,9 +140,12 @@ fn told_by(
 }
 
 fn ports_of(alloc: Global, setting: Setting<'_>, script: &str) -> Option<Vec<MemoryPort>> {
+    let workers = script.split("--\n").count();
     let mut ports = Vec::new(alloc);
     for part in script.split("--\n") {
-        ports.push(MemoryPort::new(alloc, setting, part)?).ok()?;
+        ports
+            .push(MemoryPort::new(alloc, setting, workers, part)?)
+            .ok()?;
     }
     Some(ports)
 }

@@ -1,11 +1,11 @@
 //! A port of memory, which plays the acts of a case and tells what comes of them.
 ghost use Rattle.std.specs.Prelude.{take};
 
-use crate::act::{Act, act_in, range_in};
+use crate::act::{Act, act_in};
 use crate::connection::MemoryConnection;
 use crate::entrance::Entrance;
 use crate::lines::Lines;
-use crate::mail::{mail_in, tell_mail};
+use crate::mail::tell_mail;
 use crate::script::Script;
 use crate::setting::Setting;
 use crate::times::Times;
@@ -15,7 +15,7 @@ use bnc_work::Mail;
 use std::alloc::{AllocError, Global};
 use std::io;
 use std::io::Write;
-use std::net::SocketAddr;
+use std::net::{Ipv4Addr, SocketAddr};
 
 /// A worker that asks more often than this what comes next does so for ever.
 const TURNS: u64 = 1_000_000;
@@ -52,13 +52,6 @@ fn dialed(what: Dial) -> (&'static str, usize) {
     }
 }
 
-// Tells what was told to another worker.
-fn tell_post(alloc: Global, told: &mut Vec<u8>, worker: usize, mail: &Mail) -> io::Result<()> {
-    write!(told, "    to worker {worker}: ")?;
-    tell_mail(alloc, told, mail)?;
-    Ok(told.extend_from_slice(b"\n")?)
-}
-
 // What comes next by a sign of a connection.
 fn happening(number: usize, sign: Sign) -> Happening<Mail> {
     match sign {
@@ -74,8 +67,13 @@ fn happening(number: usize, sign: Sign) -> Happening<Mail> {
 }
 
 impl MemoryPort {
-    /// A port on which a script is played. None is want of memory.
-    pub fn new(alloc: Global, setting: Setting<'_>, script: &str) -> Option<MemoryPort> {
+    /// A port of one of so many workers, on which a script is played. None is want of memory.
+    pub fn new(
+        alloc: Global,
+        setting: Setting<'_>,
+        workers: usize,
+        script: &str,
+    ) -> Option<MemoryPort> {
         let script = Script::new(alloc, script).ok()?;
         let lines = Lines::new(alloc, setting.can_dial).ok()?;
         Some(MemoryPort {
@@ -85,7 +83,7 @@ impl MemoryPort {
             lines,
             entrance: Entrance::new(alloc, setting.places)?,
             turns: 0,
-            workers: setting.workers,
+            workers,
             backlog: 0,
             told: Vec::new(alloc),
         })
@@ -103,7 +101,7 @@ impl MemoryPort {
     }
 
     /// Tells what was sent, and which connections were closed, since the last telling.
-    pub fn tell_lines(&mut self) -> Result<(), AllocError> {
+    pub fn tell_lines(&mut self) -> io::Result<()> {
         self.lines.tell(&mut self.told)
     }
 
@@ -125,14 +123,6 @@ impl MemoryPort {
         if self.times.pass(patience) {
             return Some(Happening::Nothing);
         }
-        self.next_part()
-    }
-
-    // The next part of an act that happens to several connections, or the next act.
-    fn next_part(&mut self) -> Option<Happening<Mail>> {
-        if let Some(part) = self.script.next_part() {
-            return self.play(part.as_str());
-        }
         self.tell_lines().ok()?;
         self.next_act()
     }
@@ -140,23 +130,14 @@ impl MemoryPort {
     // The next act.
     fn next_act(&mut self) -> Option<Happening<Mail>> {
         match self.script.next_act() {
-            Some(text) => self.play_act(text.as_str()),
+            Some(text) => self.play(text.as_str()),
             None => Some(Happening::Ended),
         }
     }
 
     // Plays an act, which is told.
-    fn play_act(&mut self, text: &str) -> Option<Happening<Mail>> {
-        tell_line(&mut self.told, "", text).ok()?;
-        let Some((first, last, turn)) = range_in(text) else {
-            return self.play(text);
-        };
-        self.script.spread(first, last, turn).ok()?;
-        Some(Happening::Nothing)
-    }
-
-    // Plays what happens once.
     fn play(&mut self, text: &str) -> Option<Happening<Mail>> {
+        tell_line(&mut self.told, "", text).ok()?;
         match act_in(text)? {
             Act::Wait(time) => self.times.wait(time),
             Act::Ahead(time) => self.times.set_ahead(time),
@@ -164,7 +145,6 @@ impl MemoryPort {
             Act::Stop => self.times.stop(),
             Act::Behind(count) => self.backlog = count,
             Act::Together(count) => self.script.set_together(count),
-            Act::Mail(text) => return Some(Happening::Mail(mail_in(self.alloc, text)?)),
             Act::Leave(ticket) => return Some(Happening::Leave { ticket }),
             Act::Client(line, bound) => return self.bring_client(line, bound),
             Act::Stray(line) => return self.bring_stray(line),
@@ -177,7 +157,7 @@ impl MemoryPort {
 
     // What happens to a connection.
     fn play_turn(&mut self, number: usize, turn: Turn<'_>) -> Option<Happening<Mail>> {
-        let sign = play_turn(self.alloc, self.lines.at(number)?, turn)?;
+        let sign = play_turn(self.lines.at(number)?, turn)?;
         Some(happening(number, sign))
     }
 
@@ -245,7 +225,7 @@ impl Port for &mut MemoryPort {
     }
 
     fn send_mail(&mut self, worker: usize, mail: Mail) -> Result<(), PortFault> {
-        let told = tell_post(self.alloc, &mut self.told, worker, &mail);
+        let told = tell_mail(&mut self.told, worker, &mail);
         drop(mail);
         match told {
             Ok(()) => Ok(()),
@@ -312,7 +292,7 @@ impl<K: Kind> Carries<K> for &mut MemoryPort {
 
     fn address(&self, connection: &MemoryConnection) -> Option<SocketAddr> {
         let port = connection.number().checked_sub(1)?.checked_add(5001)?;
-        let text = format!(in self.alloc; "127.0.0.1:{port}").ok()?;
-        text.as_str().parse::<SocketAddr>().ok()
+        let port = u16::try_from(port).ok()?;
+        Some(SocketAddr::from((Ipv4Addr::LOCALHOST, port)))
     }
 }

@@ -5,10 +5,7 @@ use std::collections::VecDeque;
 /// The acts that are still to come.
 #[derive(Drop)]
 pub struct Script {
-    alloc: Global,
     acts: VecDeque<String>,
-    // the rest of an act that happens to several connections
-    parts: VecDeque<String>,
     // so many of the next acts happen at once
     together: usize,
 }
@@ -28,9 +25,7 @@ impl Script {
     /// The acts of a case.
     pub fn new(alloc: Global, text: &str) -> Result<Script, AllocError> {
         Ok(Script {
-            alloc,
             acts: acts_of(alloc, text)?,
-            parts: VecDeque::new(alloc),
             together: 0,
         })
     }
@@ -45,20 +40,6 @@ impl Script {
         let is_together = self.together != 0;
         self.together = self.together.saturating_sub(1);
         is_together
-    }
-
-    /// An act happens to each of these connections, one after another.
-    pub fn spread(&mut self, first: usize, last: usize, turn: &str) -> Result<(), AllocError> {
-        for line in first..=last {
-            let part = format!(in self.alloc; "{line} {turn}")?;
-            self.parts.push_back(part)?;
-        }
-        Ok(())
-    }
-
-    /// The next part of an act that happens to several connections.
-    pub fn next_part(&mut self) -> Option<String> {
-        self.parts.pop_front()
     }
 
     /// The next act.

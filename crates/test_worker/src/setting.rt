@@ -16,12 +16,10 @@ pub struct Setting<'a> {
     pub places: usize,
     /// Whether the gate lets answers through.
     pub is_open: bool,
+    /// Whether it holds each of them until the other worker has come to it too.
+    pub holds: bool,
     /// Whether connections can be begun.
     pub can_dial: bool,
-    /// Which worker it is.
-    pub worker: usize,
-    /// Of how many.
-    pub workers: usize,
 }
 
 /// What a case begins with that says nothing else.
@@ -32,9 +30,8 @@ pub const USUAL: Setting<'static> = Setting {
     peers: "n0",
     places: 4,
     is_open: true,
+    holds: false,
     can_dial: true,
-    worker: 0,
-    workers: 1,
 };
 
 impl<'a> Setting<'a> {
@@ -48,10 +45,7 @@ impl<'a> Setting<'a> {
             "networks" => self.networks = number,
             "places" => self.places = number,
             "peers" => self.peers = rest,
-            "worker" => {
-                self.worker = number;
-                self.workers = 2;
-            }
+            "held" => self.holds = true,
             "shut" => self.is_open = false,
             _ => self.can_dial = false,
         }

@@ -2,7 +2,6 @@
 use crate::act::{cut, number_in};
 use crate::line::Line;
 use bnc_ports::Dial;
-use std::alloc::{AllocError, Global};
 
 /// What happens to a connection.
 #[derive(Clone, Copy)]
@@ -17,16 +16,12 @@ pub enum Turn<'a> {
     Many(usize, &'a str),
     /// Bytes come that end no line.
     Part(&'a str),
-    /// A line of so many bytes comes.
-    Long(usize),
     /// The other end sends nothing more.
     Ends,
     /// The other end is gone.
     Gone,
     /// The other end takes so many bytes at once, and so many in all.
     Takes(usize, usize),
-    /// The other end takes so many bytes of each write, and is never full.
-    TakesAWrite(usize),
 }
 
 /// What the worker is told of a connection by a turn.
@@ -60,9 +55,6 @@ impl Sign {
 }
 
 fn takes_in(text: &str) -> Option<Turn<'_>> {
-    if let Some(count) = text.strip_suffix(" a write") {
-        return Some(Turn::TakesAWrite(number_in(count)?));
-    }
     match text.split_once(" of ") {
         Some((at_once, most)) => Some(Turn::Takes(number_in(at_once)?, number_in(most)?)),
         None => Some(Turn::Takes(number_in(text)?, usize::MAX)),
@@ -83,7 +75,6 @@ pub fn turn_in<'a>(word: &str, rest: &'a str) -> Option<Turn<'a>> {
         "+" => Some(Turn::Many(1, rest)),
         "many" => many_in(rest),
         "." => Some(Turn::Part(rest)),
-        "long" => Some(Turn::Long(number_in(rest)?)),
         "ends" => Some(Turn::Ends),
         "gone" => Some(Turn::Gone),
         "takes" => takes_in(rest),
@@ -91,54 +82,30 @@ pub fn turn_in<'a>(word: &str, rest: &'a str) -> Option<Turn<'a>> {
     }
 }
 
-// The bytes that a text spells.
-fn bytes_of(alloc: Global, text: &str) -> Result<Vec<u8>, AllocError> {
-    let with_nul = text.replace(alloc, "␀", "\0")?;
-    let with_cr = with_nul.replace(alloc, "␍", "\r")?;
-    Vec::from_slice(alloc, with_cr.as_bytes())
-}
-
-// The bytes that a text spells come over a connection.
-fn bring(alloc: Global, line: &mut Line, text: &str) -> Option<()> {
-    let bytes = bytes_of(alloc, text).ok()?;
-    line.come(bytes.as_slice()).ok()
-}
-
 // A line comes over a connection, so many times.
-fn bring_lines(alloc: Global, line: &mut Line, count: usize, text: &str) -> Option<()> {
+fn bring_lines(line: &mut Line, count: usize, text: &str) -> Option<()> {
     for _ in 0..count {
-        bring(alloc, line, text)?;
+        line.come(text.as_bytes()).ok()?;
         line.come(b"\r\n").ok()?;
     }
     Some(())
 }
 
-// A line of so many bytes comes over a connection.
-fn bring_long(alloc: Global, line: &mut Line, count: usize) -> Option<()> {
-    let bytes = vec![in alloc; b'x'; count].ok()?;
-    line.come(bytes.as_slice()).ok()?;
-    line.come(b"\r\n").ok()
-}
-
 /// Plays a turn on a connection. None where it opens or is refused and the worker didn't begin it, and for want of memory.
-pub fn play_turn(alloc: Global, line: &mut Line, turn: Turn<'_>) -> Option<Sign> {
+pub fn play_turn(line: &mut Line, turn: Turn<'_>) -> Option<Sign> {
     Some(match turn {
         Turn::Opens => Sign::Opened(line.dialed()?),
         Turn::Refused => Sign::Refused(line.dialed()?),
         Turn::Line(text) => {
-            bring_lines(alloc, line, 1, text)?;
+            bring_lines(line, 1, text)?;
             Sign::READABLE
         }
         Turn::Many(count, text) => {
-            bring_lines(alloc, line, count, text)?;
+            bring_lines(line, count, text)?;
             Sign::Nothing
         }
         Turn::Part(text) => {
-            bring(alloc, line, text)?;
-            Sign::READABLE
-        }
-        Turn::Long(count) => {
-            bring_long(alloc, line, count)?;
+            line.come(text.as_bytes()).ok()?;
             Sign::READABLE
         }
         Turn::Ends => {
@@ -151,10 +118,6 @@ pub fn play_turn(alloc: Global, line: &mut Line, turn: Turn<'_>) -> Option<Sign>
         }
         Turn::Takes(at_once, most) => {
             line.set_pace(at_once, most);
-            Sign::Nothing
-        }
-        Turn::TakesAWrite(count) => {
-            line.set_mouthful(count);
             Sign::Nothing
         }
     })

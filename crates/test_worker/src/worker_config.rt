@@ -41,8 +41,8 @@ fn add_account(
     directory.add(account).ok()
 }
 
-/// The account `demo` with the networks `net` and `two`, and `eve` with `net`.
-pub fn directory_of(alloc: Global) -> Option<Directory> {
+// The account `demo` with the networks `net` and `two`, and `eve` with `net`.
+fn directory_of(alloc: Global) -> Option<Directory> {
     let mut directory = Directory::new(alloc);
     add_account(alloc, &mut directory, "demo", &["net", "two"])?;
     add_account(alloc, &mut directory, "eve", &["net"])?;
@@ -50,20 +50,14 @@ pub fn directory_of(alloc: Global) -> Option<Directory> {
 }
 
 // The nick and the user of a session.
-fn user_of(alloc: Global, nick: &str) -> Option<(Text, Text)> {
-    let nick = text(alloc, nick)?;
+fn user_of(alloc: Global) -> Option<(Text, Text)> {
+    let nick = text(alloc, "al")?;
     Some((nick, text(alloc, "alan")?))
 }
 
-/// The names of the account and of the network, of that network or of the first where there is none.
-pub fn names_at(network: usize) -> (&'static str, &'static str) {
-    NETWORKS.get(network).copied().unwrap_or(NETWORKS[0])
-}
-
-/// The configuration of that network, or of the first where there is none, with that nick.
-pub fn config_at(alloc: Global, network: usize, nick: &str) -> Option<SessionConfig> {
-    let (account, network) = names_at(network);
-    let (nick, user) = user_of(alloc, nick)?;
+// The configuration of the session with that network of that account.
+fn config_of(alloc: Global, account: &str, network: &str) -> Option<SessionConfig> {
+    let (nick, user) = user_of(alloc)?;
     Some(SessionConfig {
         account: text(alloc, account)?,
         network: text(alloc, network)?,
@@ -75,8 +69,8 @@ pub fn config_at(alloc: Global, network: usize, nick: &str) -> Option<SessionCon
 
 fn configs_of(alloc: Global, count: usize) -> Option<Vec<SessionConfig>> {
     let mut configs = Vec::new(alloc);
-    for network in 0..count.min(NETWORKS.len()) {
-        configs.push(config_at(alloc, network, "al")?).ok()?;
+    for (account, network) in NETWORKS.iter().take(count) {
+        configs.push(config_of(alloc, account, network)?).ok()?;
     }
     Some(configs)
 }

@@ -1,3 +1,0 @@
--- ---- what a reader has to believe: sessions of clients
-
-pub mod Guest
