@@ -54,6 +54,7 @@ mod entrance;
 mod gate;
 mod line;
 mod lines;
+mod lists;
 mod mail;
 mod play;
 mod port;

@@ -2,6 +2,7 @@
 ghost use Rattle.change_log.specs.Names.{IsNamed};
 
 use crate::gate::Latch;
+use crate::lists::{in_step, with_one};
 use crate::port::MemoryPort;
 use crate::setting::Setting;
 use crate::worker_config::{posts, worker_config_of};
@@ -18,14 +19,15 @@ use std::time::Clock;
 /// A worker that is to begin: its pass, what it begins with, and its port.
 type Job<'a, J> = (Pass<J>, WorkerConfig<RingClient>, &'a mut MemoryPort);
 
-// Puts so many posts.
+// Puts so many posts by the first pass.
 fn put_posts<J: Naming, R: Wait + Drop>(
     rt: &R,
     alloc: Global,
     node: &SharedNode<J, &R>,
-    pass: &mut Pass<J>,
+    passes: &mut [Pass<J>],
     count: u64,
 ) -> Option<()> {
+    let pass = passes.first_mut()?;
     let changes = posts(alloc, count)?;
     node.put(rt, pass, changes.as_slice()).ok()?;
     Some(())
@@ -39,22 +41,10 @@ fn worker_configs_of(
 ) -> Option<Vec<WorkerConfig<RingClient>>> {
     let mut all = Vec::new(alloc);
     for port in ports {
-        let worker_config = worker_config_of(alloc, setting, &mut port.entrance.lobby)?;
-        all.push(worker_config).ok()?;
+        let lobby = &mut port.entrance.lobby;
+        all = with_one(all, worker_config_of(alloc, setting, lobby))?;
     }
     Some(all)
-}
-
-// The first of each, then the second of each, and so on. What the lists have is any type here, so the proof of this function
-// has none of the parts that a pass or a port is let go by.
-fn in_step<'a, A: Drop, B: Drop, C>(
-    alloc: Global,
-    first: Vec<A>,
-    second: Vec<B>,
-    third: &'a mut [C],
-) -> Option<Vec<(A, B, &'a mut C)>> {
-    let all = first.into_iter().zip(second).zip(third);
-    all.map(|((a, b), c)| (a, b, c)).collect(alloc).ok()
 }
 
 // Runs the workers over their ports, each in a thread of its own.
@@ -69,11 +59,10 @@ where
     R: Threads + Wait + Clock + AllocGlobal + Copy + Send + Sync + Drop,
     requires { IsNamed J.book J.name J.parts name }
 {
-    let worker_configs = worker_configs_of(rt.alloc(), setting, ports)?;
     let Ok((node, passes)) = SharedNode::<J, &R>::new(rt.alloc(), rt, name) else {
         return None;
     };
-    run_over(rt, &node, setting, passes, worker_configs, ports)
+    run_over(rt, &node, setting, passes, ports)
 }
 
 // The same, over a node that the first pass puts posts into.
@@ -82,16 +71,16 @@ fn run_over<J, R>(
     node: &SharedNode<J, &R>,
     setting: Setting<'_>,
     mut passes: Vec<Pass<J>>,
-    worker_configs: Vec<WorkerConfig<RingClient>>,
     ports: &mut [MemoryPort],
 ) -> Option<Vec<WorkEnd>>
 where
     J: Naming + Send + Sync,
     R: Threads + Wait + Clock + AllocGlobal + Copy + Send + Sync + Drop,
 {
-    let gate = Latch::new(*rt, setting.is_open, setting.holds);
-    put_posts(rt, rt.alloc(), node, passes.first_mut()?, setting.posts)?;
+    put_posts(rt, rt.alloc(), node, passes.as_mut_slice(), setting.posts)?;
+    let worker_configs = worker_configs_of(rt.alloc(), setting, ports)?;
     let all = in_step(rt.alloc(), passes, worker_configs, ports)?;
+    let gate = Latch::new(*rt, setting.is_open, setting.holds);
     run_all(rt, node, all, &gate)
 }
 
@@ -143,9 +132,7 @@ fn ports_of(alloc: Global, setting: Setting<'_>, script: &str) -> Option<Vec<Mem
     let workers = script.split("--\n").count();
     let mut ports = Vec::new(alloc);
     for part in script.split("--\n") {
-        ports
-            .push(MemoryPort::new(alloc, setting, workers, part)?)
-            .ok()?;
+        ports = with_one(ports, MemoryPort::new(alloc, setting, workers, part))?;
     }
     Some(ports)
 }

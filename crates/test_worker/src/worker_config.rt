@@ -1,4 +1,5 @@
 //! What a worker begins with. None is want of memory.
+use crate::lists::with_one;
 use crate::setting::Setting;
 use bnc_ports::Lobby;
 use bnc_work::WorkerConfig;
@@ -70,7 +71,7 @@ fn config_of(alloc: Global, account: &str, network: &str) -> Option<SessionConfi
 fn configs_of(alloc: Global, count: usize) -> Option<Vec<SessionConfig>> {
     let mut configs = Vec::new(alloc);
     for (account, network) in NETWORKS.iter().take(count) {
-        configs.push(config_of(alloc, account, network)?).ok()?;
+        configs = with_one(configs, config_of(alloc, account, network))?;
     }
     Some(configs)
 }
@@ -82,7 +83,7 @@ fn node_name(alloc: Global, name: &str) -> Option<NodeName> {
 fn names_in(alloc: Global, names: &str) -> Option<Vec<NodeName>> {
     let mut all = Vec::new(alloc);
     for name in names.split_whitespace() {
-        all.push(node_name(alloc, name)?).ok()?;
+        all = with_one(all, node_name(alloc, name))?;
     }
     Some(all)
 }
@@ -101,7 +102,7 @@ fn peer_of(alloc: Global, name: &str) -> Option<PeerTerms> {
 fn peers_in(alloc: Global, names: &str) -> Option<Vec<PeerTerms>> {
     let mut all = Vec::new(alloc);
     for name in names.split_whitespace() {
-        all.push(peer_of(alloc, name)?).ok()?;
+        all = with_one(all, peer_of(alloc, name))?;
     }
     Some(all)
 }
@@ -158,7 +159,7 @@ fn post(alloc: Global, number: u64) -> Option<Change> {
 pub fn posts(alloc: Global, count: u64) -> Option<Vec<Change>> {
     let mut changes = Vec::new(alloc);
     for number in 0..count {
-        changes.push(post(alloc, number)?).ok()?;
+        changes = with_one(changes, post(alloc, number))?;
     }
     Some(changes)
 }
