@@ -18,9 +18,10 @@ pub struct Entrance {
 impl Entrance {
     /// An entrance with so many places. None is want of memory.
     pub fn new(alloc: Global, places: usize) -> Option<Entrance> {
-        let clerk = Places::new(alloc, places).ok()?;
-        let waiting = Waiting::new(alloc, places).ok()?;
-        let (arrivals, coming) = RingBuffer::new(alloc, places).ok()?;
+        let clerk = Places::new(alloc, places).ok();
+        let waiting = Waiting::new(alloc, places).ok();
+        let ring = RingBuffer::new(alloc, places).ok();
+        let ((clerk, waiting), (arrivals, coming)) = clerk.zip(waiting).zip(ring)?;
         Some(Entrance {
             clerk,
             arrivals,

@@ -74,14 +74,16 @@ impl MemoryPort {
         workers: usize,
         script: &str,
     ) -> Option<MemoryPort> {
-        let script = Script::new(alloc, script).ok()?;
-        let lines = Lines::new(alloc, setting.can_dial).ok()?;
+        let script = Script::new(alloc, script).ok();
+        let lines = Lines::new(alloc, setting.can_dial).ok();
+        let entrance = Entrance::new(alloc, setting.places);
+        let ((script, lines), entrance) = script.zip(lines).zip(entrance)?;
         Some(MemoryPort {
             alloc,
             script,
             times: Times::new(setting.clock),
             lines,
-            entrance: Entrance::new(alloc, setting.places)?,
+            entrance,
             turns: 0,
             workers,
             backlog: 0,

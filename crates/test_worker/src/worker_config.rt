@@ -19,13 +19,13 @@ fn text(alloc: Global, text: &str) -> Option<Text> {
 }
 
 fn network_of(alloc: Global, name: &str) -> Option<Network> {
-    let entry = Entry::new(false, text(alloc, "al")?, Vec::new(alloc), false);
-    Some(Network::new(text(alloc, name)?, entry))
+    let (name, nick) = text(alloc, name).zip(text(alloc, "al"))?;
+    Some(Network::new(name, Entry::new(false, nick, Vec::new(alloc), false)))
 }
 
 fn account_of(alloc: Global, name: &str) -> Option<Account> {
-    let name = text(alloc, name)?;
-    Some(Account::new(alloc, name, text(alloc, "s3cret")?))
+    let (name, secret) = text(alloc, name).zip(text(alloc, "s3cret"))?;
+    Some(Account::new(alloc, name, secret))
 }
 
 // Adds an account with these networks.
@@ -50,18 +50,14 @@ fn directory_of(alloc: Global) -> Option<Directory> {
     Some(directory)
 }
 
-// The nick and the user of a session.
-fn user_of(alloc: Global) -> Option<(Text, Text)> {
-    let nick = text(alloc, "al")?;
-    Some((nick, text(alloc, "alan")?))
-}
-
 // The configuration of the session with that network of that account.
 fn config_of(alloc: Global, account: &str, network: &str) -> Option<SessionConfig> {
-    let (nick, user) = user_of(alloc)?;
+    let place = text(alloc, account).zip(text(alloc, network));
+    let names = text(alloc, "al").zip(text(alloc, "alan"));
+    let ((account, network), (nick, user)) = place.zip(names)?;
     Some(SessionConfig {
-        account: text(alloc, account)?,
-        network: text(alloc, network)?,
+        account,
+        network,
         nick,
         user,
         channels: Channels::of(Vec::new(alloc)),
@@ -109,21 +105,10 @@ fn peers_in(alloc: Global, names: &str) -> Option<Vec<PeerTerms>> {
 
 // The terms of the node n1 in its incarnation 7, with the peers of these names.
 fn terms_of(alloc: Global, peers: &str) -> Option<Terms> {
-    let word = SharedWord::new(alloc, b"green").ok()?;
-    let me = Life::new(node_name(alloc, "n1")?, 7);
-    Some(Terms::new(word, me, peers_in(alloc, peers)?))
-}
-
-// The directory, and so many of its networks.
-fn networks_of(alloc: Global, count: usize) -> Option<(Directory, Vec<SessionConfig>)> {
-    let directory = directory_of(alloc)?;
-    Some((directory, configs_of(alloc, count)?))
-}
-
-// The terms with the peers of these names, and the names.
-fn peers_of(alloc: Global, peers: &str) -> Option<(Terms, Vec<NodeName>)> {
-    let terms = terms_of(alloc, peers)?;
-    Some((terms, names_in(alloc, peers)?))
+    let word = SharedWord::new(alloc, b"green").ok();
+    let all = word.zip(node_name(alloc, "n1")).zip(peers_in(alloc, peers));
+    let ((word, name), peers) = all?;
+    Some(Terms::new(word, Life::new(name, 7), peers))
 }
 
 /// What a worker begins with, over the lobby, which is taken.
@@ -132,10 +117,11 @@ pub fn worker_config_of(
     setting: Setting<'_>,
     lobby: &mut Option<Lobby<RingClient>>,
 ) -> Option<WorkerConfig<RingClient>> {
-    let lobby = lobby.take()?;
-    let cluster = text(alloc, "bnc.example")?;
-    let (directory, networks) = networks_of(alloc, setting.networks)?;
-    let (terms, peers) = peers_of(alloc, setting.peers)?;
+    let networks = directory_of(alloc).zip(configs_of(alloc, setting.networks));
+    let peers = terms_of(alloc, setting.peers).zip(names_in(alloc, setting.peers));
+    let lobby = lobby.take().zip(text(alloc, "bnc.example"));
+    let all = lobby.zip(networks.zip(peers));
+    let ((lobby, cluster), ((directory, networks), (terms, peers))) = all?;
     Some(WorkerConfig {
         lobby,
         cluster,
