@@ -17,3 +17,8 @@ pub fn in_step<'a, A: Drop, B: Drop, C>(
     let all = first.into_iter().zip(second).zip(third);
     all.map(|((a, b), c)| (a, b, c)).collect(alloc).ok()
 }
+
+/// The last of a list.
+pub fn last_of<T: Drop>(mut all: Vec<T>) -> Option<T> {
+    all.pop()
+}

@@ -2,11 +2,11 @@
 ghost use Rattle.change_log.specs.Names.{IsNamed};
 
 use crate::gate::Latch;
-use crate::lists::{in_step, with_one};
+use crate::lists::{in_step, last_of, with_one};
 use crate::port::MemoryPort;
 use crate::setting::Setting;
 use crate::worker_config::{posts, worker_config_of};
-use bnc_work::{Mail, WorkEnd, WorkerConfig, work_all};
+use bnc_work::{Mail, WorkEnd, WorkerConfig, work, work_all};
 use client_places::RingClient;
 use shared_node::{Naming, Pass, SharedNode, Unnamed};
 use std::alloc::Global;
@@ -47,7 +47,7 @@ fn worker_configs_of(
     Some(all)
 }
 
-// Runs the workers over their ports, each in a thread of its own.
+// Runs the workers over their ports: two each in a thread of its own.
 fn run<J, R>(
     rt: &R,
     name: Unnamed,
@@ -81,7 +81,27 @@ where
     let worker_configs = worker_configs_of(rt.alloc(), setting, ports)?;
     let all = in_step(rt.alloc(), passes, worker_configs, ports)?;
     let gate = Latch::new(*rt, setting.is_open, setting.holds);
+    if all.len() == 1 {
+        return run_one(rt, node, all, &gate);
+    }
     run_all(rt, node, all, &gate)
+}
+
+// Runs the last of these workers, in this thread.
+fn run_one<J: Naming, R>(
+    rt: &R,
+    node: &SharedNode<J, &R>,
+    all: Vec<Job<'_, J>>,
+    gate: &Latch<R>,
+) -> Option<Vec<WorkEnd>>
+where
+    R: Wait + Clock + AllocGlobal + Copy + Sync + Drop,
+{
+    // (the borrow checker knows no type that stands in a port's `Mail` alone)
+    let _: Option<&Mail> = None;
+    let (pass, worker_config, port) = last_of(all)?;
+    let end = work(rt, 0, node, pass, worker_config, port, gate);
+    vec![in rt.alloc(); end].ok()
 }
 
 // Runs workers, each in a thread of its own.
