@@ -10,14 +10,13 @@ use Rattle.std.proofs.lemmas.Cmp.{nat_list_eq_equiv}
 use Rattle.std.proofs.lemmas.List.{take_more, take-append-drop}
 use Rattle.std.proofs.lemmas.List.Splits.{slice_split_at}
 use Rattle.std.proofs.lemmas.List.Sums.{passes_at_first}
-use Rattle.indexmap.specs.IndexMap.{insert_entry}
 use Rattle.byte_text.specs.Writes.{AppendsPrefix}
 use Rattle.byte_text.proofs.CallerLemmas.{prefix_same, prefix_of_first, prefix_of_second}
 use Rattle.irc_tags.specs.TagList.{Tag, has_key, same_bytes, tag_list, tag_of, value_at, is_semicolon}
 use Rattle.irc_tags.specs.Standing.{is_client_only}
 use Rattle.irc_tags.specs.Text.{tag_text, separator, tags_text}
 use Rattle.irc_tags.specs.ClientOnly.{client_only_text}
-use Rattle.irc_tags.specs.Entries.{with_tag, with_tags}
+use Rattle.irc_tags.specs.Entries.{with_value, with_tag, with_tags}
 use Rattle.irc_tags.specs.Kept.{is_first_client_only}
 use Rattle.irc_tags.proofs.CuttingLemmas.{first_place, part_whole, parts_from, one_part}
 use Rattle.irc_tags.proofs.MergingLemmas.{with_tags-all}
@@ -58,13 +57,13 @@ module _ (all : List Tag) where
   abbrev valued : List ℕ → Tag
   valued key = (key, unwrap_or (value_at key all) [])
 
-  written-insert_entry : (tags : List Tag) (k v : List ℕ)
-      → written all (insert_entry same_bytes tags k v) ≡ written all tags ++ cond (is_first_client_only tags k) (valued k ∷ []) []
-  written-insert_entry [] k v = go (is_client_only k) where
+  written-with_value : (tags : List Tag) (k v : List ℕ)
+      → written all (with_value tags k v) ≡ written all tags ++ cond (is_first_client_only tags k) (valued k ∷ []) []
+  written-with_value [] k v = go (is_client_only k) where
     go : (b : Bool) → map (λ (tag : Tag). valued tag.0) (cond b ((k, v) ∷ []) []) ≡ cond (b && true) (valued k ∷ []) []
     go true = refl
     go false = refl
-  written-insert_entry (t ∷ ts) k v = go (same_bytes k t.0) (written-insert_entry ts k v) where
+  written-with_value (t ∷ ts) k v = go (same_bytes k t.0) (written-with_value ts k v) where
     known : (b c : Bool) (rest : List Tag) → rest ≡ rest ++ cond (b && not true) (valued k ∷ []) []
     known true c rest = sym (append-nil rest)
     known false c rest = sym (append-nil rest)
@@ -74,8 +73,8 @@ module _ (all : List Tag) where
     other true c inserted rest x e = ap (λ l. valued x.0 ∷ l) e
     other false c inserted rest x e = e
 
-    go : (b : Bool) → written all (insert_entry same_bytes ts k v) ≡ written all ts ++ cond (is_first_client_only ts k) (valued k ∷ []) []
-        → written all (cond b ((t.0, v) ∷ ts) (t ∷ insert_entry same_bytes ts k v))
+    go : (b : Bool) → written all (with_value ts k v) ≡ written all ts ++ cond (is_first_client_only ts k) (valued k ∷ []) []
+        → written all (cond b ((t.0, v) ∷ ts) (t ∷ with_value ts k v))
         ≡ written all (t ∷ ts) ++ cond (is_client_only k && is_none (cond b (Some t.1) (value_at k ts))) (valued k ∷ []) []
     go true rest = same (is_client_only t.0) ∙ known (is_client_only k) true (written all (t ∷ ts)) where
       same : (b : Bool) → map (λ (tag : Tag). valued tag.0) (cond b ((t.0, v) ∷ filter (λ tag. is_client_only tag.0) ts) (filter (λ tag. is_client_only tag.0) ts))
@@ -83,14 +82,14 @@ module _ (all : List Tag) where
       same true = refl
       same false = refl
     go false rest =
-        other (is_client_only t.0) (is_first_client_only ts k) (filter (λ tag. is_client_only tag.0) (insert_entry same_bytes ts k v)) (filter (λ tag. is_client_only tag.0) ts) t rest
+        other (is_client_only t.0) (is_first_client_only ts k) (filter (λ tag. is_client_only tag.0) (with_value ts k v)) (filter (λ tag. is_client_only tag.0) ts) t rest
 
   -- one tag more
   pub written-with_tag : (tags : List Tag) (tag : Tag) → written all (with_tag tags tag) ≡ written all tags ++ cond (is_first_client_only tags tag.0) (valued tag.0 ∷ []) []
   written-with_tag tags ([], value) = sym (append-nil (written all tags))
   written-with_tag tags (b ∷ key, value) =
       ap (written all) (cond-true (has_key (b ∷ key, value)) _ _ (ap not (ne_eqb (length (b ∷ key)) 0 (λ e. omega arith))))
-      ∙ written-insert_entry tags (b ∷ key) value
+      ∙ written-with_value tags (b ∷ key) value
 
   -- and some more
   written-with_tags : (tags more : List Tag) → (rest : List Tag) × (written all (with_tags tags more) ≡ written all tags ++ rest)

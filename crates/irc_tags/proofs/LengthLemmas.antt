@@ -4,13 +4,12 @@ use Rattle.std.specs.List.{All, AllByRecursion, slice_split, onto_first, positio
 use Rattle.std.proofs.lemmas.Bool.{or_parts, cases_lt}
 use Rattle.std.proofs.lemmas.List.{drop_all}
 use Rattle.std.proofs.lemmas.List.Elements.{All-nil, All-cons, All-head, All-tail, All-drop, All-from_recursion, recursion_from_All}
-use Rattle.indexmap.specs.IndexMap.{insert_entry}
 use Rattle.std.proofs.lemmas.Slice.Eq.{bytes_eq-Decides}
 use Rattle.irc_tags.specs.Value.{escaped_byte, byte_spelling, value_text, value_in}
 use Rattle.irc_tags.specs.TagList.{Tag, is_semicolon, is_equals, has_key, same_bytes, tag_of, tag_list}
 use Rattle.irc_tags.specs.Text.{value_part, tag_text, tags_text}
 use Rattle.irc_tags.specs.Standing.{ends_tag_data, is_nul}
-use Rattle.irc_tags.specs.Entries.{with_tags}
+use Rattle.irc_tags.specs.Entries.{with_value, with_tags}
 use Rattle.irc_tags.proofs.ValueLemmas.{value_in-nil, value_in-plain, value_in-pair, value_in-last}
 use Rattle.irc_tags.proofs.MergingLemmas.{with_tags-all}
 use Rattle.irc_tags.proofs.StandingLemmas.{parts_all, parts_fail}
@@ -106,11 +105,11 @@ abbrev total : List Tag → ℕ
 total [] = 0
 total (t ∷ ts) = length (tag_text t) + 1 + total ts
 
-insert_total : (ts : List Tag) (k v : List ℕ) → total (insert_entry same_bytes ts k v) ≤ total ts + (length (tag_text (k, v)) + 1)
+insert_total : (ts : List Tag) (k v : List ℕ) → total (with_value ts k v) ≤ total ts + (length (tag_text (k, v)) + 1)
 insert_total [] k v = omega arith
 insert_total (t ∷ ts) k v = go (same_bytes k t.0) refl (insert_total ts k v) where
-  go : (b : Bool) → same_bytes k t.0 ≡ b → total (insert_entry same_bytes ts k v) ≤ total ts + (length (tag_text (k, v)) + 1)
-      → total (cond b ((t.0, v) ∷ ts) (t ∷ insert_entry same_bytes ts k v)) ≤ total (t ∷ ts) + (length (tag_text (k, v)) + 1)
+  go : (b : Bool) → same_bytes k t.0 ≡ b → total (with_value ts k v) ≤ total ts + (length (tag_text (k, v)) + 1)
+      → total (cond b ((t.0, v) ∷ ts) (t ∷ with_value ts k v)) ≤ total (t ∷ ts) + (length (tag_text (k, v)) + 1)
   go true e rest =
       let same : length (tag_text (k, v)) ≡ length (tag_text (t.0, v)) = ap (λ key. length (tag_text (key, v))) ((bytes_eq-Decides k t.0).0 e) in
       omega arith
@@ -123,10 +122,10 @@ total_of (part ∷ parts) = length part + 1 + total_of parts
 
 with_tags_total : (ts : List Tag) (parts : List (List ℕ)) → All (All is_plain) parts → total (with_tags ts (map tag_of parts)) ≤ total ts + total_of parts
 with_tags_total ts [] all = omega arith
-with_tags_total ts (part ∷ parts) all = go (has_key (tag_of part)) (with_tags_total ts parts (All-tail (All is_plain) part parts all)) (with_tags_total (insert_entry same_bytes ts (tag_of part).0 (tag_of part).1) parts (All-tail (All is_plain) part parts all)) where
+with_tags_total ts (part ∷ parts) all = go (has_key (tag_of part)) (with_tags_total ts parts (All-tail (All is_plain) part parts all)) (with_tags_total (with_value ts (tag_of part).0 (tag_of part).1) parts (All-tail (All is_plain) part parts all)) where
   go : (b : Bool) → total (with_tags ts (map tag_of parts)) ≤ total ts + total_of parts
-      → total (with_tags (insert_entry same_bytes ts (tag_of part).0 (tag_of part).1) (map tag_of parts)) ≤ total (insert_entry same_bytes ts (tag_of part).0 (tag_of part).1) + total_of parts
-      → total (with_tags (cond b (insert_entry same_bytes ts (tag_of part).0 (tag_of part).1) ts) (map tag_of parts)) ≤ total ts + total_of (part ∷ parts)
+      → total (with_tags (with_value ts (tag_of part).0 (tag_of part).1) (map tag_of parts)) ≤ total (with_value ts (tag_of part).0 (tag_of part).1) + total_of parts
+      → total (with_tags (cond b (with_value ts (tag_of part).0 (tag_of part).1) ts) (map tag_of parts)) ≤ total ts + total_of (part ∷ parts)
   go true skipped put_in =
       let one = insert_total ts (tag_of part).0 (tag_of part).1 in
       let short = tag_length part (All-head (All is_plain) part parts all) in

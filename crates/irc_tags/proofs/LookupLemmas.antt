@@ -3,9 +3,8 @@ use Rattle.std.proofs.Common.{◌≡◌, ℕ, Bool, true, false, cond, ◌+◌, 
 use Rattle.std.proofs.lemmas.Cmp.{nat_list_eq_equiv}
 use Rattle.std.proofs.lemmas.Slice.Eq.{bytes_eq-Decides}
 use Rattle.std.specs.List.{slice_split}
-use Rattle.indexmap.specs.IndexMap.{insert_entry}
 use Rattle.irc_tags.specs.TagList.{Tag, has_key, same_bytes, tag_list, tag_of, value_at, is_semicolon}
-use Rattle.irc_tags.specs.Entries.{with_tag, with_tags, found_in, last_found}
+use Rattle.irc_tags.specs.Entries.{with_value, with_tag, with_tags, found_in, last_found}
 use Rattle.irc_tags.proofs.CuttingLemmas.{parts_from, one_part}
 use Rattle.irc_tags.proofs.MergingLemmas.{with_tags-all}
 
@@ -16,12 +15,12 @@ turned v w found true true apart = (let e = apart refl in cc)
 turned v w found true false apart = refl
 turned v w found false b apart = refl
 
-value_at-insert_entry : (key : List ℕ) (tags : List Tag) (k v : List ℕ)
-    → value_at key (insert_entry same_bytes tags k v) ≡ cond (same_bytes key k) (Some v) (value_at key tags)
-value_at-insert_entry key [] k v = refl
-value_at-insert_entry key (t ∷ ts) k v = go (same_bytes k t.0) refl (value_at-insert_entry key ts k v) where
-  go : (b : Bool) → same_bytes k t.0 ≡ b → value_at key (insert_entry same_bytes ts k v) ≡ cond (same_bytes key k) (Some v) (value_at key ts)
-      → value_at key (cond b ((t.0, v) ∷ ts) (t ∷ insert_entry same_bytes ts k v)) ≡ cond (same_bytes key k) (Some v) (cond (same_bytes key t.0) (Some t.1) (value_at key ts))
+value_at-with_value : (key : List ℕ) (tags : List Tag) (k v : List ℕ)
+    → value_at key (with_value tags k v) ≡ cond (same_bytes key k) (Some v) (value_at key tags)
+value_at-with_value key [] k v = refl
+value_at-with_value key (t ∷ ts) k v = go (same_bytes k t.0) refl (value_at-with_value key ts k v) where
+  go : (b : Bool) → same_bytes k t.0 ≡ b → value_at key (with_value ts k v) ≡ cond (same_bytes key k) (Some v) (value_at key ts)
+      → value_at key (cond b ((t.0, v) ∷ ts) (t ∷ with_value ts k v)) ≡ cond (same_bytes key k) (Some v) (cond (same_bytes key t.0) (Some t.1) (value_at key ts))
   go true e rest =
       subst (λ x. cond (same_bytes key t.0) (Some v) (value_at key ts) ≡ cond (same_bytes key x) (Some v) (cond (same_bytes key t.0) (Some t.1) (value_at key ts)))
       (sym ((bytes_eq-Decides k t.0).0 e)) (same (same_bytes key t.0)) where
@@ -35,8 +34,8 @@ value_at-insert_entry key (t ∷ ts) k v = go (same_bytes k t.0) refl (value_at-
 
 value_at-with_tag : (key : List ℕ) (tags : List Tag) (tag : Tag) → value_at key (with_tag tags tag) ≡ found_in key (value_at key tags) tag
 value_at-with_tag key tags tag = go (has_key tag) where
-  go : (b : Bool) → value_at key (cond b (insert_entry same_bytes tags tag.0 tag.1) tags) ≡ cond (b && same_bytes key tag.0) (Some tag.1) (value_at key tags)
-  go true = value_at-insert_entry key tags tag.0 tag.1
+  go : (b : Bool) → value_at key (cond b (with_value tags tag.0 tag.1) tags) ≡ cond (b && same_bytes key tag.0) (Some tag.1) (value_at key tags)
+  go true = value_at-with_value key tags tag.0 tag.1
   go false = refl
 
 value_at-with_tags : (key : List ℕ) (tags more : List Tag) → value_at key (with_tags tags more) ≡ last_found key (value_at key tags) more

@@ -4,9 +4,8 @@ use Rattle.std.proofs.lemmas.Bool.{cond-true, cond-false}
 use Rattle.std.proofs.lemmas.Cmp.{nat_list_eq_equiv}
 use Rattle.std.proofs.lemmas.Slice.Eq.{bytes_eq-Decides}
 use Rattle.std.specs.List.{slice_split}
-use Rattle.indexmap.specs.IndexMap.{insert_entry}
 use Rattle.irc_tags.specs.TagList.{Tag, has_key, same_bytes, distinct_keys, last_value, tags_by_key, tag_list, tag_of, is_semicolon}
-use Rattle.irc_tags.specs.Entries.{with_tag, with_tags}
+use Rattle.irc_tags.specs.Entries.{with_value, with_tag, with_tags}
 use Rattle.irc_tags.proofs.CuttingLemmas.{parts_from, one_part}
 
 -- the tags without those of a key
@@ -50,67 +49,67 @@ last_value-push key d [] k v = refl
 last_value-push key d (t ∷ ts) k v = last_value-push key (cond (same_bytes key t.0) t.1 d) ts k v
 
 -- a tag that is put in is dropped with its key
-insert_same : (x : List ℕ) (es : List Tag) (k v : List ℕ) → same_bytes x k ≡ true → without x (insert_entry same_bytes es k v) ≡ without x es
+insert_same : (x : List ℕ) (es : List Tag) (k v : List ℕ) → same_bytes x k ≡ true → without x (with_value es k v) ≡ without x es
 insert_same x [] k v e = ap (λ t. cond (not t) ((k, v) ∷ []) []) e
 insert_same x (t ∷ ts) k v e = go (same_bytes k t.0) refl (insert_same x ts k v e) where
-  go : (b : Bool) → same_bytes k t.0 ≡ b → without x (insert_entry same_bytes ts k v) ≡ without x ts
-      → without x (insert_entry same_bytes (t ∷ ts) k v) ≡ without x (t ∷ ts)
+  go : (b : Bool) → same_bytes k t.0 ≡ b → without x (with_value ts k v) ≡ without x ts
+      → without x (with_value (t ∷ ts) k v) ≡ without x (t ∷ ts)
   go true f rest =
       let gone : same_bytes x t.0 ≡ true = nat_list_eq_equiv.congr x k t.0 e ∙ f in
-      ap (λ b. without x (cond b ((t.0, v) ∷ ts) (t ∷ insert_entry same_bytes ts k v))) f
+      ap (λ b. without x (cond b ((t.0, v) ∷ ts) (t ∷ with_value ts k v))) f
       ∙ ap (λ b. cond (not b) ((t.0, v) ∷ without x ts) (without x ts)) gone
       ∙ sym (ap (λ b. cond (not b) (t ∷ without x ts) (without x ts)) gone)
   go false f rest =
-      ap (λ b. without x (cond b ((t.0, v) ∷ ts) (t ∷ insert_entry same_bytes ts k v))) f
+      ap (λ b. without x (cond b ((t.0, v) ∷ ts) (t ∷ with_value ts k v))) f
       ∙ (λ i. cond (not (same_bytes x t.0)) (t ∷ rest i) (rest i))
 
 -- a tag of another key is put in before or after a key is dropped
 insert_other : (x : List ℕ) (es : List Tag) (k v : List ℕ) → same_bytes x k ≡ false
-    → without x (insert_entry same_bytes es k v) ≡ insert_entry same_bytes (without x es) k v
+    → without x (with_value es k v) ≡ with_value (without x es) k v
 insert_other x [] k v e = ap (λ t. cond (not t) ((k, v) ∷ []) []) e
 insert_other x (t ∷ ts) k v e = go (same_bytes k t.0) refl (insert_other x ts k v e) where
   later : (b : Bool) → same_bytes x t.0 ≡ b → same_bytes k t.0 ≡ false
-      → cond (not (same_bytes x t.0)) (t ∷ insert_entry same_bytes (without x ts) k v) (insert_entry same_bytes (without x ts) k v)
-      ≡ insert_entry same_bytes (without x (t ∷ ts)) k v
+      → cond (not (same_bytes x t.0)) (t ∷ with_value (without x ts) k v) (with_value (without x ts) k v)
+      ≡ with_value (without x (t ∷ ts)) k v
   later true g f =
-      ap (λ b. cond (not b) (t ∷ insert_entry same_bytes (without x ts) k v) (insert_entry same_bytes (without x ts) k v)) g
-      ∙ sym (ap (λ b. insert_entry same_bytes (cond (not b) (t ∷ without x ts) (without x ts)) k v) g)
+      ap (λ b. cond (not b) (t ∷ with_value (without x ts) k v) (with_value (without x ts) k v)) g
+      ∙ sym (ap (λ b. with_value (cond (not b) (t ∷ without x ts) (without x ts)) k v) g)
   later false g f =
-      ap (λ b. cond (not b) (t ∷ insert_entry same_bytes (without x ts) k v) (insert_entry same_bytes (without x ts) k v)) g
-      ∙ sym (ap (λ b. cond b ((t.0, v) ∷ without x ts) (t ∷ insert_entry same_bytes (without x ts) k v)) f)
-      ∙ sym (ap (λ b. insert_entry same_bytes (cond (not b) (t ∷ without x ts) (without x ts)) k v) g)
+      ap (λ b. cond (not b) (t ∷ with_value (without x ts) k v) (with_value (without x ts) k v)) g
+      ∙ sym (ap (λ b. cond b ((t.0, v) ∷ without x ts) (t ∷ with_value (without x ts) k v)) f)
+      ∙ sym (ap (λ b. with_value (cond (not b) (t ∷ without x ts) (without x ts)) k v) g)
 
-  go : (b : Bool) → same_bytes k t.0 ≡ b → without x (insert_entry same_bytes ts k v) ≡ insert_entry same_bytes (without x ts) k v
-      → without x (insert_entry same_bytes (t ∷ ts) k v) ≡ insert_entry same_bytes (without x (t ∷ ts)) k v
+  go : (b : Bool) → same_bytes k t.0 ≡ b → without x (with_value ts k v) ≡ with_value (without x ts) k v
+      → without x (with_value (t ∷ ts) k v) ≡ with_value (without x (t ∷ ts)) k v
   go true f rest =
       let other : same_bytes x t.0 ≡ false = subst (λ y. same_bytes x y ≡ false) ((bytes_eq-Decides k t.0).0 f) e in
-      ap (λ b. without x (cond b ((t.0, v) ∷ ts) (t ∷ insert_entry same_bytes ts k v))) f
+      ap (λ b. without x (cond b ((t.0, v) ∷ ts) (t ∷ with_value ts k v))) f
       ∙ ap (λ b. cond (not b) ((t.0, v) ∷ without x ts) (without x ts)) other
-      ∙ sym (ap (λ b. cond b ((t.0, v) ∷ without x ts) (t ∷ insert_entry same_bytes (without x ts) k v)) f)
-      ∙ sym (ap (λ b. insert_entry same_bytes (cond (not b) (t ∷ without x ts) (without x ts)) k v) other)
+      ∙ sym (ap (λ b. cond b ((t.0, v) ∷ without x ts) (t ∷ with_value (without x ts) k v)) f)
+      ∙ sym (ap (λ b. with_value (cond (not b) (t ∷ without x ts) (without x ts)) k v) other)
   go false f rest =
-      ap (λ b. without x (cond b ((t.0, v) ∷ ts) (t ∷ insert_entry same_bytes ts k v))) f
+      ap (λ b. without x (cond b ((t.0, v) ∷ ts) (t ∷ with_value ts k v))) f
       ∙ (λ i. cond (not (same_bytes x t.0)) (t ∷ rest i) (rest i))
       ∙ later (same_bytes x t.0) refl f
 
 -- one more tag at the end
-pub tags_by_key-push : (ts : List Tag) (k v : List ℕ) → tags_by_key (ts ++ (k, v) ∷ []) ≡ insert_entry same_bytes (tags_by_key ts) k v
+pub tags_by_key-push : (ts : List Tag) (k v : List ℕ) → tags_by_key (ts ++ (k, v) ∷ []) ≡ with_value (tags_by_key ts) k v
 tags_by_key-push [] k v =
-    tags_by_key-cons (k, v) [] ∙ ap (λ l. (k, v) ∷ without k l) tags_by_key-nil ∙ sym (ap (λ l. insert_entry same_bytes l k v) tags_by_key-nil)
+    tags_by_key-cons (k, v) [] ∙ ap (λ l. (k, v) ∷ without k l) tags_by_key-nil ∙ sym (ap (λ l. with_value l k v) tags_by_key-nil)
 tags_by_key-push (t ∷ ts) k v = go (same_bytes t.0 k) refl (tags_by_key-push ts k v) where
   last : List ℕ
   last = last_value t.0 t.1 ts
 
-  before : tags_by_key (ts ++ (k, v) ∷ []) ≡ insert_entry same_bytes (tags_by_key ts) k v
-      → tags_by_key ((t ∷ ts) ++ (k, v) ∷ []) ≡ (t.0, cond (same_bytes t.0 k) v (last_value t.0 t.1 ts)) ∷ without t.0 (insert_entry same_bytes (tags_by_key ts) k v)
+  before : tags_by_key (ts ++ (k, v) ∷ []) ≡ with_value (tags_by_key ts) k v
+      → tags_by_key ((t ∷ ts) ++ (k, v) ∷ []) ≡ (t.0, cond (same_bytes t.0 k) v (last_value t.0 t.1 ts)) ∷ without t.0 (with_value (tags_by_key ts) k v)
   before rest = tags_by_key-cons t (ts ++ (k, v) ∷ []) ∙ (λ i. (t.0, last_value-push t.0 t.1 ts k v i) ∷ without t.0 (rest i))
 
-  after : insert_entry same_bytes (tags_by_key (t ∷ ts)) k v
-      ≡ cond (same_bytes k t.0) ((t.0, v) ∷ without t.0 (tags_by_key ts)) ((t.0, last_value t.0 t.1 ts) ∷ insert_entry same_bytes (without t.0 (tags_by_key ts)) k v)
-  after = ap (λ l. insert_entry same_bytes l k v) (tags_by_key-cons t ts)
+  after : with_value (tags_by_key (t ∷ ts)) k v
+      ≡ cond (same_bytes k t.0) ((t.0, v) ∷ without t.0 (tags_by_key ts)) ((t.0, last_value t.0 t.1 ts) ∷ with_value (without t.0 (tags_by_key ts)) k v)
+  after = ap (λ l. with_value l k v) (tags_by_key-cons t ts)
 
-  go : (b : Bool) → same_bytes t.0 k ≡ b → tags_by_key (ts ++ (k, v) ∷ []) ≡ insert_entry same_bytes (tags_by_key ts) k v
-      → tags_by_key ((t ∷ ts) ++ (k, v) ∷ []) ≡ insert_entry same_bytes (tags_by_key (t ∷ ts)) k v
+  go : (b : Bool) → same_bytes t.0 k ≡ b → tags_by_key (ts ++ (k, v) ∷ []) ≡ with_value (tags_by_key ts) k v
+      → tags_by_key ((t ∷ ts) ++ (k, v) ∷ []) ≡ with_value (tags_by_key (t ∷ ts)) k v
   go true e rest =
       before rest
       ∙ (λ i. (t.0, cond (e i) v (last_value t.0 t.1 ts)) ∷ insert_same t.0 (tags_by_key ts) k v e i)
@@ -129,13 +128,13 @@ with_tags-tags_by_key xs (y ∷ ys) = go (has_key y) refl (with_tags-tags_by_key
       → with_tags (tags_by_key (xs ++ y ∷ [])) ys ≡ tags_by_key ((xs ++ y ∷ []) ++ filter has_key ys)
       → with_tags (tags_by_key xs) (y ∷ ys) ≡ tags_by_key (xs ++ filter has_key (y ∷ ys))
   go true e skipped put_in =
-      ap (λ b. with_tags (cond b (insert_entry same_bytes (tags_by_key xs) y.0 y.1) (tags_by_key xs)) ys) e
+      ap (λ b. with_tags (cond b (with_value (tags_by_key xs) y.0 y.1) (tags_by_key xs)) ys) e
       ∙ ap (λ l. with_tags l ys) (sym (tags_by_key-push xs y.0 y.1))
       ∙ put_in
       ∙ ap tags_by_key (append_assoc xs (y ∷ []) (filter has_key ys))
       ∙ sym (ap (λ b. tags_by_key (xs ++ cond b (y ∷ filter has_key ys) (filter has_key ys))) e)
   go false e skipped put_in =
-      ap (λ b. with_tags (cond b (insert_entry same_bytes (tags_by_key xs) y.0 y.1) (tags_by_key xs)) ys) e
+      ap (λ b. with_tags (cond b (with_value (tags_by_key xs) y.0 y.1) (tags_by_key xs)) ys) e
       ∙ skipped
       ∙ sym (ap (λ b. tags_by_key (xs ++ cond b (y ∷ filter has_key ys) (filter has_key ys))) e)
 

@@ -1,13 +1,17 @@
--- A list of tags that is made tag by tag, and the entries of the map that holds it.
+-- A list of tags that is made tag by tag, and the pairs that hold it.
 use Rattle.std.specs.Prelude.{◌≡◌, ℕ, ◌&&◌, List, [], ◌∷◌, Option, Some, Vec, map, if◌then◌else◌}
 use Rattle.std.specs.declared.alloc.Global.{Global}
-use Rattle.indexmap.specs.IndexMap.{insert_entry}
 use Rattle.irc_tags.specs.TagList.{Tag, has_key, same_bytes, tag_of}
 
--- the tags with one more: its key keeps its place where it is there and takes the value, and a new key goes last. A tag
--- with an empty key is skipped.
+-- the tags with a value for a key, which keeps its place where it is there, and goes last where it is new
+abbrev pub with_value : List Tag → List ℕ → List ℕ → List Tag
+with_value [] key value = (key, value) ∷ []
+with_value (tag ∷ tags) key value =
+    if same_bytes key tag.0 then (tag.0, value) ∷ tags else tag ∷ with_value tags key value
+
+-- the tags with one more, unless its key is empty
 abbrev pub with_tag : List Tag → Tag → List Tag
-with_tag tags tag = if has_key tag then insert_entry same_bytes tags tag.0 tag.1 else tags
+with_tag tags tag = if has_key tag then with_value tags tag.0 tag.1 else tags
 
 -- the tags with more of them, one after another
 abbrev pub with_tags : List Tag → List Tag → List Tag
@@ -23,11 +27,11 @@ abbrev pub last_found : List ℕ → Option (List ℕ) → List Tag → Option (
 last_found key found [] = found
 last_found key found (tag ∷ tags) = last_found key (found_in key found tag) tags
 
--- the bytes of the keys and the values of a map
+-- the bytes of the keys and the values
 abbrev pub value_of : List (Vec ℕ Global × Vec ℕ Global) → List Tag
 value_of entries = map (λ e. (e.0.items, e.1.items)) entries
 
--- the map takes the tag that these bytes spell
+-- the pairs take the tag that these bytes spell
 abbrev pub PutsTag : List (Vec ℕ Global × Vec ℕ Global) → List (Vec ℕ Global × Vec ℕ Global)
     → List ℕ → Type 0
 PutsTag old new bytes = value_of new ≡ with_tag (value_of old) (tag_of bytes)

@@ -3,8 +3,8 @@
 //! Tag data is read and written without a list: [`find_tag`] looks up one key, and [`find_two_tags`] two. [`read_value`] and
 //! [`write_value`] know the escapes of values, [`write_tag`] writes a tag, [`write_client_only`] the client-only tags of tag
 //! data, and [`is_client_only_text`] tells whether tag data is what that writes. As a value of its own, [`read_tags`] reads it
-//! into a list of [`Tags`], of which each key stands once (`indexmap` keeps their order), and [`write_tags`] writes such a
-//! list. [`laws`] says that what is written reads back. Read [`find_tag`] first.
+//! into a list of [`Tags`], of which each key stands once, and [`write_tags`] writes such a list. [`laws`] says that what is
+//! written reads back. Read [`find_tag`] first.
 #![tactic(auto)]
 
 mod client_only;

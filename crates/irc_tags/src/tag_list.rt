@@ -1,14 +1,13 @@
 //! The list of tags, and reading it.
-ghost use Rattle.std.specs.Prelude.{◌≡◌, ◌<◌, ◌↔◌, length, filter, slice_get, Some, IfOk, OnOk, IsErrOf, IsTrue};
+ghost use Rattle.std.specs.Prelude.{◌≡◌, ◌<◌, ◌↔◌, length, filter, position, slice_get, Some, IfOk, OnOk, IsErrOf, IsTrue};
 ghost use Rattle.std.specs.Option.{option_copied};
-ghost use Rattle.irc_tags.specs.TagList.{Tag, max_tag_data, tag_list, value_at};
-ghost use Rattle.irc_tags.specs.Entries.{value_of, PutsTag};
+ghost use Rattle.irc_tags.specs.TagList.{Tag, max_tag_data, same_bytes, tag_list, value_at};
+ghost use Rattle.irc_tags.specs.Entries.{value_of, with_value, PutsTag};
 ghost use Rattle.irc_tags.specs.Standing.{CanStand, is_client_only};
 
 use crate::tag::{cut_tag, is_client_only};
 use crate::value::read_value;
 use byte_text::find_byte;
-use indexmap::IndexMap;
 use std::alloc::{AllocError, Global};
 use std::marker::Model;
 use thiserror::Error;
@@ -31,7 +30,7 @@ pub enum TagFault {
 /// two keys are equal, and each has at least one byte. Keys and values are bytes, without the escapes of values.
 #[derive(Debug, Drop)]
 pub struct Tags {
-    by_key: IndexMap<Vec<u8>, Vec<u8>>,
+    tags: Vec<(Vec<u8>, Vec<u8>)>,
 }
 
 impl Model for Tags {
@@ -42,9 +41,9 @@ impl Model for Tags {
 
     ghost Value = { List Tag };
 
-    ghost view = { λ t. value_of t.by_key.entries };
+    ghost view = { λ t. value_of t.tags.items };
 
-    ghost invariant = { λ t. CanStand (value_of t.by_key.entries) };
+    ghost invariant = { λ t. CanStand (value_of t.tags.items) };
 }
 
 impl Tags {
@@ -53,22 +52,22 @@ impl Tags {
         ensures len { result ≡ length self.now }
         ensures keys { CanStand self.now }
     {
-        self.by_key.len()
+        self.tags.len()
     }
 
     /// Whether there are no tags.
     pub fn is_empty(&self) -> bool
         ensures { IsTrue result ↔ (length self.now ≡ 0) }
     {
-        self.by_key.is_empty()
+        self.tags.is_empty()
     }
 
     /// The value of a key, byte for byte, or `None` where no tag has that key. The value of a bare key is empty.
     pub fn get(&self, key: &[u8]) -> Option<&[u8]>
         ensures { option_copied result ≡ value_at key.now self.now }
     {
-        match self.by_key.get(key) {
-            Some(value) => Some(value.as_slice()),
+        match index_of(&self.tags, key) {
+            Some(at) => Some(self.tags[at].1.as_slice()),
             None => None,
         }
     }
@@ -78,7 +77,7 @@ impl Tags {
         requires { index < length self.now }
         ensures { slice_get self.now index ≡ Some (result.0.now, result.1.now) }
     {
-        let (key, value) = self.by_key.get_index(index).unwrap();
+        let (key, value) = &self.tags[index];
         (key.as_slice(), value.as_slice())
     }
 
@@ -86,21 +85,40 @@ impl Tags {
     pub fn keep_client_only(&mut self)
         ensures { self.new ≡ filter (λ tag. is_client_only tag.0) self.old }
     {
-        self.by_key.retain(
-            |key: &Vec<u8>, value: &mut Vec<u8>| -> bool
-                ensures { (result ≡ is_client_only key.now.items) × (value.new ≡ value.old) }
-            { is_client_only(key.as_slice()) },
+        self.tags.retain(
+            |tag: &(Vec<u8>, Vec<u8>)| -> bool
+                ensures { result ≡ is_client_only tag.now.0.items }
+            { is_client_only(tag.0.as_slice()) },
         );
     }
 }
 
-/// Puts a tag into the map, unless its key is empty.
-fn put_tag(
-    alloc: Global,
-    by_key: &mut IndexMap<Vec<u8>, Vec<u8>>,
-    tag: &[u8],
+/// The index of the tag with that key.
+fn index_of(tags: &[(Vec<u8>, Vec<u8>)], key: &[u8]) -> Option<usize>
+    ensures { result ≡ position (λ tag. same_bytes key.now tag.0.items) tags.now }
+{
+    tags.iter().position(|tag| key == tag.0.as_slice())
+}
+
+/// Gives a key the value: the key keeps its place where it is there, and goes last where it is new.
+fn put_value(
+    tags: &mut Vec<(Vec<u8>, Vec<u8>)>,
+    key: Vec<u8>,
+    value: Vec<u8>,
 ) -> Result<(), AllocError>
-    ensures { OnOk result (PutsTag by_key.old.entries by_key.new.entries tag.now) }
+    ensures { OnOk result (value_of tags.new.items
+        ≡ with_value (value_of tags.old.items) key.items value.items) }
+{
+    match index_of(tags, &key) {
+        Some(at) => tags[at].1 = value,
+        None => tags.push((key, value))?,
+    }
+    Ok(())
+}
+
+/// Puts a tag into the list, unless its key is empty.
+fn put_tag(alloc: Global, tags: &mut Vec<(Vec<u8>, Vec<u8>)>, tag: &[u8]) -> Result<(), AllocError>
+    ensures { OnOk result (PutsTag tags.old.items tags.new.items tag.now) }
 {
     let (key, value) = cut_tag(tag);
     if key.is_empty() {
@@ -108,22 +126,21 @@ fn put_tag(
     }
     let key = Vec::from_slice(alloc, key)?;
     let value = read_value(alloc, value)?;
-    by_key.insert(key, value)?;
-    Ok(())
+    put_value(tags, key, value)
 }
 
-/// The map of all the tags.
-fn read_map(alloc: Global, bytes: &[u8]) -> Result<IndexMap<Vec<u8>, Vec<u8>>, AllocError>
-    ensures { IfOk result (λ by_key. value_of by_key.entries ≡ tag_list bytes.now) }
+/// The list of all the tags.
+fn read_list(alloc: Global, bytes: &[u8]) -> Result<Vec<(Vec<u8>, Vec<u8>)>, AllocError>
+    ensures { IfOk result (λ tags. value_of tags.items ≡ tag_list bytes.now) }
 {
-    let mut by_key = IndexMap::new(alloc);
+    let mut tags = Vec::new(alloc);
     let mut rest = bytes;
     while let Some(at) = find_byte(rest, b';') {
-        put_tag(alloc, &mut by_key, &rest[..at])?;
+        put_tag(alloc, &mut tags, &rest[..at])?;
         rest = &rest[at + 1..];
     }
-    put_tag(alloc, &mut by_key, rest)?;
-    Ok(by_key)
+    put_tag(alloc, &mut tags, rest)?;
+    Ok(tags)
 }
 
 /// Reads tag data, which is what stands between `@` and the space behind the tags (IRCv3 message-tags, "Format").
@@ -137,8 +154,8 @@ pub fn read_tags(alloc: Global, bytes: &[u8]) -> Result<Tags, TagFault>
     if bytes.len() > MAX_TAG_DATA {
         return Err(TagFault::TooLong);
     }
-    match read_map(alloc, bytes) {
-        Ok(by_key) => Ok(Tags { by_key }),
+    match read_list(alloc, bytes) {
+        Ok(tags) => Ok(Tags { tags }),
         Err(_) => Err(TagFault::NoMemory),
     }
 }
