@@ -15,4 +15,4 @@ mod refusal;
 pub use answers::{AnswerFault, answer};
 pub use chat_past::{AskFault, ListedBuffer, Past, write_live, write_page, write_targets};
 pub use chat_query::{Answered, Facts, next_reference};
-pub use irc_reply::{Context, write_fail, write_mark, write_too_long, write_unknown};
+pub use irc_reply::{Context, write_fail, write_mark, write_unknown};

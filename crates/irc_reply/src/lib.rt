@@ -17,5 +17,5 @@ pub mod to_server;
 
 pub use byte_text::{NoMemory, Text};
 pub use echo::echoed;
-pub use reply::{Context, write_fail, write_mark, write_reply, write_too_long, write_unknown};
+pub use reply::{Context, write_fail, write_mark, write_reply, write_unknown};
 pub use text::{need_more_params, plain_line, reply_text};

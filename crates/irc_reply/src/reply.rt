@@ -17,7 +17,7 @@ pub enum Context<'a> {
     Two(&'a [u8], &'a [u8]),
 }
 
-ghost use Rattle.irc_reply.specs.Reply.{reply, unknown_text, too_long_text, fail_text, value_of, mark_text};
+ghost use Rattle.irc_reply.specs.Reply.{reply, unknown_text, fail_text, value_of, mark_text};
 
 /// Writes a line of the cluster.
 pub fn write_reply<'a, W: Write>(
@@ -57,20 +57,6 @@ pub fn write_unknown<W: Write>(
         b"421",
         &[nick, word],
         Some(b"Unknown command"),
-        writer,
-    )
-}
-
-/// Writes `:cluster 417 nick :Input line was too long` (ERR_INPUTTOOLONG, IRCv3 message-tags, "Size limit"). Fails where
-/// the writer fails.
-pub fn write_too_long<W: Write>(cluster: &[u8], nick: &[u8], writer: &mut W) -> io::Result<()>
-    ensures { Writes W.contents writer.old writer.new result (too_long_text cluster.now nick.now) }
-{
-    write_reply(
-        cluster,
-        b"417",
-        &[nick],
-        Some(b"Input line was too long"),
         writer,
     )
 }

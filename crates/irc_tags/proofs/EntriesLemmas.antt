@@ -1,5 +1,5 @@
 -- What a look-up and a change in the pairs do to the tags that they hold.
-use Rattle.std.proofs.Common.{◌≡◌, ℕ, suc, ◌+◌, ◌<◌, ◌≤◌, Bool, true, false, not, cond, List, [], ◌∷◌, ◌++◌, filter, length, get_or, set, Vec, None, Some, position, refl, ap, sym, subst, ◌∙◌, arith}
+use Rattle.std.proofs.Common.{◌≡◌, ℕ, suc, ◌+◌, ◌<◌, ◌≤◌, Bool, true, false, not, cond, List, [], ◌∷◌, ◌++◌, length, get_or, set, Vec, None, Some, position, refl, ap, sym, subst, ◌∙◌, arith}
 use Rattle.std.specs.declared.alloc.Global.{Global}
 use Rattle.std.specs.List.{position_or_len}
 use Rattle.irc_tags.specs.TagList.{same_bytes, value_at}
@@ -80,15 +80,3 @@ module _ (key : List ℕ) where
 
   pub with_value-missing : (es : List Held) (value : List ℕ) → position has es ≡ None → with_value (value_of es) key value ≡ value_of es ++ (key, value) ∷ []
   with_value-missing es value none = with_value_none es value (no_place has es none)
-
--- ---- tags that are kept
-
-pub value_of-filter : (test : List ℕ → Bool) (es : List Held)
-    → value_of (filter (λ e. test e.0.items) es) ≡ filter (λ tag. test tag.0) (value_of es)
-value_of-filter test [] = refl
-value_of-filter test (e ∷ es) = go (test e.0.items) (value_of-filter test es) where
-  go : (b : Bool) → value_of (filter (λ e. test e.0.items) es) ≡ filter (λ tag. test tag.0) (value_of es)
-      → value_of (cond b (e ∷ filter (λ e. test e.0.items) es) (filter (λ e. test e.0.items) es))
-      ≡ cond b ((e.0.items, e.1.items) ∷ filter (λ tag. test tag.0) (value_of es)) (filter (λ tag. test tag.0) (value_of es))
-  go true rest = ap (λ l. (e.0.items, e.1.items) ∷ l) rest
-  go false rest = rest

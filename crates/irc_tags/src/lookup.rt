@@ -1,4 +1,4 @@
-//! Looking up one tag in tag data, without a list of all.
+//! Looking up tags in tag data, without a list of all.
 ghost use Rattle.std.specs.Prelude.{◌≡◌, IfOk};
 ghost use Rattle.std.specs.Cow.{cow_slice_items};
 ghost use Rattle.std.specs.Option.{option_copied, option_map};
@@ -102,21 +102,9 @@ fn unescaped_if<'a>(
     }
 }
 
-/// The value of a key in tag data of any length, or `None` where no tag has that key: what `irc_tags::read_tags`
-/// and its `get` give, without a list of the tags. A value without escapes is lent; another takes
-/// memory, and it fails where that runs out.
-pub fn find_tag<'a>(
-    alloc: Global,
-    bytes: &'a [u8],
-    key: &[u8],
-) -> Result<Option<CowSlice<'a, u8>>, AllocError>
-    ensures { IfOk result (λ value. option_map cow_slice_items value
-        ≡ value_at key.now (tag_list bytes.now)) }
-{
-    unescaped_if(alloc, find_spelled(bytes, key))
-}
-
-/// The values of two keys in tag data, each as [`find_tag`] gives it, by one walk over the tags.
+/// The values of two keys in tag data of any length, by one walk over the tags, each `None` where no tag has that key: what
+/// [`read_tags`](crate::read_tags) and its `get` give, without a list of the tags. A value without escapes is lent; another
+/// takes memory, and the call fails where that runs out.
 pub fn find_two_tags<'a>(
     alloc: Global,
     bytes: &'a [u8],

@@ -1,11 +1,11 @@
 //! The list of tags, and reading it.
-ghost use Rattle.std.specs.Prelude.{◌≡◌, ◌<◌, ◌↔◌, length, filter, position, slice_get, Some, IfOk, OnOk, IsErrOf, IsTrue};
+ghost use Rattle.std.specs.Prelude.{◌≡◌, ◌<◌, ◌↔◌, length, position, slice_get, Some, IfOk, OnOk, IsErrOf, IsTrue};
 ghost use Rattle.std.specs.Option.{option_copied};
 ghost use Rattle.irc_tags.specs.TagList.{Tag, max_tag_data, same_bytes, tag_list, value_at};
 ghost use Rattle.irc_tags.specs.Entries.{value_of, with_value, PutsTag};
-ghost use Rattle.irc_tags.specs.Standing.{CanStand, is_client_only};
+ghost use Rattle.irc_tags.specs.Standing.{CanStand};
 
-use crate::tag::{cut_tag, is_client_only};
+use crate::tag::cut_tag;
 use crate::value::read_value;
 use byte_text::find_byte;
 use std::alloc::{AllocError, Global};
@@ -79,17 +79,6 @@ impl Tags {
     {
         let (key, value) = &self.tags[index];
         (key.as_slice(), value.as_slice())
-    }
-
-    /// Keeps the client-only tags, whose keys begin with `+`, in their order (IRCv3 message-tags, "Client-only tags").
-    pub fn keep_client_only(&mut self)
-        ensures { self.new ≡ filter (λ tag. is_client_only tag.0) self.old }
-    {
-        self.tags.retain(
-            |tag: &(Vec<u8>, Vec<u8>)| -> bool
-                ensures { result ≡ is_client_only tag.now.0.items }
-            { is_client_only(tag.0.as_slice()) },
-        );
     }
 }
 

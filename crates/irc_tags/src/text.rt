@@ -23,7 +23,7 @@ fn put_value_part<W: Write>(value: &[u8], writer: &mut W) -> io::Result<()>
 }
 
 /// Writes a tag: the key, `=` and the value with its escapes, or the bare key where the value is empty.
-pub fn write_tag<W: Write>(key: &[u8], value: &[u8], writer: &mut W) -> io::Result<()>
+pub(crate) fn write_tag<W: Write>(key: &[u8], value: &[u8], writer: &mut W) -> io::Result<()>
     ensures { Writes W.contents writer.old writer.new result (tag_text (key.now, value.now)) }
 {
     put(writer, key)?;

@@ -24,7 +24,7 @@ fn unescape(b: u8) -> u8
 
 /// The value that the bytes spell: `\:` is `;`, `\s` a space, `\\` a backslash, `\r` CR and `\n` LF. A backslash before
 /// another byte is dropped, and so is one at the end. It fails where memory runs out.
-pub fn read_value(alloc: Global, bytes: &[u8]) -> Result<Vec<u8>, AllocError>
+pub(crate) fn read_value(alloc: Global, bytes: &[u8]) -> Result<Vec<u8>, AllocError>
     ensures { IfOk result (λ value. value.items ≡ value_in bytes.now) }
 {
     let mut value = Vec::with_capacity(alloc, bytes.len())?;

@@ -25,10 +25,8 @@ fn are_found(tags: &Tags) -> bool {
 #[test]
 fn tags_are_read_and_written_again(rt: HostRuntime) {
     let alloc = rt.alloc();
-    let mut tags = read_tags(alloc, DATA).expect(&rt, "memory");
+    let tags = read_tags(alloc, DATA).expect(&rt, "memory");
     assert!(rt; are_found(&tags) && are_written(alloc, &tags, b"+a=2;msgid=a\\:b;c"));
-    tags.keep_client_only();
-    assert!(rt; are_written(alloc, &tags, b"+a=2"));
 }
 
 // Tag data of so many bytes, which are one key.
