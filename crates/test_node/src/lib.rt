@@ -1,7 +1,7 @@
 //! What has to be shown in one process. What the passes of a shared node see of one another's changes: in one thread, also
 //! where memory is refused, and with puts beside asks in two threads and in four (`shared_node`). Places and clients at their
-//! stands (`client_places`), further kinds of clients and halls (`attach`). Bytes that are written (`byte_text`), with the devices
-//! on which other tests stand (`test_devices`). And calls that no program makes: tags as a list, and a record with tags.
+//! stands (`client_places`), further kinds of clients and halls (`attach`). And calls that no program makes: tags as a list, and
+//! a record with tags.
 //!
 //! The contracts of these crates say what most calls do. Here is what no clause promises: that there is memory at the greatest
 //! sizes, that a pass is let in, that the lowest free place is given, also after it was freed in another thread, and what
@@ -15,13 +15,9 @@
 #[cfg(test)]
 mod asks;
 #[cfg(test)]
-mod byte_texts;
-#[cfg(test)]
 mod changes;
 #[cfg(test)]
 mod clients;
-#[cfg(test)]
-mod devices;
 #[cfg(test)]
 mod fault;
 #[cfg(test)]

@@ -8,6 +8,7 @@
 
 mod cases;
 mod client;
+mod devices;
 mod peer;
 mod replays;
 mod telling;

@@ -8,11 +8,11 @@
 //! The reader gives so many bytes a read at most, and the writer takes one a write, but all of it where its `whole-writes`
 //! fail. The device fails at once, then after one such call, after two, and so on, until the script is answered. `tables.py`
 //! writes this file.
+use crate::devices::{Sink, Source};
 use anyhow::Error;
 use bnc_server::{ReplayFault, replay};
 use std::alloc::Global;
 use std::io::Write;
-use test_devices::{Sink, Source};
 
 /// How a script ends, and how many bytes are written by then.
 fn ended(

@@ -1,7 +1,56 @@
-//! A writer that keeps what it takes.
+//! A reader and a writer that move a few bytes at a time, and fail at some call.
 use std::alloc::Global;
 use std::io;
-use std::io::{ErrorKind, Write};
+use std::io::{ErrorKind, Read, Write};
+
+/// A reader that gives these bytes. At first it gives as many a read as there is room for, and never fails.
+#[derive(Drop)]
+pub struct Source<'a> {
+    rest: &'a [u8],
+    most: usize,
+    reads_left: usize,
+}
+
+impl<'a> Source<'a> {
+    /// A reader of all the bytes.
+    pub fn new(bytes: &'a [u8]) -> Source<'a> {
+        Source {
+            rest: bytes,
+            most: usize::MAX,
+            reads_left: usize::MAX,
+        }
+    }
+
+    /// It gives so many bytes a read at most, and at least one while there are some.
+    pub fn at_most(self, most: usize) -> Source<'a> {
+        Source {
+            most: most.max(1),
+            ..self
+        }
+    }
+
+    /// It fails at each read once it has made so many (`ErrorKind::BrokenPipe`).
+    pub fn failing_after(self, reads: usize) -> Source<'a> {
+        Source {
+            reads_left: reads,
+            ..self
+        }
+    }
+}
+
+impl<'a> Read for Source<'a> {
+    fn read(&mut self, buf: &mut [u8]) -> io::Result<usize> {
+        if self.reads_left == 0 {
+            return Err(io::Error::from(ErrorKind::BrokenPipe));
+        }
+        let all = self.rest;
+        let n = all.len().min(self.most).min(buf.len());
+        buf[..n].copy_from_slice(&all[..n]);
+        self.rest = &all[n..];
+        self.reads_left -= 1;
+        Ok(n)
+    }
+}
 
 /// A writer that keeps the bytes that it takes. At first it takes all that it is given, and never fails.
 #[derive(Drop)]
@@ -10,8 +59,6 @@ pub struct Sink {
     most: usize,
     writes_left: usize,
     flushes_left: usize,
-    is_interrupted: bool,
-    interrupts_next: bool,
 }
 
 impl Sink {
@@ -22,8 +69,6 @@ impl Sink {
             most: usize::MAX,
             writes_left: usize::MAX,
             flushes_left: usize::MAX,
-            is_interrupted: false,
-            interrupts_next: false,
         }
     }
 
@@ -32,16 +77,7 @@ impl Sink {
         Sink { most, ..self }
     }
 
-    /// Its first write is interrupted, and from then on every second one.
-    pub fn interrupted(self) -> Sink {
-        Sink {
-            is_interrupted: true,
-            interrupts_next: true,
-            ..self
-        }
-    }
-
-    /// It fails at each write once it has made so many (`ErrorKind::BrokenPipe`). Interruptions do not count.
+    /// It fails at each write once it has made so many (`ErrorKind::BrokenPipe`).
     pub fn failing_after(self, writes: usize) -> Sink {
         Sink {
             writes_left: writes,
@@ -65,11 +101,6 @@ impl Sink {
 
 impl Write for Sink {
     fn write(&mut self, buf: &[u8]) -> io::Result<usize> {
-        if self.interrupts_next {
-            self.interrupts_next = false;
-            return Err(io::Error::from(ErrorKind::Interrupted));
-        }
-        self.interrupts_next = self.is_interrupted;
         if self.writes_left == 0 {
             return Err(io::Error::from(ErrorKind::BrokenPipe));
         }
