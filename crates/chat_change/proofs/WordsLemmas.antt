@@ -1,11 +1,10 @@
 -- Folding keeps a target a target, and changes nothing that is folded.
-use Rattle.std.proofs.Common.{◌≡◌, ◌<◌, ℕ, not, ◌&&◌, ◌||◌, ◌==◌, nat_lt, nat_le, List, [], ◌∷◌, length, refl, ap, ◌∙◌, true, false, Bool, arith, lit<}
+use Rattle.std.proofs.Common.{◌≡◌, ◌<◌, ℕ, not, ◌&&◌, ◌||◌, ◌==◌, nat_lt, nat_le, List, [], ◌∷◌, length, refl, arith, lit<}
 use Rattle.std.specs.Char.{to_ascii_lowercase}
 use Rattle.std.specs.List.{list_any}
 use Rattle.std.proofs.lemmas.List.{length-map}
 use Rattle.std.proofs.lemmas.Bool.Decides.{nat_tests}
-use Rattle.byte_text.specs.Bytes.{begins_with, ends_line}
-use Rattle.byte_text.specs.Words.{ends_word}
+use Rattle.byte_text.specs.Bytes.{begins_with}
 use Rattle.chat_change.specs.Words.{lower_case_of, ends_target, is_target}
 use Rattle.chat_change.specs.declared.words.TheConstants.{TARGET_LIMIT}
 
