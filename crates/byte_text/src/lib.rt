@@ -1,5 +1,6 @@
-//! What every crate above does with bytes: it keeps them ([`Text`]), finds one of them ([`find_byte`]), tells words by them
-//! ([`has_word_end`]), reads a number in them ([`number_to`]), writes them to any writer ([`put`]), and says that there was no memory for them ([`NoMemory`]).
+//! What every crate above does with bytes: it keeps them ([`Text`]), finds one of them ([`find_byte`]), says whether one ends a
+//! word ([`has_word_end`]), reads a number in them ([`number_to`]), writes them to any writer ([`put`]), and says that there was
+//! no memory for them ([`NoMemory`]).
 //!
 //! Contracts see a text as its list of bytes. What a writing call leaves in its writer they say by one word, `Writes`: at
 //! `Ok` the writer's known bytes have grown by the whole text, and at `Err` by a prefix of it. Writing takes no memory: no

@@ -1,5 +1,5 @@
-//! Writing tags and lists of them (IRCv3 message-tags, "Format"). What is written at an error is a prefix of the text. A call fails where
-//! the writer does, and takes no memory.
+//! Writing tags and lists of them (IRCv3 message-tags, "Format"). What is written at an error is a prefix of the text. A call
+//! fails where the writer does, and takes no memory.
 ghost use Rattle.std.specs.Prelude.{◌≡◌};
 ghost use Rattle.byte_text.specs.Writes.{Writes};
 ghost use Rattle.irc_tags.specs.TagList.{tag_list};
