@@ -13,7 +13,7 @@ pub use Rattle.byte_text.proofs.LookLemmas.{any_behind, any_within, both_ends}
 pub use Rattle.byte_text.proofs.FoundLemmas.{found_is_any}
 -- the order of texts is total, and only equal texts tie
 pub use Rattle.byte_text.proofs.OrderLemmas.{text_total, text_exact}
--- a number has one spelling, its decimal digits; what digits come to, digit by digit
+-- a number has one spelling, its decimal digits; the number that digits spell, digit by digit
 pub use Rattle.byte_text.proofs.NumberLemmas.{decimal_digits, number_read, number_spelled, one_digit_more}
 
 -- a prefix of the first text is one of both

@@ -1,9 +1,10 @@
-//! Searches for a byte: at the beginning, anywhere, by the vectors of `memchr`, and among the first bytes by one look.
+//! Searches for a byte: at the beginning, anywhere, by the vectors of `bstr`, and among the first bytes by one look.
 ghost use Rattle.std.specs.Prelude.{◌≡◌, ◌<◌, ◌≤◌, ◌==◌, length, not, position, take, IfSome};
 ghost use Rattle.std.specs.List.{list_any, position_or_len};
 ghost use Rattle.byte_text.specs.Bytes as spec;
 
-use memchr::{memchr, memchr3};
+use bstr::ByteSlice;
+use memchr::memchr3;
 use std::simd::prelude::*;
 
 /// Whether the first byte is that one.
@@ -84,5 +85,5 @@ fn find_by_vectors(bytes: &[u8], byte: u8) -> Option<usize>
     ensures place { result ≡ position (λ b. b == byte) bytes.now }
     ensures within { IfSome result (λ at. at < length bytes.now) }
 {
-    memchr(byte, bytes)
+    bytes.find_byte(byte)
 }
