@@ -12,7 +12,7 @@ use Rattle.irc_tags.specs.Value.{semicolon, value_text, value_in}
 use Rattle.irc_tags.specs.TagList.{Tag, has_key, same_bytes, tags_by_key, tag_list, tag_of, is_semicolon, is_equals}
 use Rattle.irc_tags.specs.Text.{value_part, tag_text, tags_text}
 use Rattle.irc_tags.specs.Standing.{IsKey, CanStand, is_client_only, HasNoEnd, is_nul}
-use Rattle.irc_tags.specs.ClientOnly.{client_only_text, is_client_only_text}
+use Rattle.irc_tags.specs.ClientOnly.{client_only_of, client_only_text, is_client_only_text}
 use Rattle.irc_tags.specs.Entries.{found_in, last_found}
 use Rattle.irc_tags.specs.Kept.{is_client_only_tag, is_kept}
 use Rattle.irc_tags.proofs.CuttingLemmas.{parts_from, one_part}
@@ -102,6 +102,11 @@ is_client_only_text-client_only_text bytes =
     kept_as_written (filter (λ tag. is_client_only tag.0) (tag_list bytes)) (CanStand-filter is_client_only (tag_list bytes) (CanStand-tag_list bytes))
     (filter_passes (λ tag. is_client_only tag.0) (tag_list bytes))
 
+-- what is written of the client-only ones of tags is such text
+pub client_only_of-as_written : (tags : List Tag) → CanStand tags → is_client_only_text (client_only_of tags) ≡ true
+client_only_of-as_written tags stand =
+    kept_as_written (filter (λ tag. is_client_only tag.0) tags) (CanStand-filter is_client_only tags stand) (filter_passes (λ tag. is_client_only tag.0) tags)
+
 pub client_only_text-same : (bytes : List ℕ) → is_client_only_text bytes ≡ true → client_only_text bytes ≡ bytes
 unfolding is_client_only_text
 client_only_text-same bytes e = (bytes_eq-Decides (client_only_text bytes) bytes).0 e
@@ -121,6 +126,16 @@ module _ (bytes : List ℕ) (kept : is_client_only_text bytes ≡ true) where
 
   pub kept_keys : All (λ tag. is_client_only tag.0 ≡ true) (tag_list bytes)
   kept_keys = subst (λ l. All (λ tag. is_client_only tag.0 ≡ true) l) (sym tags_kept) (filter_passes (λ tag. is_client_only tag.0) (tag_list bytes))
+
+-- what is written of the tags
+pub client_only_text_is : (bytes : List ℕ) → client_only_of (tag_list bytes) ≡ client_only_text bytes
+unfolding client_only_text
+client_only_text_is bytes = refl
+
+-- a text is that of the client-only tags
+pub same_text : (bytes text : List ℕ) → text ≡ client_only_text bytes → same_bytes text bytes ≡ is_client_only_text bytes
+unfolding is_client_only_text
+same_text bytes text is = ap (λ l. same_bytes l bytes) is
 
 pub client_only_text-in_line : (bytes : List ℕ) → HasNoEnd bytes → HasNoEnd (client_only_text bytes)
 unfolding client_only_text

@@ -1,4 +1,3 @@
-mod ClientOnlyLemmas
 mod ClientTextLemmas
 mod CuttingLemmas
 mod EntriesLemmas

@@ -1,6 +1,9 @@
--- A list of tags that is made tag by tag, and the pairs that hold it.
-use Rattle.std.specs.Prelude.{◌≡◌, ℕ, ◌&&◌, List, [], ◌∷◌, Option, Some, Vec, map, if◌then◌else◌}
+-- A list of tags that is made tag by tag, and the entries of the map that holds it.
+use Rattle.std.specs.Prelude.{◌≡◌, ℕ, ◌&&◌, List, [], ◌∷◌, Option, Some, map, if◌then◌else◌}
+use Rattle.std.specs.Borrow.{Bor}
+use Rattle.std.specs.Cow.{cow_slice_items}
 use Rattle.std.specs.declared.alloc.Global.{Global}
+use Rattle.std.specs.declared.borrow.CowSlice.{CowSlice}
 use Rattle.irc_tags.specs.TagList.{Tag, has_key, same_bytes, tag_of}
 
 -- the tags with a value for a key, which keeps its place where it is there, and goes last where it is new
@@ -27,11 +30,14 @@ abbrev pub last_found : List ℕ → Option (List ℕ) → List Tag → Option (
 last_found key found [] = found
 last_found key found (tag ∷ tags) = last_found key (found_in key found tag) tags
 
--- the bytes of the keys and the values
-abbrev pub value_of : List (Vec ℕ Global × Vec ℕ Global) → List Tag
-value_of entries = map (λ e. (e.0.items, e.1.items)) entries
+-- a key that the line lends, and its value
+abbrev pub Held : Type 0
+Held = Bor (List ℕ) × CowSlice ℕ Global
 
--- the pairs take the tag that these bytes spell
-abbrev pub PutsTag : List (Vec ℕ Global × Vec ℕ Global) → List (Vec ℕ Global × Vec ℕ Global)
-    → List ℕ → Type 0
+-- the bytes of the keys and the values of a map
+abbrev pub value_of : List Held → List Tag
+value_of entries = map (λ e. (e.0.now, cow_slice_items e.1)) entries
+
+-- the map takes the tag that these bytes spell
+abbrev pub PutsTag : List Held → List Held → List ℕ → Type 0
 PutsTag old new bytes = value_of new ≡ with_tag (value_of old) (tag_of bytes)

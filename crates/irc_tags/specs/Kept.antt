@@ -1,13 +1,9 @@
--- Client-only tags one by one: which are written, and which stand as they are written.
+-- Client-only tags one by one: which of them stand as they are written.
 use Rattle.std.specs.Prelude.{ℕ, Bool, List, ◌&&◌}
 use Rattle.std.specs.Option.{is_none}
-use Rattle.irc_tags.specs.TagList.{Tag, same_bytes, tag_of, tag_list, value_at}
+use Rattle.irc_tags.specs.TagList.{same_bytes, tag_of, tag_list, value_at}
 use Rattle.irc_tags.specs.Text.{tag_text}
 use Rattle.irc_tags.specs.Standing.{is_client_only}
-
--- a client-only key that none of the tags before it has
-abbrev pub is_first_client_only : List Tag → List ℕ → Bool
-is_first_client_only tags key = is_client_only key && is_none (value_at key tags)
 
 -- a tag that is client-only and stands as it is written
 abbrev pub is_client_only_tag : List ℕ → Bool

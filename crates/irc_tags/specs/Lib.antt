@@ -5,7 +5,7 @@ pub mod TagList
 pub mod Text
 pub mod Standing
 pub mod ClientOnly
--- What the proofs use of the code: a list of tags that is made tag by tag, with the pairs that hold it, and client-only tags
+-- What the proofs use of the code: a list of tags that is made tag by tag, with the entries that hold it, and client-only tags
 -- one by one.
 pub mod Entries
 pub mod Kept

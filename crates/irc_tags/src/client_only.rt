@@ -1,74 +1,35 @@
-//! The client-only tags of tag data (IRCv3 message-tags, "Client-only tags"), without a list of the tags.
-ghost use Rattle.std.specs.Prelude.{◌≡◌, []};
-ghost use Rattle.std.specs.Option.{unwrap_or};
+//! The client-only tags of a line (IRCv3 message-tags, "Client-only tags").
+ghost use Rattle.std.specs.Prelude.{◌≡◌, true, IfOk};
 ghost use Rattle.byte_text.specs.Writes.{Writes};
-ghost use Rattle.irc_tags.specs.ClientOnly.{client_only_text, is_client_only_text};
-ghost use Rattle.irc_tags.specs.Kept.{is_first_client_only, is_client_only_tag, is_kept};
-ghost use Rattle.irc_tags.specs.TagList.{tag_list, value_at};
-ghost use Rattle.irc_tags.specs.Text.{value_part, tag_text};
-ghost use Rattle.irc_tags.specs.Value.{value_in};
+ghost use Rattle.irc_tags.specs.ClientOnly.{client_only_of, client_only_text, is_client_only_text};
+ghost use Rattle.irc_tags.specs.Kept.{is_client_only_tag, is_kept};
 
 use crate::lookup::find_spelled;
 use crate::tag::{cut_tag, is_client_only};
-use crate::text::put_separator;
-use crate::value::{is_value_as_written, is_value_empty, rewrite_value};
-use byte_text::{find_byte, put};
+use crate::tag_list::{Tags, tags_in};
+use crate::text::{put_separator, write_tag};
+use crate::value::{is_value_as_written, is_value_empty};
+use byte_text::find_byte;
+use std::alloc::{AllocError, Global};
 use std::io;
 use std::io::Write;
 
-/// Writes what stands behind a key: `=` and the value that the bytes spell, or nothing where that is empty.
-fn rewrite_value_part<W: Write>(spelled: &[u8], writer: &mut W) -> io::Result<()>
-    ensures { Writes W.contents writer.old writer.new result (value_part (value_in spelled.now)) }
+/// Writes those of the tags whose keys begin with `+`, in their order, as [`write_tags`](crate::write_tags) writes a list. At
+/// an error a prefix of them is written. It fails where the writer does, and takes no memory.
+pub fn write_client_only<W: Write>(tags: &Tags<'_>, writer: &mut W) -> io::Result<()>
+    ensures written { Writes W.contents writer.old writer.new result (client_only_of tags.now) }
+    // What is written is such text as [`is_client_only_text`] tells.
+    ensures as_written { is_client_only_text (client_only_of tags.now) ≡ true }
 {
-    if is_value_empty(spelled) {
-        return Ok(());
-    }
-    put(writer, b"=")?;
-    rewrite_value(spelled, writer)
-}
-
-/// Writes the tag of a key with the last value that the key has in tag data.
-fn write_last<W: Write>(bytes: &[u8], key: &[u8], writer: &mut W) -> io::Result<()>
-    ensures { Writes W.contents writer.old writer.new result
-        (tag_text (key.now, unwrap_or (value_at key.now (tag_list bytes.now)) [])) }
-{
-    put(writer, key)?;
-    match find_spelled(bytes, key) {
-        Some(spelled) => rewrite_value_part(spelled, writer),
-        None => Ok(()),
-    }
-}
-
-/// Whether a key begins with `+` and is that of no tag in the tag data before it.
-fn is_first_client_only(earlier: &[u8], key: &[u8]) -> bool
-    ensures { result ≡ is_first_client_only (tag_list earlier.now) key.now }
-{
-    is_client_only(key) && find_spelled(earlier, key).is_none()
-}
-
-/// Writes the client-only tags of tag data of any length, as `irc_tags` writes a list of them: of equal keys
-/// the last value counts, and the key keeps its first place; escapes are written anew; a key whose value is empty stands
-/// bare. At an error a prefix of them is written. It fails where the writer does, and takes no memory; its time grows with
-/// the square of the number of client-only tags.
-pub fn write_client_only<W: Write>(bytes: &[u8], writer: &mut W) -> io::Result<()>
-    ensures { Writes W.contents writer.old writer.new result (client_only_text bytes.now) }
-{
-    let mut start = 0;
     let mut count = 0;
-    while let Some(at) = find_byte(&bytes[start..], b';') {
-        let earlier = &bytes[..start];
-        let (key, _) = cut_tag(&bytes[start..start + at]);
-        start += at + 1;
-        if is_first_client_only(earlier, key) {
-            put_separator(count, writer)?;
-            write_last(bytes, key, writer)?;
-            count += 1;
+    for index in 0..tags.len() {
+        let (key, value) = tags.entry(index);
+        if !is_client_only(key) {
+            continue;
         }
-    }
-    let (key, _) = cut_tag(&bytes[start..]);
-    if is_first_client_only(&bytes[..start], key) {
         put_separator(count, writer)?;
-        write_last(bytes, key, writer)?;
+        write_tag(key, value, writer)?;
+        count += 1;
     }
     Ok(())
 }
@@ -90,9 +51,9 @@ fn is_kept(tag: &[u8], later: &[u8]) -> bool
     is_client_only_tag(tag) && find_spelled(later, key).is_none()
 }
 
-/// Whether tag data has client-only tags alone and stands as [`write_client_only`] writes it: keeping its client-only tags
-/// changes nothing. Empty tag data is such. It takes no memory; its time grows with the square of the number of tags.
-pub fn is_client_only_text(bytes: &[u8]) -> bool
+/// The same by comparing each key with those behind it. It takes no memory; its time grows with the square of the number of
+/// tags.
+fn is_kept_part_by_part(bytes: &[u8]) -> bool
     ensures { result ≡ is_client_only_text bytes.now }
 {
     if bytes.is_empty() {
@@ -107,4 +68,45 @@ pub fn is_client_only_text(bytes: &[u8]) -> bool
         }
     }
     is_client_only_tag(rest)
+}
+
+/// What [`write_client_only`] writes of the tags.
+fn text_of(alloc: Global, tags: &Tags<'_>) -> Result<Vec<u8>, AllocError>
+    ensures { IfOk result (λ text. text.items ≡ client_only_of tags.now) }
+{
+    let mut text = Vec::new(alloc);
+    // A `Vec` refuses bytes only where memory runs out.
+    if write_client_only(tags, &mut text).is_err() {
+        return Err(AllocError);
+    }
+    Ok(text)
+}
+
+/// The same of the tags of tag data.
+#[tactic(auto, using(crate::proofs::ClientTextLemmas::client_only_text_is))]
+fn client_only_text(alloc: Global, bytes: &[u8]) -> Result<Vec<u8>, AllocError>
+    ensures { IfOk result (λ text. text.items ≡ client_only_text bytes.now) }
+{
+    match tags_in(alloc, bytes) {
+        Ok(tags) => text_of(alloc, &tags),
+        Err(error) => Err(error),
+    }
+}
+
+/// So many bytes are few enough to be looked at without memory.
+const FEW_BYTES: usize = 64;
+
+/// Whether tag data has client-only tags alone and stands as [`write_client_only`] writes it: keeping its client-only tags
+/// changes nothing. Empty tag data is such. Where memory runs out it takes none, and its time then grows with the square of
+/// the number of tags.
+pub fn is_client_only_text(alloc: Global, bytes: &[u8]) -> bool
+    ensures { result ≡ is_client_only_text bytes.now }
+{
+    if bytes.len() <= FEW_BYTES {
+        return is_kept_part_by_part(bytes);
+    }
+    match client_only_text(alloc, bytes) {
+        Ok(text) => text.as_slice() == bytes,
+        Err(_) => is_kept_part_by_part(bytes),
+    }
 }

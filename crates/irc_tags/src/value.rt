@@ -64,22 +64,6 @@ pub fn write_value<W: Write>(value: &[u8], writer: &mut W) -> io::Result<()>
     Ok(())
 }
 
-/// Writes the value that the bytes spell with its escapes, whatever escapes they have.
-pub(crate) fn rewrite_value<W: Write>(bytes: &[u8], writer: &mut W) -> io::Result<()>
-    ensures { Writes W.contents writer.old writer.new result (value_text (value_in bytes.now)) }
-{
-    let mut rest = bytes;
-    while let Some(at) = find_byte(rest, b'\\') {
-        write_value(&rest[..at], writer)?;
-        let Some(next) = rest.get(at + 1) else {
-            return Ok(());
-        };
-        write_byte(unescape(*next), writer)?;
-        rest = &rest[at + 2..];
-    }
-    write_value(rest, writer)
-}
-
 /// Whether the bytes spell the empty value: none do, and a backslash at the end.
 pub(crate) fn is_value_empty(bytes: &[u8]) -> bool
     ensures { result ≡ length (value_in bytes.now) == 0 }
