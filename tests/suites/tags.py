@@ -2,6 +2,7 @@
 message-tags, "Client-only tags", "Escaping values" and "Size limit"; docs/PROTOCOL.md)."""
 
 import array
+import time
 
 from harness.client import page
 from harness.failure import Failed, expect
@@ -119,11 +120,16 @@ def tags_take_a_detour_over_a_peer(fixture):
     client.hear(*page(1, "#a", shown(ESCAPES)))
 
 
+# More tags than are looked at without memory.
+MANY = ";".join(f"+key{number}" for number in range(40))
 # Lines of a post with tags that close a connection between nodes.
 REFUSED = (
     ("an empty value behind =", "+y="),
     ("a key without +", "y=1"),
     ("a key twice", "+x;+x"),
+    ("a key twice among many", f"+x;{MANY};+x"),
+    ("an empty value behind = among many", f"{MANY};+y="),
+    ("a key without + among many", f"{MANY};y=1"),
     ("a byte too many", "+x=" + "x" * (MOST - 2)),
 )
 
@@ -189,6 +195,26 @@ def a_typing_notice_goes_to_those_that_know_tags(fixture):
         client.say("CHATHISTORY LATEST #a * 10")
         client.hear(*page(1, "#a"))
     plain.ping()
+
+
+@test
+def who_sends_a_typing_notice_gets_it_back_where_the_server_echoes(fixture):
+    """With `echo-message` and without it: a TAGMSG is no live line. Of a message the one without it hears nothing."""
+    node, server, session = begun(fixture, "echo-message message-tags")
+    echoes = node.client("a client with echo-message").register("echo-message message-tags")
+    silent = node.client("a client without it").register("message-tags")
+    plain = node.client("a client without tags").register("echo-message")
+    for number, speaker in enumerate((echoes, silent)):
+        speaker.say(f"@+typing=active;+at={number} TAGMSG #a", "PRIVMSG #a :hi")
+        session.hear(f"@+typing=active;+at={number} TAGMSG #a", "PRIVMSG #a :hi")
+        session.say(f"@+typing=active;+at={number} :al!a@h TAGMSG #a", f"@msgid=e{number} :al!a@h PRIVMSG #a :hi")
+        server.told(session)
+        for client in (echoes, silent):
+            client.hear(f"@+typing=active;+at={number} :al!a@h TAGMSG #a")
+        echoes.hear(f"@msgid=e{number} :al!a@h PRIVMSG #a :hi")
+        plain.hear(":al!a@h PRIVMSG #a :hi")
+        for client in (echoes, silent, plain):
+            client.ping()
 
 
 @test
@@ -295,13 +321,93 @@ def counts(fixture):
         return array.array("Q", file.read())
 
 
+def asked_for_records(fixture, tags):
+    """The same of messages with these tags, without what typing notices with the same tags ask for: the map of the tags."""
+    message, notice = (asked_for(fixture, lines_of(tags, *how)) for how in ((), ("TAGMSG", "")))
+    beside = {size: message.get(size, 0) - notice.get(size, 0) for size in {*message, *notice}}
+    return {size: count for size, count in beside.items() if count != 0}
+
+
 @test
-def a_line_asks_for_the_memory_of_its_record_alone(fixture):
-    """Whatever tags it has: those that aren't kept ask for none, and those that are for their bytes in a block that is there
-    without them. A typing notice asks for none."""
-    ten, two, none = (asked_for(fixture, lines_of(tags)) for tags in (TEN, "{};" + TWO, "{}"))
+def a_line_asks_for_the_memory_of_its_record_and_of_the_map_of_its_tags(fixture):
+    """Whatever tags it has: those that aren't kept ask for no more, and those that are for their bytes in a block that is there
+    without them."""
+    ten, two, none = (asked_for_records(fixture, tags) for tags in (TEN, "{};" + TWO, "{}"))
     expect("requests by their sizes", two, ten)
     expect("requests", sum(none.values()), sum(two.values()))
     more = sum(size * (two.get(size, 0) - none.get(size, 0)) for size in {*two, *none})
     expect("bytes for what is kept", LINES * len(TWO), more)
-    expect("requests for a typing notice", {}, asked_for(fixture, lines_of(TEN, "TAGMSG", "")))
+
+
+@test
+def the_map_of_few_tags_is_four_blocks(fixture):
+    """And a line without tags asks for none."""
+    notice = asked_for(fixture, lines_of("{};" + TWO, "TAGMSG", ""))
+    expect("at most four blocks for a line", True, sum(notice.values()) <= 4 * LINES)
+    bare = 2 * LINES * [":bob!b@h TAGMSG #a"]
+    expect("requests without tags", {}, asked_for(fixture, bare))
+
+
+# What a line costs is measured so often, over so many hundred lines.
+ROUNDS, HUNDREDS = 5, 2
+# Within so many seconds a PING is answered, which is tried so often at most.
+SOON, MOST_ROUNDS = 0.02, 200
+# Each byte that may stand in a key.
+KEY_BYTES = [bytes([byte]) for byte in range(256) if byte not in b"\0\r\n ;="]
+# The most bytes of tags that a server's line has.
+SERVERS = 8189
+
+
+def most_keys(length):
+    """Client-only tags of so many bytes, of as many distinct keys as there can be: those of two bytes, and then of three."""
+    pairs = [b"+" + byte for byte in KEY_BYTES]
+    triples = (b"+" + one + other for one in KEY_BYTES for other in KEY_BYTES)
+    left = (length + 1 - 3 * len(pairs)) // 4
+    return b";".join(pairs + [next(triples) for _ in range(left)])
+
+
+@test
+def a_line_of_the_most_keys_holds_up_nobody(fixture):
+    """While a client sends 14 of them, another's PING at the same worker is answered within 20 ms: the quickest answer counts,
+    since other tests may have the processors meanwhile."""
+    node, server, session = begun(fixture, workers=1)
+    speaker, other = node.client("the speaker").register(), node.client("another").register()
+    line = b"@" + most_keys(MOST) + b" PRIVMSG #a :hi\r\n"
+    answered = []
+    while len(answered) < ROUNDS or min(answered) > SOON and len(answered) < MOST_ROUNDS:
+        speaker.send(14 * line)
+        began = time.monotonic()
+        other.ping()
+        answered.append(time.monotonic() - began)
+        speaker.ping()
+        for _ in range(14):
+            session.line("a line of the speaker")
+    fixture.notes.append(f"answered within {1000 * min(answered):.1f} ms")
+    if min(answered) > SOON:
+        raise Failed(f"another client's PING was answered after {min(answered):.3f} seconds")
+
+
+@test
+def the_most_keys_of_a_servers_line(fixture):
+    """Take at most ten times the processor time of one tag of as many bytes."""
+    node, server, session = begun(fixture, workers=1)
+    keys = most_keys(SERVERS)
+    one = b"+x=" + (len(keys) - 3) * b"x"
+    many, single = (least_seconds(node, session, b"@" + tags + b" :bob!b@h PRIVMSG #a :hi\r\n") for tags in (keys, one))
+    fixture.notes.append(f"{many / single:.1f} times the time of one tag")
+    if many > 10 * single:
+        raise Failed(f"{HUNDREDS} hundred lines take {many:.3f} seconds with {keys.count(b';') + 1} keys, {single:.3f} with one tag")
+
+
+def least_seconds(node, session, line):
+    """The least processor time in which a node takes some hundred such lines of its server."""
+    return min(seconds_of(node, session, line) for _ in range(ROUNDS))
+
+
+def seconds_of(node, session, line):
+    before = node.processor_seconds()
+    for _ in range(HUNDREDS):
+        session.send(100 * line)
+        session.say("PING :taken")
+        session.hear("PONG :taken")
+    return node.processor_seconds() - before

@@ -38,7 +38,7 @@ released Free = Free
 released Held = Free
 released Done = Done
 
--- what a line comes to: the negotiation after it, and the line that answers it
+-- what a line does: the negotiation after it, and the line that answers it
 pub record NegotiationStep : Type 0 where
   pub negotiation : Negotiation
   pub line : Option (List ℕ)

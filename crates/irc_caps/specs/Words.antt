@@ -33,7 +33,7 @@ wish_of (b ∷ name) =
     then option_map (λ c. record { capability = c; is_held = false }) (capability_of name)
     else option_map (λ c. record { capability = c; is_held = true }) (capability_of (b ∷ name))
 
--- the most bytes of a list that is told again whole
+-- the most bytes of a list that is repeated whole
 abbrev pub list_limit : ℕ
 list_limit = 200
 

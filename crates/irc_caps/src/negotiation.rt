@@ -11,7 +11,7 @@ use irc_reply::{echoed, need_more_params, reply_text};
 use std::alloc::Global;
 use std::marker::Model;
 
-/// The most bytes of a list that is told again whole.
+/// The most bytes of a list that is repeated whole.
 const LIST_LIMIT: usize = 200;
 
 /// The capabilities that a session holds, and how far its registration is.
@@ -53,7 +53,7 @@ fn cap_line(
     reply_text(alloc, cluster, b"CAP", &[nick, subcommand], Some(list))
 }
 
-/// The part of a list that is told again.
+/// The part of a list that is repeated.
 fn prefix(list: &[u8]) -> &[u8]
     ensures { result.now ≡ take list_limit list.now }
 {

@@ -49,7 +49,7 @@ impl Model for Feeder {
 pub enum Next<'a> {
     /// A line of at most 8703 bytes with its LF, here without the LF and without one CR directly before it.
     Line(&'a [u8]),
-    /// A line of more than 8703 bytes with its LF. It is told of once, and its rest is skipped up to its LF.
+    /// A line of more than 8703 bytes with its LF. It is reported once, and its rest is skipped up to its LF.
     TooLong,
     /// Nothing before more bytes are fed.
     More,

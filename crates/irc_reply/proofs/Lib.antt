@@ -1,2 +1,3 @@
 mod ReplyLemmas
+mod TaggedLemmas
 pub mod CallerLemmas

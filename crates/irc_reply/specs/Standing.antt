@@ -27,7 +27,7 @@ pub record CanBeRefusal (words : List (List ℕ)) (text : List ℕ) : Type 0 whe
 abbrev pub target_limit : ℕ
 target_limit = 200
 
--- the most bytes of another word that is told again
+-- the most bytes of another word that is repeated
 abbrev pub word_limit : ℕ
 word_limit = 64
 

@@ -66,7 +66,7 @@ abbrev pub not_connected : List ℕ → List ℕ → List ℕ → List ℕ
 not_connected cluster nick network =
     reply cluster (codes "NOTICE") (nick ∷ []) (Some (codes "Not connected to " ++ network))
 
--- ---- the refusals of REDACT (IRCv3 draft/message-redaction), in the order in which they are told
+-- ---- the refusals of REDACT (IRCv3 draft/message-redaction), in their order
 
 -- the target or the id is missing
 abbrev pub redact_needs_more : List ℕ → List ℕ

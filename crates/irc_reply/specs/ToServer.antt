@@ -2,8 +2,9 @@
 use Rattle.std.specs.Prelude.{ℕ, List, [], ◌∷◌, ◌++◌, codes, take, Option, None, Some}
 use Rattle.byte_text.specs.Bytes.{line_ending}
 use Rattle.irc_line.specs.Read.{text_in}
+use Rattle.irc_tags.specs.TagList.{Tag}
 use Rattle.irc_reply.specs.Reply.{plain_line}
-use Rattle.irc_reply.specs.Tagged.{tag_part, client_tags}
+use Rattle.irc_reply.specs.Tagged.{tag_part, client_tags, kept_text}
 
 abbrev pub ls_line : List ℕ
 ls_line = plain_line (codes "CAP") (codes "LS" ∷ codes "302" ∷ []) None
@@ -37,3 +38,7 @@ passed_line bytes = text_in bytes ++ line_ending
 -- the same with its client-only tags in front, of the tag data that it has
 abbrev pub tagged_line : Option (List ℕ) → List ℕ → List ℕ
 tagged_line tags bytes = tag_part (client_tags tags) ++ passed_line bytes
+
+-- the same of tags that were read
+abbrev pub line_of_tags : Option (List Tag) → List ℕ → List ℕ
+line_of_tags tags bytes = tag_part (kept_text tags) ++ passed_line bytes

@@ -2,13 +2,13 @@
 ghost use Rattle.std.specs.Prelude.{◌≡◌, ◌++◌, map, IfOk};
 ghost use Rattle.std.specs.Option.{option_copied};
 ghost use Rattle.byte_text.specs.Bytes.{line_ending};
-ghost use Rattle.irc_tags.specs.ClientOnly.{client_only_text};
-ghost use Rattle.irc_reply.specs.Tagged.{tag_part, client_tags};
+ghost use Rattle.irc_tags.specs.ClientOnly.{client_only_of};
+ghost use Rattle.irc_reply.specs.Tagged.{client_tags, tag_part, kept_text};
 ghost use Rattle.irc_reply.specs.Reply as spec;
 
 use byte_text::{NoMemory, Text};
 use irc_line::{OutLine, line_text};
-use irc_tags::write_client_only;
+use irc_tags::{Tags, line_tags, write_client_only};
 use std::alloc::{AllocError, Global};
 
 /// A line of that source, which is mostly the cluster, with its ending.
@@ -90,11 +90,10 @@ pub(crate) fn put_with_ending(line: &mut Vec<u8>, text: &[u8]) -> Result<(), All
     Ok(())
 }
 
-/// Puts the client-only tags of a line's tag data, as they are written, with `@` in front and a space behind them; nothing
-/// where there are none.
-pub(crate) fn put_client_tags(line: &mut Vec<u8>, tags: Option<&[u8]>) -> Result<(), NoMemory>
-    ensures { IfOk result (λ _. line.new.items
-        ≡ line.old.items ++ tag_part (client_tags (option_copied tags.entry))) }
+/// Puts the client-only tags of the tags that a line bears, as they are written, with `@` in front and a space behind them;
+/// nothing where there are none.
+pub(crate) fn put_client_tags(line: &mut Vec<u8>, tags: &Option<Tags<'_>>) -> Result<(), NoMemory>
+    ensures { IfOk result (λ _. line.new.items ≡ line.old.items ++ tag_part (kept_text tags.now)) }
 {
     match tags {
         None => Ok(()),
@@ -102,9 +101,9 @@ pub(crate) fn put_client_tags(line: &mut Vec<u8>, tags: Option<&[u8]>) -> Result
     }
 }
 
-fn put_tag_part(line: &mut Vec<u8>, tags: &[u8]) -> Result<(), NoMemory>
+fn put_tag_part(line: &mut Vec<u8>, tags: &Tags<'_>) -> Result<(), NoMemory>
     ensures { IfOk result (λ _. line.new.items
-        ≡ line.old.items ++ tag_part (client_only_text tags.now)) }
+        ≡ line.old.items ++ tag_part (client_only_of tags.now)) }
 {
     line.extend_from_slice(b"@")?;
     let start = line.len();
@@ -117,5 +116,15 @@ fn put_tag_part(line: &mut Vec<u8>, tags: &[u8]) -> Result<(), NoMemory>
     } else {
         line.extend_from_slice(b" ")?;
     }
+    Ok(())
+}
+
+/// The same of the tag data of a line.
+pub(crate) fn put_line_tags(line: &mut Vec<u8>, tags: Option<&[u8]>) -> Result<(), NoMemory>
+    ensures { IfOk result (λ _. line.new.items
+        ≡ line.old.items ++ tag_part (client_tags (option_copied tags.entry))) }
+{
+    let read = line_tags(*line.allocator(), tags)?;
+    put_client_tags(line, &read)?;
     Ok(())
 }

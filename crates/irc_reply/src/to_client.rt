@@ -8,7 +8,7 @@ ghost use Rattle.irc_reply.specs.Reply.{unknown_text, too_long_text, fail_text};
 ghost use Rattle.irc_reply.specs.ToClient as spec;
 
 use crate::echo::echoed;
-use crate::text::{followed_by, plain_line, put_client_tags, put_with_ending, reply_text};
+use crate::text::{followed_by, plain_line, put_line_tags, put_with_ending, reply_text};
 use byte_text::{NoMemory, Text};
 use irc_line::text_of;
 use std::alloc::{AllocError, Global};
@@ -306,7 +306,7 @@ pub fn tagged_line(
     let mut line = room;
     line.clear();
     line.reserve(bytes.len() + MOST_BYTES)?;
-    put_client_tags(&mut line, tags)?;
+    put_line_tags(&mut line, tags)?;
     put_source(&mut line, source)?;
     put_with_ending(&mut line, text_of(bytes))?;
     Ok(Text::of(line))

@@ -4,9 +4,10 @@ ghost use Rattle.std.specs.Prelude.{◌≡◌, ◌≤◌, IfOk};
 ghost use Rattle.std.specs.Option.{option_copied};
 ghost use Rattle.irc_reply.specs.ToServer as spec;
 
-use crate::text::{followed_by, plain_line, put_client_tags, put_with_ending};
+use crate::text::{followed_by, plain_line, put_client_tags, put_line_tags, put_with_ending};
 use byte_text::{NoMemory, Text};
 use irc_line::text_of;
+use irc_tags::Tags;
 use std::alloc::Global;
 
 /// `CAP LS 302`: asks for the server's capabilities.
@@ -89,6 +90,18 @@ pub fn passed_line(room: Vec<u8>, bytes: &[u8]) -> Result<Text, NoMemory>
 pub fn tagged_line(room: Vec<u8>, tags: Option<&[u8]>, bytes: &[u8]) -> Result<Text, NoMemory>
     ensures { IfOk result (λ text. text
         ≡ spec.tagged_line (option_copied tags.entry) bytes.now) }
+{
+    let mut line = room;
+    line.clear();
+    line.reserve(bytes.len() + 2)?;
+    put_line_tags(&mut line, tags)?;
+    put_with_ending(&mut line, text_of(bytes))?;
+    Ok(Text::of(line))
+}
+
+/// The same of tags that were read.
+pub fn line_of_tags(room: Vec<u8>, tags: &Option<Tags<'_>>, bytes: &[u8]) -> Result<Text, NoMemory>
+    ensures { IfOk result (λ text. text ≡ spec.line_of_tags tags.now bytes.now) }
 {
     let mut line = room;
     line.clear();

@@ -3,6 +3,7 @@ mod EventLemmas
 mod SentLemmas
 mod LinesLemmas
 mod JoinLemmas
+mod KeptLemmas
 mod ChannelLemmas
 mod RefusalLemmas
 mod PassingLemmas

@@ -12,7 +12,7 @@ is_greeting word =
     || (str_eq_ignore_ascii_case word (codes "004")
     || str_eq_ignore_ascii_case word (codes "005")))
 
--- a word about the connection itself: its registration, PING or ERROR; any other is none of those that are told apart
+-- a word about the connection itself: its registration, PING or ERROR; any other is of no kind of its own
 unfoldable pub connection_command_of : List ℕ → ServerCommand
 connection_command_of word =
     if str_eq_ignore_ascii_case word (codes "PING") then Ping

@@ -1,5 +1,5 @@
 -- what a reader must believe: the commands of a server, what a session keeps, what it makes of a
--- message, what each line and each saying comes to, by which words a server refuses, lists of these, and
+-- message, what each line and each saying does, by which words a server refuses, lists of these, and
 -- under which conditions each text that is written is one line
 pub mod Command
 pub mod Step

@@ -3,6 +3,8 @@ use Rattle.std.specs.Prelude.{ℕ, Bool, ◌&&◌, ◌==◌, List, [], ◌++◌,
 use Rattle.std.specs.List.{before_first}
 use Rattle.std.specs.Str.{str_eq_ignore_ascii_case}
 use Rattle.std.specs.Fmt.{decimal}
+use Rattle.std.specs.Option.{option_map}
+use Rattle.irc_tags.specs.ClientOnly.{client_only_of}
 use Rattle.irc_tags.specs.TagList.{Tag, tag_list, value_at}
 use Rattle.irc_time.specs.Reading.{time_of}
 use Rattle.irc_reply.specs.Tagged.{client_tags}
@@ -70,9 +72,13 @@ stamp_in tags now = record {
   at = moment_if (value_at (codes "time") tags) now;
 }
 
+-- the same of a line that may have no tags
+abbrev pub stamp_read : Option (List Tag) → ℕ → Stamp
+stamp_read None now = record { id = None; at = now }
+stamp_read (Some tags) now = stamp_in tags now
+
 abbrev pub stamp_of : Option (List ℕ) → ℕ → Stamp
-stamp_of None now = record { id = None; at = now }
-stamp_of (Some text) now = stamp_in (tag_list text) now
+stamp_of tags now = stamp_read (option_map tag_list tags) now
 
 -- an id that this node makes: its name, its incarnation and a serial number that it uses once
 abbrev pub made_text : Home → ℕ → List ℕ
@@ -88,6 +94,11 @@ made_id home serial = id_if (Some (made_text home serial))
 -- what a record keeps of a line's tags: its client-only tags as they are written, or none where they can't be kept
 abbrev pub kept_tags : Option (List ℕ) → List ℕ
 kept_tags tags = if is_tags (client_tags tags) then client_tags tags else []
+
+-- the same of the tags that were read of it
+abbrev pub kept_read : Option (List Tag) → List ℕ
+kept_read None = []
+kept_read (Some tags) = if is_tags (client_only_of tags) then client_only_of tags else []
 
 -- ---- records
 

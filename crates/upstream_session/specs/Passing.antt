@@ -1,4 +1,4 @@
--- Lines of a server that are passed on, and come to nothing else.
+-- Lines of a server that are passed on, and do nothing else.
 use Rattle.std.specs.Prelude.{ℕ, Bool, true, false, not, ◌&&◌, List, [], ◌∷◌, Result, Ok, Err}
 use Rattle.irc_line.specs.declared.line.LineFault.{LineFault}
 use Rattle.irc_line.specs.declared.line.TagLimit.TheVariants.{Server}

@@ -1,4 +1,4 @@
--- What each line of a server comes to (RFC 2812, sections 3 and 5; IRCv3 capability negotiation, message-tags, server-time
+-- What each line of a server does (RFC 2812, sections 3 and 5; IRCv3 capability negotiation, message-tags, server-time
 -- and draft/message-redaction).
 use Rattle.std.specs.Prelude.{ℕ, Bool, ◌+◌, ◌==◌, ◌&&◌, nat_lt, true, List, [], ◌∷◌, ◌++◌, codes, Option, None, Some, if◌then◌else◌}
 use Rattle.std.specs.Str.{str_eq_ignore_ascii_case, bytes_eq}

@@ -1,4 +1,4 @@
--- What a client's line comes to that goes to the server.
+-- What a client's line for the server does.
 use Rattle.std.specs.Prelude.{ℕ, Bool, ◌+◌, ◌-◌, ◌==◌, ◌&&◌, not, List, [], ◌∷◌, length, take, drop, Option, None, Some, Result, Ok, Err, if◌then◌else◌}
 use Rattle.std.specs.Str.{bytes_eq}
 use Rattle.byte_text.specs.Bytes.{line_ending}
@@ -9,7 +9,8 @@ use Rattle.irc_line.specs.Read.{read}
 use Rattle.chat_change.specs.Message.{Message}
 use Rattle.chat_change.specs.declared.message.Kind.{Kind}
 use Rattle.chat_change.specs.declared.message.Kind.TheVariants as kind
-use Rattle.irc_reply.specs.ToServer.{passed_line, tagged_line}
+use Rattle.irc_reply.specs.ToServer.{line_of_tags, passed_line, tagged_line}
+use Rattle.irc_tags.specs.TagList.{Tag}
 use Rattle.upstream_session.specs.Command.{command_of}
 use Rattle.upstream_session.specs.declared.command.ServerCommand.{ServerCommand}
 use Rattle.upstream_session.specs.declared.command.ServerCommand.TheVariants.{Privmsg, Notice, Tagmsg}
@@ -18,7 +19,7 @@ use Rattle.upstream_session.specs.declared.connection.Connection.{Connection}
 use Rattle.upstream_session.specs.declared.effect.UpEffect.{UpEffect}
 use Rattle.upstream_session.specs.declared.effect.UpEffect.TheVariants.{Send}
 use Rattle.upstream_session.specs.Step.{ServerStep, stays, closes}
-use Rattle.upstream_session.specs.Messages.{can_be_kept, made_id, kept_tags, post}
+use Rattle.upstream_session.specs.Messages.{can_be_kept, made_id, kept_read, kept_tags, post}
 
 -- a client's line may stand with its CR LF, or without
 abbrev pub without_ending : List ℕ → List ℕ
@@ -38,6 +39,10 @@ sent_tags u tags = if u.held.message_tags then tags else None
 abbrev pub send_tagged : Option (List ℕ) → List ℕ → List UpEffect
 send_tagged tags text = Send (tagged_line tags text) ∷ []
 
+-- the same of tags that were read
+abbrev pub send_of_tags : Option (List Tag) → List ℕ → List UpEffect
+send_of_tags tags text = Send (line_of_tags tags text) ∷ []
+
 -- a TAGMSG, which doesn't go to a server that takes no tags
 abbrev pub say_tagmsg : Connection → List ℕ → Option (List ℕ) → ServerStep
 say_tagmsg u text tags =
@@ -56,6 +61,15 @@ say_by_id u now text tags m None = stays u (send_tagged tags text)
 say_by_id u now text tags m (Some id) = record {
   session = record u { serial = u.serial + 1 };
   effects = Send (tagged_line tags text) ∷ post u id now (kept_tags tags) m ∷ [];
+}
+
+-- the same of tags that were read
+abbrev pub say_of_tags : Connection → ℕ → List ℕ → Option (List Tag) → Message → Option (List ℕ)
+    → ServerStep
+say_of_tags u now text tags m None = stays u (send_of_tags tags text)
+say_of_tags u now text tags m (Some id) = record {
+  session = record u { serial = u.serial + 1 };
+  effects = Send (line_of_tags tags text) ∷ post u id now (kept_read tags) m ∷ [];
 }
 
 abbrev pub say_kept : Connection → ℕ → List ℕ → Option (List ℕ) → Message → ServerStep

@@ -27,12 +27,12 @@ abbrev pub reading_step : Connection → ℕ → List ℕ → Result Reading Lin
 reading_step u now bytes (Err fault) = stays u []
 reading_step u now bytes (Ok line) = serve u now bytes line (command_of line.command)
 
--- what a line of the server comes to, at that moment
+-- what a line of the server does, at that moment
 unfoldable pub step : Connection → ℕ → List ℕ → ServerStep
 step u now bytes =
     if u.is_closed then stays u [] else reading_step u now bytes (read Server bytes)
 
--- what a line of a client comes to, at that moment
+-- what a line of a client does, at that moment
 unfoldable pub say : Connection → ℕ → List ℕ → ServerStep
 say u now bytes = if u.is_closed then stays u [] else say_line u now (without_ending bytes)
 
@@ -45,7 +45,7 @@ joined_in u (Ok line) = joined_by u line (command_of line.command)
 abbrev pub joined : Connection → List ℕ → Option (List ℕ)
 joined u bytes = if u.is_closed then None else joined_in u (read Server bytes)
 
--- no channel comes to these: they stay, or one is left
+-- no channel joins these: they stay, or one is left
 abbrev pub JoinsNone : List (List ℕ) → List (List ℕ) → Type 0
 JoinsNone before after =
     (after ≡ before) ⊎ ((channel : List ℕ) × (after ≡ without_channel before channel))

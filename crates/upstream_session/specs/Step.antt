@@ -1,4 +1,4 @@
--- What a line comes to, and how a session begins.
+-- What a line does, and how a session begins.
 use Rattle.std.specs.Prelude.{ℕ, true, false, List, [], ◌∷◌}
 use Rattle.irc_caps.specs.CapSet.{no_capabilities}
 use Rattle.cluster_directory.specs.declared.config.SessionConfig.{SessionConfig}

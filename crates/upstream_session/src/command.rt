@@ -30,8 +30,8 @@ fn is_greeting(word: &[u8]) -> bool
         || word.eq_ignore_ascii_case(b"005")
 }
 
-// The command of a word that is about the connection itself: its registration, PING or ERROR. Any other is none of those that
-// are told apart.
+// The command of a word that is about the connection itself: its registration, PING or ERROR. Any other
+// is of no kind of its own.
 #[tactic(auto, unfolding(crate::specs::Command::connection_command_of))]
 fn connection_command_of(word: &[u8]) -> ServerCommand
     ensures { result ≡ spec.connection_command_of word.now }

@@ -8,7 +8,7 @@ use irc_caps::Recipients;
 pub enum UpEffect {
     /// Write these bytes to the server. They end with CR LF.
     Send(Text),
-    /// Take this change: a message, which is told to the sessions that hear it as it comes, or a redaction.
+    /// Take this change: a message, which goes to the sessions that hear it as it comes, or a redaction.
     Put(Change),
     /// Pass these bytes on to sessions of the account and the network. They end with CR LF.
     Relay(Text, Recipients),

@@ -120,8 +120,8 @@ pub fn refusals_are_few_printable_words()
         → IsShown before → IsShown (refusal_after u before bytes) }
 {}
 
-/// A line that is only passed on leaves the session and the words of its refusal as they were, and comes to nothing but that one
-/// line for clients at most.
+/// A line that is only passed on leaves the session and the words of its refusal as they were, and gives that one line for
+/// clients at most.
 pub fn what_is_only_passed_on_changes_nothing()
     ensures session { (u : Connection) (now : ℕ) (bytes : List ℕ)
         → is_passed_on bytes ≡ true → after u (Line now bytes) ≡ u }

@@ -1,10 +1,8 @@
 //! What a session makes of a message: its source, the conversation that it belongs to, its id, its moment and its tags.
 ghost use Rattle.std.specs.Prelude.{◌≡◌, ◌<◌, ◌++◌, [], codes, length, true, None, IfOk, OnOk, OnErr};
-ghost use Rattle.std.specs.Option.{option_copied, option_map};
-ghost use Rattle.std.specs.Cow.{cow_slice_items};
+ghost use Rattle.std.specs.Option.{option_copied};
 ghost use Rattle.std.specs.Fmt.{decimal};
 ghost use Rattle.chat_change.specs.Message.{value_of};
-ghost use Rattle.irc_tags.specs.TagList.{tag_list};
 ghost use Rattle.upstream_session.specs.Messages as spec;
 
 use crate::connection::{Connection, Home};
@@ -15,10 +13,9 @@ use byte_text::{NoMemory, find_byte};
 use chat_change::{
     Change, ID_LIMIT, Message, Moment, MsgId, Record, is_id, is_message, lawful_id, lawful_record,
 };
-use irc_tags::find_two_tags;
+use irc_tags::Tags;
 use irc_time::read_time;
 use std::alloc::Global;
-use std::borrow::CowSlice;
 
 /// The id and the moment that a message bears.
 #[derive(Drop)]
@@ -85,28 +82,21 @@ fn moment_if(text: Option<&[u8]>, now: Moment) -> Moment
     }
 }
 
-fn bytes_of<'a>(value: &'a Option<CowSlice<'_, u8>>) -> Option<&'a [u8]>
-    ensures { option_copied result ≡ option_map cow_slice_items value.now }
+fn stamp_in(alloc: Global, tags: &Tags<'_>, now: Moment) -> Result<Stamp, NoMemory>
+    ensures { IfOk result (λ stamp. stamp ≡ spec.stamp_in tags.now now) }
 {
-    match value {
-        None => None,
-        Some(text) => Some(text.as_slice()),
-    }
-}
-
-fn stamp_in(alloc: Global, tags: &[u8], now: Moment) -> Result<Stamp, NoMemory>
-    ensures { IfOk result (λ stamp. stamp ≡ spec.stamp_in (tag_list tags.now) now) }
-{
-    let (id, at) = find_two_tags(alloc, tags, b"msgid", b"time")?;
-    let at = moment_if(bytes_of(&at), now);
-    let id = id_if(alloc, bytes_of(&id))?;
+    let at = moment_if(tags.get(b"time"), now);
+    let id = id_if(alloc, tags.get(b"msgid"))?;
     Ok(Stamp { id, at })
 }
 
-/// The id and the moment that the tags of a line give (IRCv3 message-ids and server-time). A tag without escapes is read
-/// where it stands.
-pub(crate) fn stamp_of(alloc: Global, tags: Option<&[u8]>, now: Moment) -> Result<Stamp, NoMemory>
-    ensures { IfOk result (λ stamp. stamp ≡ spec.stamp_of (option_copied tags.entry) now) }
+/// The id and the moment that the tags of a line give (IRCv3 message-ids and server-time).
+pub(crate) fn stamp_of(
+    alloc: Global,
+    tags: &Option<Tags<'_>>,
+    now: Moment,
+) -> Result<Stamp, NoMemory>
+    ensures { IfOk result (λ stamp. stamp ≡ spec.stamp_read tags.now now) }
 {
     match tags {
         None => Ok(Stamp { id: None, at: now }),
@@ -207,12 +197,12 @@ impl Connection {
         scratch: &mut Scratch,
         id: MsgId,
         at: Moment,
-        tags: Option<&[u8]>,
+        tags: &Option<Tags<'_>>,
         message: Message<'_>,
     ) -> Result<UpEffect, NoMemory>
         requires { spec.can_be_kept self.now (value_of message) ≡ true }
         ensures { IfOk result (λ effect. effect ≡ spec.post self.now id at
-            (spec.kept_tags (option_copied tags.entry)) (value_of message.entry)) }
+            (spec.kept_read tags.now) (value_of message.entry)) }
     {
         let talk = self.conversation(message.source, message.target);
         let buffer = scratch.buffers.buffer_for(alloc, &self.home, talk)?;

@@ -1,4 +1,4 @@
-//! Lines of a server that are passed on, and come to nothing else.
+//! Lines of a server that are passed on, and do nothing else.
 ghost use Rattle.std.specs.Prelude.{◌≡◌};
 ghost use Rattle.upstream_session.specs.Passing as spec;
 

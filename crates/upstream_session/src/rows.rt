@@ -1,8 +1,9 @@
-//! What each line of a server comes to.
+//! What each line of a server does.
 ghost use Rattle.std.specs.Prelude.{◌≡◌, ◌++◌, ◌∷◌, [], map, true, IfOk, OnErr};
-ghost use Rattle.std.specs.Option.{option_copied};
+ghost use Rattle.std.specs.Option.{option_copied, option_map};
 ghost use Rattle.std.specs.Str.{bytes_eq};
 ghost use Rattle.irc_caps.specs.Negotiation.{list_in};
+ghost use Rattle.irc_tags.specs.TagList.{tag_list};
 ghost use Rattle.chat_change.specs.Message.{value_of};
 ghost use Rattle.chat_change.specs.Words as words;
 ghost use Rattle.upstream_session.specs.Messages as messages;
@@ -23,6 +24,7 @@ use irc_caps::{Capability, Recipients, request, with_acknowledged, with_offers};
 use irc_line::Line;
 use irc_reply::to_client::{relayed_line, tagged_line};
 use irc_reply::to_server::{cap_end, join_line, nick_line, pong_line, with_underscores};
+use irc_tags::{Tags, line_tags};
 use std::alloc::Global;
 
 fn is_star(word: &[u8]) -> bool
@@ -431,21 +433,24 @@ impl Connection {
         Ok(effects)
     }
 
-    // A message is kept under that id, with the tags of its line.
+    // A message is kept under that id, with the tags that were read of its line.
+    #[tactic(auto, using(crate::proofs::KeptLemmas::kept_tags_read))]
     fn keep_under(
         &self,
         alloc: Global,
         scratch: &mut Scratch,
         line: &Line<'_>,
+        tags: &Option<Tags<'_>>,
         message: Message<'_>,
         id: MsgId,
         at: Moment,
     ) -> Result<Vec<UpEffect>, NoMemory>
-        requires { messages.can_be_kept self.now (value_of message) ≡ true }
+        requires can { messages.can_be_kept self.now (value_of message) ≡ true }
+        requires tags { tags.now ≡ option_map tag_list line.now.tags }
         ensures { IfOk result (λ list. list.items ≡ messages.post self.now id at
             (messages.kept_tags line.now.tags) (value_of message.entry) ∷ []) }
     {
-        let post = self.post(alloc, scratch, id, at, line.tags(), message)?;
+        let post = self.post(alloc, scratch, id, at, tags, message)?;
         scratch.one(alloc, post)
     }
 
@@ -454,11 +459,13 @@ impl Connection {
         alloc: Global,
         scratch: &mut Scratch,
         line: &Line<'_>,
+        tags: &Option<Tags<'_>>,
         bytes: &[u8],
         message: Message<'_>,
         at: Moment,
     ) -> Result<(MessageOutcome, Vec<UpEffect>), NoMemory>
-        requires { messages.can_be_kept self.now (value_of message) ≡ true }
+        requires can { messages.can_be_kept self.now (value_of message) ≡ true }
+        requires tags { tags.now ≡ option_map tag_list line.now.tags }
         ensures { IfOk result (λ r. record { session = after r.0 self.now; effects = r.1.items }
             ≡ spec.keep_made self.now line.now bytes.now (value_of message.entry) at) }
     {
@@ -472,7 +479,7 @@ impl Connection {
                 Ok((MessageOutcome::Stays, list))
             }
             Some(id) => {
-                let list = self.keep_under(alloc, scratch, line, message, id, at)?;
+                let list = self.keep_under(alloc, scratch, line, tags, message, id, at)?;
                 Ok((MessageOutcome::Counts(self.serial + 1), list))
             }
         }
@@ -483,20 +490,22 @@ impl Connection {
         alloc: Global,
         scratch: &mut Scratch,
         line: &Line<'_>,
+        tags: &Option<Tags<'_>>,
         bytes: &[u8],
         message: Message<'_>,
         stamp: Stamp,
     ) -> Result<(MessageOutcome, Vec<UpEffect>), NoMemory>
-        requires { messages.can_be_kept self.now (value_of message) ≡ true }
+        requires can { messages.can_be_kept self.now (value_of message) ≡ true }
+        requires tags { tags.now ≡ option_map tag_list line.now.tags }
         ensures { IfOk result (λ r. record { session = after r.0 self.now; effects = r.1.items }
             ≡ spec.keep_stamped self.now line.now bytes.now (value_of message.entry)
             stamp.id stamp.at) }
     {
         let Stamp { id, at } = stamp;
         match id {
-            None => self.keep_made(alloc, scratch, line, bytes, message, at),
+            None => self.keep_made(alloc, scratch, line, tags, bytes, message, at),
             Some(id) => {
-                let list = self.keep_under(alloc, scratch, line, message, id, at)?;
+                let list = self.keep_under(alloc, scratch, line, tags, message, id, at)?;
                 Ok((MessageOutcome::Stays, list))
             }
         }
@@ -515,8 +524,9 @@ impl Connection {
             ≡ spec.keep self.now now line.now bytes.now (value_of message.entry)) }
     {
         if self.can_be_kept(message) {
-            let stamp = stamp_of(alloc, line.tags(), now)?;
-            self.keep_stamped(alloc, scratch, line, bytes, message, stamp)
+            let tags = line_tags(alloc, line.tags())?;
+            let stamp = stamp_of(alloc, &tags, now)?;
+            self.keep_stamped(alloc, scratch, line, &tags, bytes, message, stamp)
         } else {
             let list = relay_to_all(alloc, scratch, line, bytes)?;
             Ok((MessageOutcome::Stays, list))
@@ -691,7 +701,7 @@ impl Connection {
         scratch.one(alloc, UpEffect::Relay(text, to))
     }
 
-    /// What a line of the server comes to. For want of memory nothing changes.
+    /// What a line of the server does. For want of memory nothing changes.
     pub(crate) fn serve(
         &mut self,
         alloc: Global,

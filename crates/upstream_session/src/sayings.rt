@@ -1,5 +1,5 @@
-//! What a client's line comes to that goes to the server.
-ghost use Rattle.std.specs.Prelude.{◌≡◌, map, true, IfOk};
+//! What a client's line for the server does.
+ghost use Rattle.std.specs.Prelude.{◌≡◌, ◌<◌, map, true, IfOk};
 ghost use Rattle.std.specs.Option.{option_copied};
 ghost use Rattle.irc_line.specs.declared.line.TagLimit.TheVariants.{Client};
 ghost use Rattle.chat_change.specs.Message.{value_of};
@@ -18,7 +18,8 @@ use crate::scratch::Scratch;
 use byte_text::NoMemory;
 use chat_change::{Kind, Message, Moment};
 use irc_line::{Line, TagLimit, read_line};
-use irc_reply::to_server::{passed_line, tagged_line};
+use irc_reply::to_server::{line_of_tags, passed_line, tagged_line};
+use irc_tags::{Tags, line_tags};
 use std::alloc::Global;
 
 /// The line without the CR LF at its end, if it has that.
@@ -48,6 +49,19 @@ fn send_tagged(
         ≡ spec.send_tagged (option_copied tags.entry) text.now) }
 {
     let line = tagged_line(scratch.text_room(alloc), tags, text)?;
+    scratch.one(alloc, UpEffect::Send(line))
+}
+
+// The same of tags that were read.
+fn send_of_tags(
+    alloc: Global,
+    scratch: &mut Scratch,
+    tags: &Option<Tags<'_>>,
+    text: &[u8],
+) -> Result<Vec<UpEffect>, NoMemory>
+    ensures { IfOk result (λ list. list.items ≡ spec.send_of_tags tags.now text.now) }
+{
+    let line = line_of_tags(scratch.text_room(alloc), tags, text)?;
     scratch.one(alloc, UpEffect::Send(line))
 }
 
@@ -111,6 +125,33 @@ impl Connection {
         self.entry.is_up() && (!self.held.echo_message && self.can_be_kept(message))
     }
 
+    // The message goes with the tags that were read of its line, and is kept with them.
+    fn say_of_tags(
+        &self,
+        alloc: Global,
+        scratch: &mut Scratch,
+        now: Moment,
+        text: &[u8],
+        tags: &Option<Tags<'_>>,
+        message: Message<'_>,
+    ) -> Result<(MessageOutcome, Vec<UpEffect>), NoMemory>
+        requires can { messages.can_be_kept self.now (value_of message) ≡ true }
+        requires more { self.now.serial < LAST_SERIAL }
+        ensures { IfOk result (λ r. record { session = after r.0 self.now; effects = r.1.items }
+            ≡ spec.say_of_tags self.now now text.now tags.now (value_of message.entry)
+            (messages.made_id self.now.home self.now.serial)) }
+    {
+        let mut list = send_of_tags(alloc, scratch, tags, text)?;
+        match made_id(alloc, &self.home, self.serial)? {
+            None => Ok((MessageOutcome::Stays, list)),
+            Some(id) => {
+                let post = self.post(alloc, scratch, id, now, tags, message)?;
+                push(&mut list, post)?;
+                Ok((MessageOutcome::Counts(self.serial + 1), list))
+            }
+        }
+    }
+
     fn say_kept(
         &self,
         alloc: Global,
@@ -129,15 +170,9 @@ impl Connection {
             let list = one(alloc, UpEffect::Close)?;
             return Ok((MessageOutcome::Closes, list));
         }
-        let mut list = send_tagged(alloc, scratch, tags, text)?;
-        match made_id(alloc, &self.home, self.serial)? {
-            None => Ok((MessageOutcome::Stays, list)),
-            Some(id) => {
-                let post = self.post(alloc, scratch, id, now, tags, message)?;
-                push(&mut list, post)?;
-                Ok((MessageOutcome::Counts(self.serial + 1), list))
-            }
-        }
+        let read = line_tags(alloc, tags)?;
+        let said = self.say_of_tags(alloc, scratch, now, text, &read, message)?;
+        Ok(said)
     }
 
     fn say_message(
@@ -189,7 +224,7 @@ impl Connection {
         }
     }
 
-    // What a client's line comes to that could be read.
+    // What a client's line that could be read does.
     fn say_command(
         &self,
         alloc: Global,
@@ -227,7 +262,7 @@ impl Connection {
         }
     }
 
-    /// What a client's line comes to, which stands without its ending.
+    /// What a client's line does, which stands without its ending.
     pub(crate) fn say_line(
         &self,
         alloc: Global,

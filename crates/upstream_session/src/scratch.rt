@@ -1,16 +1,15 @@
 //! What a session keeps from line to line, so that a line asks for less memory.
-ghost use Rattle.std.specs.Prelude.{◌≡◌, ◌∷◌, [], IfOk};
-ghost use Rattle.std.specs.Option.{option_copied};
+ghost use Rattle.std.specs.Prelude.{◌≡◌, ◌∷◌, [], true, IfOk};
 ghost use Rattle.chat_change.specs.Words.{MayBeTags};
-ghost use Rattle.irc_reply.specs.Tagged.{client_tags};
+ghost use Rattle.irc_tags.specs.ClientOnly.{client_only_of, is_client_only_text};
 ghost use Rattle.upstream_session.specs.Messages as messages;
 
 use crate::buffers::KnownBuffers;
 use crate::effect::UpEffect;
 use crate::effects::push;
 use byte_text::{NoMemory, Text};
-use chat_change::is_tags;
-use irc_tags::write_client_only;
+use chat_change::is_tags_as_written;
+use irc_tags::{Tags, write_client_only};
 use std::alloc::Global;
 use std::mem;
 
@@ -71,28 +70,29 @@ impl Scratch {
     }
 
     // Writes the client-only tags of a line, in place of those of an earlier one.
-    fn write_tags(&mut self, tags: Option<&[u8]>) -> Result<(), NoMemory>
-        ensures { IfOk result (λ _. self.new.tags.items
-            ≡ client_tags (option_copied tags.entry)) }
+    fn write_tags(&mut self, tags: &Tags<'_>) -> Result<(), NoMemory>
+        ensures text { IfOk result (λ _. self.new.tags.items ≡ client_only_of tags.now) }
+        ensures as_written { IfOk result (λ _.
+            is_client_only_text self.new.tags.items ≡ true) }
     {
         self.tags.clear();
-        if let Some(tags) = tags {
-            // A `Vec` refuses bytes only where memory runs out.
-            if write_client_only(tags, &mut self.tags).is_err() {
-                return Err(NoMemory);
-            }
+        // A `Vec` refuses bytes only where memory runs out.
+        if write_client_only(tags, &mut self.tags).is_err() {
+            return Err(NoMemory);
         }
         Ok(())
     }
 
     /// What a record keeps of a line's tags, in the room for them.
-    pub(crate) fn kept_tags(&mut self, tags: Option<&[u8]>) -> Result<&[u8], NoMemory>
-        ensures kept { IfOk result (λ kept. kept.now
-            ≡ messages.kept_tags (option_copied tags.entry)) }
+    pub(crate) fn kept_tags(&mut self, tags: &Option<Tags<'_>>) -> Result<&[u8], NoMemory>
+        ensures kept { IfOk result (λ kept. kept.now ≡ messages.kept_read tags.now) }
         ensures lawful { IfOk result (λ kept. MayBeTags kept.now) }
     {
+        let Some(tags) = tags else {
+            return Ok(b"");
+        };
         self.write_tags(tags)?;
-        if is_tags(&self.tags) {
+        if is_tags_as_written(&self.tags) {
             Ok(&self.tags)
         } else {
             Ok(b"")

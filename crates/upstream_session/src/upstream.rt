@@ -121,7 +121,7 @@ impl Upstream {
         }
     }
 
-    /// What a line of the server comes to at that moment. The line stands without its ending; one that can't be read is
+    /// What a line of the server does at that moment. The line stands without its ending; one that can't be read is
     /// dropped. A refused step leaves the session as it was.
     ///
     /// A line that is passed on is copied once, and a record is made of slices of the line and shares the buffer of its
@@ -152,7 +152,7 @@ impl Upstream {
         }
     }
 
-    // What a line of the server that was read comes to.
+    // What a line of the server that was read does.
     fn hear(
         &mut self,
         alloc: Global,

@@ -1,12 +1,22 @@
-use Rattle.std.proofs.Common.{arith}
+use Rattle.std.proofs.Common.{ap, ◌∙◌, arith}
+use Rattle.std.specs.Option.{option_copied}
 use Rattle.std.proofs.lemmas.Grind.{common_steps}
+use Rattle.chat_change.specs.Message.{value_of}
+use Rattle.upstream_session.specs.Messages.{made_id}
+use Rattle.upstream_session.specs.Sayings.{say_of_tags}
+use Rattle.upstream_session.proofs.KeptLemmas.{say_read}
 use Rattle.upstream_session.proofs.connection.Connection.say_kept.Goals as goal
 
 pub returns-then-self : goal.returns-then-self
 returns-then-self c = grind (arith, common_steps)
 
-pub returns-in-None : goal.returns-in-None
-returns-in-None c = grind (arith, common_steps)
-
-pub returns-in_ok-push-in-Some : goal.returns-in_ok-push-in-Some
-returns-in_ok-push-in-Some c = grind (arith, common_steps)
+pub returns : goal.returns
+returns c =
+    let u = c.args.self.now in
+    let m = value_of c.args.message in
+    let id = made_id u.home u.serial in
+    let said =
+    c.in_ok-said.ensures
+    ∙ ap (λ tags. say_of_tags u c.args.now c.args.text.now tags m id) c.in_ok-read.ensures
+    ∙ say_read u c.args.now c.args.text.now (option_copied c.args.tags) m id in
+    grind (arith, common_steps, said)
