@@ -4,4 +4,5 @@ mod NumberLemmas
 mod PostLineLemmas
 mod ReadBackLemmas
 mod SpellingLemmas
+mod StandsLemmas
 pub mod CallerLemmas

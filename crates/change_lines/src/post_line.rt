@@ -127,10 +127,10 @@ fn message_of<'a>(p: PostFields<'a>, kind: Kind) -> Message<'a>
     }
 }
 
-fn may_be_tags(tags: &[u8]) -> bool
+fn may_be_tags(alloc: Global, tags: &[u8]) -> bool
     ensures { result ≡ spec.may_be_tags tags.now }
 {
-    !is_filled(tags) || is_tags(tags)
+    !is_filled(tags) || is_tags(alloc, tags)
 }
 
 /// The parts of the post that the fields say, if its kind and its moment are such.
@@ -150,10 +150,10 @@ pub(crate) fn post_parts<'a>(p: PostFields<'a>) -> Option<PostParts<'a>>
 }
 
 /// Whether the makers of a post refuse none of these parts.
-pub(crate) fn is_lawful_post(post: &PostParts<'_>) -> bool
+pub(crate) fn is_lawful_post(alloc: Global, post: &PostParts<'_>) -> bool
     ensures { result ≡ spec.are_lawful post.now }
 {
-    is_id(post.id) && may_be_tags(post.tags) && is_message(post.message)
+    is_id(post.id) && may_be_tags(alloc, post.tags) && is_message(post.message)
 }
 
 // The record of the parts, in that buffer.

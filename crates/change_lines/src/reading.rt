@@ -60,7 +60,7 @@ fn read_post(
     let Some(post) = post_parts(fields) else {
         return Err(ChangeLineFault::BadField);
     };
-    if !is_lawful_post(&post) {
+    if !is_lawful_post(alloc, &post) {
         return Err(ChangeLineFault::BadField);
     }
     match new_post(alloc, known, names, &post) {

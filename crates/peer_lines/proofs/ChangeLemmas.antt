@@ -1,4 +1,4 @@
--- Want of memory is no fault of a line of a change: where it is told, the line spells one.
+-- Want of memory is no fault of a line of a change: where it is answered, the line spells one.
 use Rattle.std.proofs.Common.{◌≡◌, ℕ, Bool, true, false, cond, Option, Some, None, List, codes, refl, sym, ap, ◌∙◌}
 use Rattle.std.specs.Prelude.{IsTrue, is_some, Result, Ok, Err}
 use Rattle.chat_change.specs.declared.change.Change.{Change}

@@ -11,7 +11,7 @@ use Rattle.std.proofs.lemmas.Bool.{false≢true, lt-ltb, ltb-true}
 use Rattle.std.proofs.lemmas.Bool.Decides.{nat_tests}
 use Rattle.byte_text.specs.Words.{ends_word}
 use Rattle.change_lines.specs.Words.{is_space, word, behind}
-use Rattle.change_lines.proofs.CallerLemmas.{word_of, behind_of, rejoined}
+use Rattle.change_lines.proofs.CallerLemmas.{word_of, behind_of, rejoined, all_but}
 use Rattle.cluster_directory.specs.Names.{is_node_byte, is_node_name, is_shared_word}
 
 -- ---- a word ends at the first space, and what stands behind it was behind one space
@@ -34,14 +34,6 @@ any_weaker p q h (b ∷ bs) e =
       | true ↦ λ s. (let t = h b s in let f : (true || list_any p bs) ≡ false = subst (λ x. (x || list_any p bs) ≡ false) t e in (cc))
       | false ↦ λ s. any_weaker p q h bs (elim (p b) as (λ t. (t || list_any p bs) ≡ false → list_any p bs ≡ false) [ true ↦ λ f. (cc) | false ↦ λ f. f ] e)
     ] refl
-
-pub all_but : (p q : ℕ → Bool) → ((b : ℕ) → p b ≡ true → q b ≡ false) → (w : List ℕ) → list_all p w ≡ true → list_any q w ≡ false
-all_but p q h [] e = refl
-all_but p q h (b ∷ bs) e =
-    elim (p b) as (λ t. p b ≡ t → (t && list_all p bs) ≡ true → (q b || list_any q bs) ≡ false) [
-      | true ↦ λ t f. ap (λ x. x || list_any q bs) (h b t) ∙ all_but p q h bs f
-      | false ↦ λ t f. (cc)
-    ] refl e
 
 -- the bytes are a word: they are some, and none of them ends one
 pub record IsWord (w : List ℕ) : Type 0 where
