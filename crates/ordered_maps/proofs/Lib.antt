@@ -1,5 +1,6 @@
 mod MapViewLemmas
 mod ElementLemmas
+mod KeyLemmas
 mod PageLemmas
 mod SplitLemmas
 mod LookupLemmas

@@ -18,6 +18,11 @@ module _ {K X : Type 0} where
   abbrev pub page_at : List (List (K × X)) → ℕ → List (K × X)
   page_at pages n = slice_index_or pages n []
 
+  -- the prefix of the first key, and 0 where there is none
+  abbrev pub first_prefix : (K → ℕ) → List (K × X) → ℕ
+  first_prefix prefix [] = 0
+  first_prefix prefix (e ∷ es) = prefix e.0
+
   -- v was written over r, the value at i
   pub record WritesValue (old : List (K × X)) (i : ℕ) (v r : X) (new : List (K × X)) : Type 0 where
     pub key : K

@@ -8,8 +8,10 @@
 #![tactic(auto)]
 
 mod growth;
+mod keys;
 mod packed_map;
 mod page;
 
 pub use growth::{exchange, put};
+pub use keys::{Prefixed, Sought};
 pub use packed_map::{PackedEntries, PackedMap};

@@ -10,6 +10,7 @@ mod entries;
 mod reads;
 mod search;
 
+use crate::keys::Prefixed;
 use crate::page::Page;
 pub use entries::PackedEntries;
 use std::alloc::Global;
@@ -18,12 +19,12 @@ use std::marker::Model;
 
 /// An ordered map. It is seen as its entries, in the order of their keys.
 #[derive(Drop)]
-pub struct PackedMap<K: Ord, V> {
+pub struct PackedMap<K: Prefixed, V> {
     pub(crate) alloc: Global,
     pub(crate) pages: VecDeque<Page<K, V>>,
 }
 
-impl<K: Ord, V> Model for PackedMap<K, V> {
+impl<K: Prefixed, V> Model for PackedMap<K, V> {
     ghost use Rattle.std.specs.Prelude.{List};
     ghost use Rattle.ordered_maps.specs.Pages.{entries_of, AreInPages};
 
@@ -34,7 +35,7 @@ impl<K: Ord, V> Model for PackedMap<K, V> {
     ghost invariant = { λ m. AreInPages K.cmp m.pages.items };
 }
 
-impl<K: Ord + Drop, V: Drop> PackedMap<K, V> {
+impl<K: Prefixed + Drop, V: Drop> PackedMap<K, V> {
     /// No entries.
     pub fn new(alloc: Global) -> PackedMap<K, V>
         ensures { result ≡ [] }

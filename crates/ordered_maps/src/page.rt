@@ -4,8 +4,9 @@ ghost use Rattle.std.specs.Prelude.{◌≡◌, ◌≤◌, ◌<◌, ◌++◌, ◌
 ghost use Rattle.std.specs.List.{insert, remove};
 ghost use Rattle.std.specs.List.Sorted.{IsBinarySearchResult, IsSearchInRange};
 ghost use Rattle.std.specs.Option.{option_to_list};
-ghost use Rattle.ordered_maps.specs.Pages.{starts_above, WritesValue};
+ghost use Rattle.ordered_maps.specs.Pages.{first_prefix, starts_above, WritesValue};
 
+use crate::keys::{Prefixed, Sought, order};
 use std::alloc::{AllocError, Global};
 use std::collections::VecDeque;
 use std::marker::Model;
@@ -14,21 +15,51 @@ use std::mem::replace;
 /// How many entries a full page has.
 pub(crate) const PAGE: usize = 64;
 
+/// For how many more entries a page takes room at least.
+const LEAST_ROOM: usize = 4;
+
 /// Some entries of a map that stand next to each other, in the order of their keys. It is seen as the list of them.
 #[derive(Drop)]
-pub(crate) struct Page<K, V> {
+pub(crate) struct Page<K: Prefixed, V> {
+    // the prefix of the first key, so that a search among pages looks into few of them
+    first: u64,
     pub(crate) entries: VecDeque<(K, V)>,
 }
 
-impl<K, V> Model for Page<K, V> {
-    ghost use Rattle.std.specs.Prelude.{List};
+impl<K: Prefixed, V> Model for Page<K, V> {
+    ghost use Rattle.std.specs.Prelude.{◌≡◌, List};
+    ghost use Rattle.ordered_maps.specs.Pages.{first_prefix};
 
     ghost Value = { List (K × V) };
 
     ghost view = { λ p. p.entries.items };
+
+    ghost invariant = { λ p. p.first ≡ first_prefix K.prefix_of p.entries.items };
 }
 
-impl<K: Drop, V: Drop> Page<K, V> {
+// The prefix of the first key, and 0 where there is none.
+fn first_prefix<K: Prefixed, V>(entries: &VecDeque<(K, V)>) -> u64
+    ensures { result ≡ first_prefix K.prefix_of entries.now.items }
+{
+    match entries.front() {
+        Some(entry) => entry.0.prefix(),
+        None => 0,
+    }
+}
+
+impl<K: Prefixed, V> Page<K, V> {
+    /// A page of these entries.
+    pub(crate) fn of(entries: VecDeque<(K, V)>) -> Page<K, V>
+        ensures { result ≡ entries.items }
+    {
+        Page {
+            first: first_prefix(&entries),
+            entries,
+        }
+    }
+}
+
+impl<K: Prefixed + Drop, V: Drop> Page<K, V> {
     /// A page of one entry, with room for some at once.
     pub(crate) fn begin(alloc: Global, room: usize, entry: (K, V)) -> Result<Page<K, V>, AllocError>
         ensures { IfOk result (λ page. page ≡ entry ∷ []) }
@@ -37,7 +68,7 @@ impl<K: Drop, V: Drop> Page<K, V> {
         if entries.push_back(entry).is_err() {
             return Err(AllocError);
         }
-        Ok(Page { entries })
+        Ok(Page::of(entries))
     }
 
     /// How many entries it has.
@@ -61,7 +92,10 @@ impl<K: Drop, V: Drop> Page<K, V> {
         ensures put { IsTrue result → self.new ≡ insert self.old index entry }
         ensures refused { result ≡ false → self.new ≡ self.old }
     {
-        self.entries.insert(index, entry).is_ok()
+        self.make_room();
+        let is_put = self.entries.insert(index, entry).is_ok();
+        self.first = first_prefix(&self.entries);
+        is_put
     }
 
     /// Writes a value over the one at an index, and answers what stood there.
@@ -69,7 +103,9 @@ impl<K: Drop, V: Drop> Page<K, V> {
         requires { index < length self.old }
         ensures { WritesValue self.old index value result self.new }
     {
-        replace(&mut self.entries[index].1, value)
+        let before = replace(&mut self.entries[index].1, value);
+        self.first = first_prefix(&self.entries);
+        before
     }
 
     /// Takes the entry at an index out. It takes no memory.
@@ -77,6 +113,7 @@ impl<K: Drop, V: Drop> Page<K, V> {
         ensures { self.new ≡ remove self.old index }
     {
         let _ = self.entries.remove(index);
+        self.first = first_prefix(&self.entries);
         self.give_room_back();
     }
 
@@ -86,8 +123,20 @@ impl<K: Drop, V: Drop> Page<K, V> {
         ensures none { result ≡ None → self.old ≡ [] }
     {
         let entry = self.entries.pop_back();
+        self.first = first_prefix(&self.entries);
         self.give_room_back();
         entry
+    }
+
+    // Takes room for a quarter more entries where there is none. By itself a list takes room for as many again, of which half
+    // stays empty in most pages where keys come in no order.
+    fn make_room(&mut self)
+        ensures { self.new ≡ self.old }
+    {
+        let len = self.entries.len();
+        if len == self.entries.capacity() {
+            let _ = self.entries.reserve_exact((len / 4).max(LEAST_ROOM));
+        }
     }
 
     // Gives half of the room back where at most a quarter of it is used.
@@ -108,26 +157,32 @@ impl<K: Drop, V: Drop> Page<K, V> {
         ensures refused { OnErr result (self.new ≡ self.old) }
     {
         let entries = self.entries.split_off(index)?;
-        Ok(Page { entries })
+        self.entries.shrink_to_fit();
+        self.first = first_prefix(&self.entries);
+        Ok(Page::of(entries))
     }
 }
 
-impl<K: Ord, V> Page<K, V> {
-    /// Whether the first key is above another.
-    pub(crate) fn starts_above(&self, key: &K) -> bool
-        ensures { result ≡ starts_above K.cmp key.now self.now }
+impl<K: Prefixed, V> Page<K, V> {
+    /// Whether the first key is above another. Its prefix tells mostly, without a look at the entries.
+    pub(crate) fn starts_above<Q: Sought<K>>(&self, key: &Q) -> bool
+        ensures { result ≡ starts_above K.cmp (Q.key key.now) self.now }
     {
+        let prefix = key.key_prefix();
+        if self.first != prefix {
+            return self.first > prefix;
+        }
         match self.entries.front() {
-            Some(entry) => entry.0.cmp(key).is_gt(),
+            Some(entry) => key.order_of(&entry.0).is_gt(),
             None => false,
         }
     }
 
     /// Where a key stands, or would stand.
-    pub(crate) fn find(&self, key: &K) -> Result<usize, usize>
+    pub(crate) fn find<Q: Sought<K>>(&self, key: &Q) -> Result<usize, usize>
         ensures bound { IsSearchInRange result (length self.now) }
-        ensures position { IsBinarySearchResult (λ e. K.cmp e.0 key.now) self.now result }
+        ensures position { IsBinarySearchResult (λ e. K.cmp e.0 (Q.key key.now)) self.now result }
     {
-        self.entries.binary_search_by(|entry| entry.0.cmp(key))
+        self.entries.binary_search_by(|entry| order(&entry.0, key))
     }
 }

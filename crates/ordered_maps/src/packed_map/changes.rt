@@ -9,12 +9,13 @@ ghost use Rattle.ordered_maps.specs.Ends.{IsGreatest};
 use super::PackedMap;
 use super::edits::{enter, take_last, take_out, write};
 use super::search::find;
+use crate::keys::{Prefixed, Sought};
 use std::alloc::AllocError;
 
-impl<K: Ord + Drop, V: Drop> PackedMap<K, V> {
+impl<K: Prefixed + Drop, V: Drop> PackedMap<K, V> {
     /// The value at a key, if there is one.
-    pub fn get(&self, key: &K) -> Option<&V>
-        ensures { option_map deref result ≡ get K.cmp self.now key.now }
+    pub fn get<Q: Sought<K>>(&self, key: &Q) -> Option<&V>
+        ensures { option_map deref result ≡ get K.cmp self.now (Q.key key.now) }
     {
         match find(&self.pages, key) {
             Ok(place) => Some(&self.pages[place.page].at(place.index).1),
@@ -59,8 +60,8 @@ impl<K: Ord + Drop, V: Drop> PackedMap<K, V> {
     }
 
     /// Takes the value at a key out, if there is one. It takes no memory.
-    pub fn take_out(&mut self, key: &K)
-        ensures { IsWithout K.cmp self.old key.now self.new }
+    pub fn take_out<Q: Sought<K>>(&mut self, key: &Q)
+        ensures { IsWithout K.cmp self.old (Q.key key.now) self.new }
     {
         if let Ok(place) = find(&self.pages, key) {
             take_out(&mut self.pages, place);
@@ -68,9 +69,9 @@ impl<K: Ord + Drop, V: Drop> PackedMap<K, V> {
     }
 
     /// Writes a value over the one that stands at a key. It takes no memory.
-    pub fn overwrite(&mut self, key: &K, value: V)
-        requires held { IsSome (get K.cmp self.old key.now) }
-        ensures { IsWith K.cmp self.old key.now value self.new }
+    pub fn overwrite<Q: Sought<K>>(&mut self, key: &Q, value: V)
+        requires held { IsSome (get K.cmp self.old (Q.key key.now)) }
+        ensures { IsWith K.cmp self.old (Q.key key.now) value self.new }
     {
         if let Ok(place) = find(&self.pages, key) {
             drop(write(&mut self.pages, place, value));

@@ -5,13 +5,14 @@ ghost use Rattle.ordered_maps.specs.MapView.{AreOrdered};
 ghost use Rattle.ordered_maps.specs.Pages.{entries_of};
 
 use super::{PackedEntries, PackedMap};
+use crate::keys::Prefixed;
 use crate::page::Page;
 use std::alloc::AllocError;
 use std::cmp::Ordering;
 use std::collections::VecDeque;
 
 /// A clone has pages of its own, and clones of the keys and values.
-impl<K: Ord + Clone + Drop, V: Clone + Drop> Clone for PackedMap<K, V> {
+impl<K: Prefixed + Clone + Drop, V: Clone + Drop> Clone for PackedMap<K, V> {
     ghost use Rattle.ordered_maps.specs.Clones.{AreClones};
 
     ghost is_clone = { λ m n. AreClones K.is_clone V.is_clone m n };
@@ -30,7 +31,7 @@ impl<K: Ord + Clone + Drop, V: Clone + Drop> Clone for PackedMap<K, V> {
 }
 
 /// A clone has clones of the keys and values.
-impl<K: Clone + Drop, V: Clone + Drop> Clone for Page<K, V> {
+impl<K: Prefixed + Clone + Drop, V: Clone + Drop> Clone for Page<K, V> {
     ghost use Rattle.ordered_maps.specs.Clones.{AreClones};
 
     ghost is_clone = { λ m n. AreClones K.is_clone V.is_clone m n };
@@ -38,12 +39,12 @@ impl<K: Clone + Drop, V: Clone + Drop> Clone for Page<K, V> {
     fn clone(&self) -> Result<Page<K, V>, AllocError> {
         let mut entries = self.entries.clone()?;
         entries.shrink_to_fit();
-        Ok(Page { entries })
+        Ok(Page::of(entries))
     }
 }
 
 // Whether the keys ascend from entry to entry and from page to page.
-fn ascend<K: Ord, V>(pages: &VecDeque<Page<K, V>>) -> bool
+fn ascend<K: Prefixed, V>(pages: &VecDeque<Page<K, V>>) -> bool
     ensures { IsTrue result → AreOrdered K.cmp (entries_of pages.now.items) }
 {
     let mut rest = PackedEntries {

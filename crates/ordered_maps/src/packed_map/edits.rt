@@ -7,6 +7,7 @@ ghost use Rattle.ordered_maps.specs.Pages.{entries_of, page_at, AreFilled};
 ghost use Rattle.ordered_maps.specs.Places.{IsPlace, IsEntryPlace, before, past, AreFilledBut, ChangesEntry, entered, split_at};
 
 use super::search::Place;
+use crate::keys::Prefixed;
 use crate::page::{PAGE, Page};
 use std::alloc::{AllocError, Global};
 use std::collections::VecDeque;
@@ -15,7 +16,11 @@ use std::collections::VecDeque;
 const HALF: usize = PAGE / 2;
 
 /// Writes a value over the one of the entry at a place, and answers what stood there.
-pub(crate) fn write<K: Drop, V: Drop>(pages: &mut VecDeque<Page<K, V>>, place: Place, value: V) -> V
+pub(crate) fn write<K: Prefixed + Drop, V: Drop>(
+    pages: &mut VecDeque<Page<K, V>>,
+    place: Place,
+    value: V,
+) -> V
     requires at { IsEntryPlace pages.old.items place }
     requires filled { AreFilled pages.old.items }
     ensures written { ChangesEntry pages.old.items place value result pages.new.items }
@@ -25,7 +30,7 @@ pub(crate) fn write<K: Drop, V: Drop>(pages: &mut VecDeque<Page<K, V>>, place: P
 }
 
 /// Takes the entry at a place out. It takes no memory.
-pub(crate) fn take_out<K: Drop, V: Drop>(pages: &mut VecDeque<Page<K, V>>, place: Place)
+pub(crate) fn take_out<K: Prefixed + Drop, V: Drop>(pages: &mut VecDeque<Page<K, V>>, place: Place)
     requires at { IsEntryPlace pages.old.items place }
     requires filled { AreFilled pages.old.items }
     ensures out { entries_of pages.new.items
@@ -37,7 +42,9 @@ pub(crate) fn take_out<K: Drop, V: Drop>(pages: &mut VecDeque<Page<K, V>>, place
 }
 
 /// Takes the last entry out. It takes no memory.
-pub(crate) fn take_last<K: Drop, V: Drop>(pages: &mut VecDeque<Page<K, V>>) -> Option<(K, V)>
+pub(crate) fn take_last<K: Prefixed + Drop, V: Drop>(
+    pages: &mut VecDeque<Page<K, V>>,
+) -> Option<(K, V)>
     requires filled { AreFilled pages.old.items }
     ensures out { entries_of pages.old.items ≡ entries_of pages.new.items ++ option_to_list result }
     ensures none { result ≡ None → entries_of pages.old.items ≡ [] }
@@ -50,7 +57,7 @@ pub(crate) fn take_last<K: Drop, V: Drop>(pages: &mut VecDeque<Page<K, V>>) -> O
 }
 
 // Takes a page out where it is empty.
-fn drop_if_empty<K: Drop, V: Drop>(pages: &mut VecDeque<Page<K, V>>, page: usize)
+fn drop_if_empty<K: Prefixed + Drop, V: Drop>(pages: &mut VecDeque<Page<K, V>>, page: usize)
     requires within { page < length pages.old.items }
     requires others { AreFilledBut pages.old.items page }
     ensures same { entries_of pages.new.items ≡ entries_of pages.old.items }
@@ -62,7 +69,7 @@ fn drop_if_empty<K: Drop, V: Drop>(pages: &mut VecDeque<Page<K, V>>, page: usize
 }
 
 /// Puts an entry at a place. Where there is no memory the entries stay as they were.
-pub(crate) fn enter<K: Drop, V: Drop>(
+pub(crate) fn enter<K: Prefixed + Drop, V: Drop>(
     pages: &mut VecDeque<Page<K, V>>,
     alloc: Global,
     place: Place,
@@ -90,7 +97,7 @@ pub(crate) fn enter<K: Drop, V: Drop>(
 }
 
 // Splits a full page and puts an entry in one of the halves.
-fn enter_in_full<K: Drop, V: Drop>(
+fn enter_in_full<K: Prefixed + Drop, V: Drop>(
     pages: &mut VecDeque<Page<K, V>>,
     place: Place,
     entry: (K, V),
@@ -116,7 +123,11 @@ fn enter_in_full<K: Drop, V: Drop>(
 }
 
 // Puts an entry in the page of a place.
-fn put_in<K: Drop, V: Drop>(pages: &mut VecDeque<Page<K, V>>, place: Place, entry: (K, V)) -> bool
+fn put_in<K: Prefixed + Drop, V: Drop>(
+    pages: &mut VecDeque<Page<K, V>>,
+    place: Place,
+    entry: (K, V),
+) -> bool
     requires at { IsPlace pages.old.items place }
     requires within { place.page < length pages.old.items }
     requires filled { AreFilled pages.old.items }
@@ -127,7 +138,7 @@ fn put_in<K: Drop, V: Drop>(pages: &mut VecDeque<Page<K, V>>, place: Place, entr
 }
 
 // Begins a page before those from an index on. The first page of all grows with its entries, and another has its room at once.
-fn begin<K: Drop, V: Drop>(
+fn begin<K: Prefixed + Drop, V: Drop>(
     pages: &mut VecDeque<Page<K, V>>,
     alloc: Global,
     page: usize,
@@ -146,7 +157,10 @@ fn begin<K: Drop, V: Drop>(
 }
 
 // Splits a full page in halves. Where there is no memory it stays whole.
-fn split<K: Drop, V: Drop>(pages: &mut VecDeque<Page<K, V>>, page: usize) -> Result<(), AllocError>
+fn split<K: Prefixed + Drop, V: Drop>(
+    pages: &mut VecDeque<Page<K, V>>,
+    page: usize,
+) -> Result<(), AllocError>
     requires within { page < length pages.old.items }
     requires full { PAGE ≤ length (page_at pages.old.items page) }
     ensures split { OnOk result (pages.new.items ≡ split_at pages.old.items page HALF) }

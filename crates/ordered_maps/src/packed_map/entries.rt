@@ -5,19 +5,20 @@ ghost use Rattle.std.specs.Iterator.{at_most};
 ghost use Rattle.std.specs.Map.Iter.{TakesFirst, TakesLast, deref, deref_pair};
 ghost use Rattle.ordered_maps.specs.Parts.{rest_of};
 
+use crate::keys::Prefixed;
 use crate::page::Page;
 use std::collections::vec_deque;
 use std::marker::Model;
 
 /// Entries of a map, from either end. It is seen as the list of what is left, in the order of the keys.
 #[derive(Drop)]
-pub struct PackedEntries<'a, K, V> {
+pub struct PackedEntries<'a, K: Prefixed, V> {
     pub(super) first: Option<vec_deque::Iter<'a, (K, V)>>,
     pub(super) pages: vec_deque::Iter<'a, Page<K, V>>,
     pub(super) last: Option<vec_deque::Iter<'a, (K, V)>>,
 }
 
-impl<'a, K, V> Model for PackedEntries<'a, K, V> {
+impl<'a, K: Prefixed, V> Model for PackedEntries<'a, K, V> {
     ghost use Rattle.std.specs.Prelude.{List};
     ghost use Rattle.ordered_maps.specs.Parts.{what_is_left};
 
@@ -26,7 +27,7 @@ impl<'a, K, V> Model for PackedEntries<'a, K, V> {
     ghost view = { λ e. what_is_left e.first e.pages e.last };
 }
 
-impl<'a, K, V> Iterator for PackedEntries<'a, K, V> {
+impl<'a, K: Prefixed, V> Iterator for PackedEntries<'a, K, V> {
     type Item = (&'a K, &'a V);
 
     ghost next_gives = { TakesFirst deref_pair };
@@ -47,7 +48,7 @@ impl<'a, K, V> Iterator for PackedEntries<'a, K, V> {
     }
 }
 
-impl<'a, K, V> DoubleEndedIterator for PackedEntries<'a, K, V> {
+impl<'a, K: Prefixed, V> DoubleEndedIterator for PackedEntries<'a, K, V> {
     ghost next_back_gives = { TakesLast deref_pair };
 
     fn next_back(&mut self) -> Option<(&'a K, &'a V)> {

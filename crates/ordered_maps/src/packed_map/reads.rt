@@ -13,9 +13,10 @@ ghost use Rattle.ordered_maps.specs.Parts.{stands_before};
 
 use super::cuts::{entries_before, pages_before};
 use super::{PackedEntries, PackedMap};
+use crate::keys::{Prefixed, Sought};
 use std::ops::Bound;
 
-impl<K: Ord + Drop, V: Drop> PackedMap<K, V> {
+impl<K: Prefixed + Drop, V: Drop> PackedMap<K, V> {
     /// The entry with the least key.
     pub fn first(&self) -> Option<(&K, &V)>
         ensures first { option_map deref_pair result ≡ slice_get self.now 0 }
@@ -35,16 +36,16 @@ impl<K: Ord + Drop, V: Drop> PackedMap<K, V> {
     }
 
     /// The entry with the greatest key below another.
-    pub fn last_before(&self, key: &K) -> Option<(&K, &V)>
-        ensures { IsLastBefore K.cmp key.now self.now (option_map deref_pair result) }
+    pub fn last_before<Q: Sought<K>>(&self, key: &Q) -> Option<(&K, &V)>
+        ensures { IsLastBefore K.cmp (Q.key key.now) self.now (option_map deref_pair result) }
     {
         self.before(Bound::Included(key)).next_back()
     }
 
     /// The entries from a bound on.
-    pub fn from(&self, start: Bound<&K>) -> PackedEntries<'_, K, V>
+    pub fn from<Q: Sought<K>>(&self, start: Bound<&Q>) -> PackedEntries<'_, K, V>
         ensures between { result
-            ≡ entries_between K.cmp (bound_map deref start.entry) Unbounded self.now }
+            ≡ entries_between K.cmp (bound_map (λ q. Q.key q.now) start.entry) Unbounded self.now }
         ensures ordered { AreOrdered K.cmp self.now }
     {
         let whole = pages_before(&self.pages, start);
@@ -63,9 +64,9 @@ impl<K: Ord + Drop, V: Drop> PackedMap<K, V> {
     }
 
     /// The entries up to a bound.
-    pub fn until(&self, end: Bound<&K>) -> PackedEntries<'_, K, V>
+    pub fn until<Q: Sought<K>>(&self, end: Bound<&Q>) -> PackedEntries<'_, K, V>
         ensures between { result
-            ≡ entries_between K.cmp Unbounded (bound_map deref end.entry) self.now }
+            ≡ entries_between K.cmp Unbounded (bound_map (λ q. Q.key q.now) end.entry) self.now }
         ensures ordered { AreOrdered K.cmp self.now }
     {
         match end {
@@ -80,9 +81,9 @@ impl<K: Ord + Drop, V: Drop> PackedMap<K, V> {
     }
 
     // The entries before a start bound.
-    fn before(&self, start: Bound<&K>) -> PackedEntries<'_, K, V>
+    fn before<Q: Sought<K>>(&self, start: Bound<&Q>) -> PackedEntries<'_, K, V>
         ensures before { result
-            ≡ filter (stands_before K.cmp (bound_map deref start.entry)) self.now }
+            ≡ filter (stands_before K.cmp (bound_map (λ q. Q.key q.now) start.entry)) self.now }
         ensures ordered { AreOrdered K.cmp self.now }
     {
         let whole = pages_before(&self.pages, start);

@@ -4,6 +4,7 @@ ghost use Rattle.std.specs.Prelude.{IfOk, IfErr, MatchOption};
 ghost use Rattle.ordered_maps.specs.Pages.{entries_of, AreInPages};
 ghost use Rattle.ordered_maps.specs.Places.{AreAbove, IsPageOf, IsHeldAt, IsGap};
 
+use crate::keys::{Prefixed, Sought};
 use crate::page::Page;
 use std::collections::VecDeque;
 
@@ -15,10 +16,13 @@ pub(crate) struct Place {
 }
 
 /// The place of the entry that has a key, or else the place where it would stand.
-pub(crate) fn find<K: Ord, V>(pages: &VecDeque<Page<K, V>>, key: &K) -> Result<Place, Place>
+pub(crate) fn find<K: Prefixed, V, Q: Sought<K>>(
+    pages: &VecDeque<Page<K, V>>,
+    key: &Q,
+) -> Result<Place, Place>
     requires { AreInPages K.cmp pages.now.items }
-    ensures held { IfOk result (λ place. IsHeldAt K.cmp key.now pages.now.items place) }
-    ensures gap { IfErr result (λ place. IsGap K.cmp key.now pages.now.items place) }
+    ensures held { IfOk result (λ place. IsHeldAt K.cmp (Q.key key.now) pages.now.items place) }
+    ensures gap { IfErr result (λ place. IsGap K.cmp (Q.key key.now) pages.now.items place) }
 {
     let Some(page) = page_of(pages, key) else {
         return Err(Place { page: 0, index: 0 });
@@ -30,11 +34,11 @@ pub(crate) fn find<K: Ord, V>(pages: &VecDeque<Page<K, V>>, key: &K) -> Result<P
 }
 
 // The last page whose first key isn't above a key.
-fn page_of<K: Ord, V>(pages: &VecDeque<Page<K, V>>, key: &K) -> Option<usize>
+fn page_of<K: Prefixed, V, Q: Sought<K>>(pages: &VecDeque<Page<K, V>>, key: &Q) -> Option<usize>
     requires { AreInPages K.cmp pages.now.items }
     ensures { MatchOption result
-        (AreAbove K.cmp key.now (entries_of pages.now.items))
-        (λ page. IsPageOf K.cmp key.now pages.now.items page) }
+        (AreAbove K.cmp (Q.key key.now) (entries_of pages.now.items))
+        (λ page. IsPageOf K.cmp (Q.key key.now) pages.now.items page) }
 {
     // most new keys come before all others
     if pages.front()?.starts_above(key) {

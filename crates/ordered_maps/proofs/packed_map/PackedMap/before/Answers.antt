@@ -1,5 +1,4 @@
 use Rattle.std.proofs.Common.{rules, ◌≡◌, ◌++◌, ap, sym, subst, ◌∙◌, refl, take, append-nil, arith}
-use Rattle.std.specs.Map.Iter.{deref}
 use Rattle.std.specs.Range.Bound.{bound_map}
 use Rattle.std.specs.List.{filter}
 use Rattle.std.specs.VecDeque.Iter.{deque_iter_rest}
@@ -18,7 +17,7 @@ pub returns-clause-before : goal.returns-clause-before
 returns-clause-before g c =
     let pages = c.self.inside.pages.items in
     let whole = c.pages_before-whole.result in
-    let start = bound_map deref c.args.start in
+    let start = bound_map (λ q. g.Q.Sought.key q.now) c.args.start in
     let test = stands_before g.K.Ord.cmp start in
     let front : deque_iter_rest c.range-2.result ≡ take whole pages = c.range-2.ensures.rest ∙ slice_front pages whole in
     elim c.match-get.branch [
