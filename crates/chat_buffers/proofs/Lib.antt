@@ -1,3 +1,4 @@
+mod KeyLemmas
 mod SpotLemmas
 mod AgreementLemmas
 mod StepLemmas

@@ -1,4 +1,4 @@
--- What a piece that comes to its key leaves of a buffer, and of the store of many buffers.
+-- What a piece that is put under its key leaves of a buffer, and of the store of many buffers.
 use Rattle.std.proofs.Common.{◌≡◌, refl, sym, ◌∙◌, ap, subst, ℕ, ◌≤◌, ◌<◌, max, List, Bool, true, false, cond, nat_le, Option, Some, None, arith}
 use Rattle.std.proofs.lemmas.Bool.{false≢true}
 use Rattle.std.proofs.lemmas.Option.{same_Some}
@@ -91,7 +91,7 @@ message_left e b m f t g (Some (Gone u x)) covered is =
     (λ i. Some (record { number = x; change = Redact b m ((ap (λ y. at_or_above y u) is ∙ sym (above_both f t u)) i) }))
     ∙ (λ i. Some (record { number = x; change = Redact b m (cond (sym covered i) (at_or_above t (at_or_above f u)) (at_or_above f u)) }))
 
--- ---- a piece comes to its key in a buffer
+-- ---- a piece is put under its key in a buffer
 
 module _ (f : ℕ) (h : Held) (n : ℕ) where
   -- the floor at which redactions are read

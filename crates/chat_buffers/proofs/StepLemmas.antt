@@ -42,7 +42,7 @@ put_back ids jds kds id x o up back was q =
       | false ↦ λ _. refl
     ] refl
 
--- ---- a record comes to its place
+-- ---- a record takes its place
 
 module _ (m n : BySpot) (ids : ById) (a : Agree m ids) (r : Record) (fits : r.at ≤ greatest) (up : IsWith latest_first m (of_record r) r n) where
   there : (t : ℕ) → get latest_first n (place t r.id) ≡ cond (nat_eq t r.at) (Some r) (get latest_first m (place t r.id))

@@ -5,7 +5,7 @@ use Rattle.chat_change.specs.Buffer.{Buffer}
 use Rattle.chat_history.specs.Codes.{coded_text}
 use Rattle.chat_buffers.specs.Store.{Store, coded_store}
 
--- the store, and the buffer that the walk has come to
+-- the store, and the buffer that the walk has reached
 pub record Walk : Type 0 where
   pub store : Store
   pub last : Option Buffer

@@ -25,5 +25,9 @@ pub mod Agreement
 -- the ends of ranges, and what a cursor over messages has left
 pub mod Ends
 pub mod MessageWalk
+-- how ids and spots are kept as keys of maps
+pub mod IdKey
+pub mod SpotKey
+pub mod Prefixes
 -- how a moment that may not be known is kept
 pub mod MomentIfKnown

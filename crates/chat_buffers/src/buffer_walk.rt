@@ -16,7 +16,7 @@ use chat_change::{Buffer, Moment};
 use std::collections::btree_map::Range;
 use std::marker::Model;
 
-/// A walk over the buffers of a store, in their order. Contracts see the store, and the buffer that it has come to.
+/// A walk over the buffers of a store, in their order. Contracts see the store, and the buffer that it has reached.
 #[derive(Drop)]
 pub struct BufferWalk<'a> {
     buffers: &'a Buffers,

@@ -30,7 +30,7 @@ pub enum MessageRef<'a> {
     Gone(Option<Moment>),
 }
 
-/// What a message that comes to a buffer finds there.
+/// What a message that enters a buffer finds there.
 #[derive(Clone, Copy)]
 pub struct FloorAndMessage<'a> {
     /// The floor in force in the buffer, in milliseconds. 0 where there is none.

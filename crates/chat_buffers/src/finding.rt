@@ -13,7 +13,6 @@ ghost use Rattle.chat_buffers.specs.Store as spec;
 use crate::buffers::{Buffers, MessageRef};
 use crate::messages::Messages;
 use chat_change::{Buffer, MsgId};
-use std::ops::Bound;
 
 // Whether a buffer has these names. The target may be spelled in either case.
 fn has_names(buffer: &Buffer, account: &[u8], network: &[u8], target: &[u8]) -> bool
@@ -37,9 +36,9 @@ impl Messages {
         ensures found { IfSome result (λ id. id.now ≡ bytes.now) }
         ensures none { result ≡ None → map.get self.now bytes.now ≡ None }
     {
-        let mut entries = self.by_id.from(Bound::Unbounded);
-        let (id, _) = entries.find(|(id, _)| has_bytes(id, bytes))?;
-        Some(id)
+        let mut entries = self.by_id.entries();
+        let (key, _) = entries.find(|(key, _)| has_bytes(key.id(), bytes))?;
+        Some(key.id())
     }
 }
 

@@ -16,10 +16,13 @@ mod cursor;
 mod finding;
 mod held;
 mod held_message;
+mod id_key;
+mod id_map;
 mod messages;
 mod moment_if_known;
 mod record_map;
 mod sought;
+mod spot_key;
 mod walk;
 
 pub use buffer_walk::BufferWalk;

@@ -13,18 +13,19 @@ ghost use Rattle.chat_buffers.specs.Messages as spec;
 ghost use Rattle.chat_buffers.specs.declared.held_message.HeldMessage.TheVariants as held_message;
 
 use crate::held_message::HeldMessage;
+use crate::id_map::IdMap;
 use crate::moment_if_known::MomentIfKnown;
 use crate::record_map::RecordMap;
+use crate::spot_key::SpotKey;
 use chat_change::{Moment, MsgId, Record};
 use chat_history::Spot;
-use ordered_maps::PackedMap;
 use std::alloc::{AllocError, Global};
 use std::marker::Model;
 
 /// What is held of the messages of one buffer. It is seen as the map from each id to what is held of its message.
 #[derive(Drop)]
 pub(crate) struct Messages {
-    pub(crate) by_id: PackedMap<MsgId, HeldMessage>,
+    pub(crate) by_id: IdMap,
     // the kept records, by where they stand, the latest first
     pub(crate) by_spot: RecordMap,
 }
@@ -57,7 +58,7 @@ impl Clone for Messages {
 // What a record is filed by, and the record. All share its memory.
 #[derive(Drop)]
 struct Copies {
-    spot: Spot,
+    spot: SpotKey,
     id: MsgId,
     // the id once more
     name: MsgId,
@@ -72,9 +73,9 @@ fn copies_of(post: &Record) -> Result<Copies, AllocError>
       post = post.now;
     }) }
 {
-    let spot = Spot {
+    let spot = SpotKey {
         at: post.at(),
-        id: Some(post.id().try_clone()?),
+        id: post.id().try_clone()?,
     };
     let id = post.id().try_clone()?;
     let name = post.id().try_clone()?;
@@ -88,7 +89,7 @@ fn copies_of(post: &Record) -> Result<Copies, AllocError>
 }
 
 // Makes what is held of a message what it was before. It takes no memory.
-fn restore(by_id: &mut PackedMap<MsgId, HeldMessage>, id: &MsgId, before: Option<HeldMessage>)
+fn restore(by_id: &mut IdMap, id: &MsgId, before: Option<HeldMessage>)
     requires held { IsSome (get id_cmp by_id.old id.now) }
     ensures { IsSetTo id_cmp by_id.old id.now before by_id.new }
 {
@@ -104,7 +105,7 @@ impl Messages {
         ensures { result ≡ map.empty }
     {
         Messages {
-            by_id: PackedMap::new(alloc),
+            by_id: IdMap::new(alloc),
             by_spot: RecordMap::new(alloc),
         }
     }
@@ -242,7 +243,7 @@ impl Messages {
 }
 
 // The number of the piece of a message.
-fn number_of(by_id: &PackedMap<MsgId, HeldMessage>, id: &MsgId) -> Option<u64>
+fn number_of(by_id: &IdMap, id: &MsgId) -> Option<u64>
     ensures { result ≡ option_map spec.number_of (get id_cmp by_id.now id.now) }
 {
     let held_message = by_id.get(id)?;

@@ -10,6 +10,7 @@ ghost use Rattle.ordered_maps.specs.Ends.{IsGreatest};
 ghost use Rattle.chat_history.specs.Cut.{latest_first};
 ghost use Rattle.chat_buffers.specs.RecordMap.{IsLatestIn};
 
+use crate::spot_key::SpotKey;
 use chat_change::{Moment, Record};
 use chat_history::Spot;
 use ordered_maps::{PackedEntries, PackedMap};
@@ -21,7 +22,7 @@ use std::ops::Bound;
 /// needn't look into each map. It is seen as the entries, in the order of their places.
 #[derive(Drop)]
 pub(crate) struct RecordMap {
-    records: PackedMap<Spot, Record>,
+    records: PackedMap<SpotKey, Record>,
     latest: Option<Moment>,
 }
 
@@ -49,7 +50,7 @@ impl Clone for RecordMap {
     }
 }
 
-fn latest_in(records: &PackedMap<Spot, Record>) -> Option<Moment>
+fn latest_in(records: &PackedMap<SpotKey, Record>) -> Option<Moment>
     ensures { IsLatestIn records.now result }
 {
     match records.first() {
@@ -77,7 +78,7 @@ impl RecordMap {
     }
 
     /// The entry of the oldest record.
-    pub(crate) fn last(&self) -> Option<(&Spot, &Record)>
+    pub(crate) fn last(&self) -> Option<(&SpotKey, &Record)>
         ensures none { result ≡ None → self.now ≡ [] }
         ensures greatest { IfSome result (λ e. IsGreatest latest_first (deref_pair e) self.now) }
     {
@@ -85,7 +86,7 @@ impl RecordMap {
     }
 
     /// Takes the oldest record out. It takes no memory.
-    pub(crate) fn pop_last(&mut self) -> Option<(Spot, Record)>
+    pub(crate) fn pop_last(&mut self) -> Option<(SpotKey, Record)>
         ensures none { result ≡ None → (self.old ≡ []) × (self.new ≡ []) }
         ensures removal { IfSome result (λ e. self.old ≡ self.new ++ e ∷ []) }
         ensures greatest { IfSome result (λ e. IsGreatest latest_first e self.old) }
@@ -97,7 +98,7 @@ impl RecordMap {
     }
 
     /// Puts a record at a place, in place of what stood there. Where there is no memory the records stay as they were.
-    pub(crate) fn put(&mut self, spot: Spot, post: Record) -> bool
+    pub(crate) fn put(&mut self, spot: SpotKey, post: Record) -> bool
         ensures put { IsTrue result → IsWith latest_first self.old spot post self.new }
         ensures refused { result ≡ false → self.new ≡ self.old }
     {
@@ -115,7 +116,7 @@ impl RecordMap {
     }
 
     /// The entries from a bound on.
-    pub(crate) fn from(&self, start: Bound<&Spot>) -> PackedEntries<'_, Spot, Record>
+    pub(crate) fn from(&self, start: Bound<&Spot>) -> PackedEntries<'_, SpotKey, Record>
         ensures between { result
             ≡ entries_between latest_first (bound_map deref start.entry) Unbounded self.now }
         ensures ordered { AreOrdered latest_first self.now }
@@ -124,7 +125,7 @@ impl RecordMap {
     }
 
     /// The entries up to a bound.
-    pub(crate) fn until(&self, end: Bound<&Spot>) -> PackedEntries<'_, Spot, Record>
+    pub(crate) fn until(&self, end: Bound<&Spot>) -> PackedEntries<'_, SpotKey, Record>
         ensures between { result
             ≡ entries_between latest_first Unbounded (bound_map deref end.entry) self.now }
         ensures ordered { AreOrdered latest_first self.now }

@@ -14,6 +14,7 @@ ghost use Rattle.chat_buffers.specs.Ends.{is_from, is_until};
 ghost use Rattle.chat_buffers.specs.Kept.{IsFirstKept, IsLatestKept, AreKept};
 
 use crate::messages::Messages;
+use crate::spot_key::SpotKey;
 use chat_change::{Moment, Record};
 use chat_history::{Cut, Spot};
 use ordered_maps::PackedEntries;
@@ -23,7 +24,7 @@ use std::ops::Bound;
 /// Records by rising (moment, id). It is seen as the list of what is left.
 #[derive(Drop)]
 pub struct Up<'a> {
-    entries: Option<PackedEntries<'a, Spot, Record>>,
+    entries: Option<PackedEntries<'a, SpotKey, Record>>,
 }
 
 impl<'a> Model for Up<'a> {
@@ -44,7 +45,7 @@ impl<'a> Up<'a> {
         Up { entries: None }
     }
 
-    fn over(entries: PackedEntries<'a, Spot, Record>) -> Up<'a>
+    fn over(entries: PackedEntries<'a, SpotKey, Record>) -> Up<'a>
         ensures { result ≡ reverse (values_of entries.entry) }
     {
         Up {
@@ -74,7 +75,7 @@ impl<'a> Iterator for Up<'a> {
 /// Records by falling (moment, id). It is seen as the list of what is left, in the order in which it comes.
 #[derive(Drop)]
 pub struct Down<'a> {
-    entries: Option<PackedEntries<'a, Spot, Record>>,
+    entries: Option<PackedEntries<'a, SpotKey, Record>>,
 }
 
 impl<'a> Model for Down<'a> {
@@ -95,7 +96,7 @@ impl<'a> Down<'a> {
         Down { entries: None }
     }
 
-    fn over(entries: PackedEntries<'a, Spot, Record>) -> Down<'a>
+    fn over(entries: PackedEntries<'a, SpotKey, Record>) -> Down<'a>
         ensures { result ≡ values_of entries.entry }
     {
         Down {
