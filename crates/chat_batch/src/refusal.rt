@@ -38,7 +38,7 @@ pub(crate) fn refuse<W: Write>(
     }
 }
 
-/// A subcommand as it is told again: in upper case, and `*` for a word that can't be told.
+/// A subcommand as it is repeated: in upper case, and `*` for a word that can't be repeated.
 fn subcommand_of(alloc: Global, word: &[u8]) -> Result<Text, AllocError>
     ensures { IfOk result (λ text. text ≡ spec.subcommand_of word.now) }
 {

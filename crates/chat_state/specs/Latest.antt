@@ -31,7 +31,7 @@ abbrev pub next_of : Option (Bor Buffer × ℕ) → Option (Bor Buffer)
 next_of None = None
 next_of (Some next) = Some next.0
 
--- the walk has come to the next buffer, which has a record at that moment or later, with the moment
+-- the walk has reached the next buffer, which has a record at that moment or later, with the moment
 -- of its latest
 abbrev pub IsAtBuffer : History → ℕ → Option Buffer → Option (Bor Buffer × ℕ) → Type 0
 IsAtBuffer history since last next =

@@ -17,7 +17,7 @@ pub record PieceName : Type 0 where
 abbrev pub name_of : Change → PieceName
 name_of c = record { key = key_of c; post = posted_record c }
 
--- what is told, all of it
+-- what it says, all of it
 abbrev pub name_in : Subject → PieceName
 name_in (Posted r) = record { key = MessageOf r.buffer r.id; post = Some r }
 name_in (Redacted name) =

@@ -1,6 +1,6 @@
 //! A state: the pieces of a history, each with its number.
 
-ghost use Rattle.std.specs.Prelude.{◌≡◌, ◌≢◌, ◌↔◌, ◌∷◌, [], ◌+◌, IsTrue, IfOk, OnOk, OnErr, IfErr, if◌then◌else◌, take};
+ghost use Rattle.std.specs.Prelude.{◌≡◌, ◌≢◌, ◌↔◌, ◌∷◌, [], ◌+◌, false, IsTrue, IfOk, OnOk, OnErr, IfErr, if◌then◌else◌, take};
 ghost use Rattle.chat_history.specs.Deltas.{all_changes};
 ghost use Rattle.chat_state.specs.Run.{IsStoppedRun};
 ghost use Rattle.chat_history.specs.StateValue as spec;
@@ -111,6 +111,19 @@ impl State {
         }
         self.front = number;
         Ok(true)
+    }
+
+    /// Whether the change would change the history.
+    pub fn would_count(&self, change: &ChangeRef<'_>) -> bool
+        ensures counts { IsTrue result →
+            history_with self.now (change_of change.now ∷ []) ≢ self.now.history }
+        ensures same { result ≡ false →
+            history_with self.now (change_of change.now ∷ []) ≡ self.now.history }
+    {
+        match form_of(&self.store, change) {
+            None => false,
+            Some(_) => true,
+        }
     }
 
     /// Takes changes in turn. After a refusal the first `taken` stand.

@@ -4,7 +4,7 @@
 //! A [`Store`] is seen as one finite map from keys to numbered changes. It is `chat_buffers` with an index beside it, in
 //! which each piece is found by its number; [`laws`](crate::laws) says that nothing of a redacted text is left there. A
 //! floor is set for an account or for a buffer, and the greater of the two is in force in a buffer ([`Store::floor_ms`]).
-//! What a change comes to is [`form_of`], in the words of `chat_history`. Read [`Store::place`] first.
+//! How a change counts is [`form_of`], in the words of `chat_history`. Read [`Store::place`] first.
 
 ghost use Rattle.std.specs.Prelude.{◌≡◌, ◌≤◌, IsTrue, IfOk, false};
 ghost use Rattle.std.specs.FinMap as map;

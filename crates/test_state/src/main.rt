@@ -1,4 +1,4 @@
-//! Plays the rows of files, and compares what each comes to with what it is to come to. The words name files of cases:
+//! Plays the rows of files, and compares what each gives with what is expected. The words name files of cases:
 //!
 //!     == name of the case
 //!     row = what comes of it

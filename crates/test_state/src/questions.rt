@@ -117,7 +117,7 @@ fn put_due(alloc: Global, state: &State, words: &str, out: &mut Vec<u8>) -> Resu
 /// What comes of a question:
 ///
 ///     front                  the number of the last change that counted
-///     view                   nothing, where all look-ups in the channels come to the text that is wanted
+///     view                   nothing, where all look-ups in the channels give the text that is wanted
 ///     walks CHANNEL          how many records walks have up and down from each cut
 ///     latest ACCOUNT NETWORK the targets of the buffers with a record, and the moments of their latest ones
 ///     due NOW DAYS           the floors that are due

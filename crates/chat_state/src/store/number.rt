@@ -4,8 +4,9 @@ ghost use Rattle.std.specs.Prelude.{◌≡◌};
 ghost use Rattle.std.proofs.Common.{rules};
 ghost use Rattle.std.specs.Cmp.Rules.{comparing};
 ghost use Rattle.std.specs.Ordering.{as_partial_cmp, eq_by_cmp};
-ghost use Rattle.chat_state.specs.Number.{number_cmp};
+ghost use Rattle.chat_state.specs.Number.{number_ascends, number_cmp, number_prefix};
 
+use ordered_maps::Prefixed;
 use std::cmp::Ordering;
 use std::marker::Model;
 
@@ -63,6 +64,16 @@ impl PartialOrd for Number {
     fn partial_cmp(&self, other: &Number) -> Option<Ordering> {
         Some(self.cmp(other))
     }
+}
+
+impl Prefixed for Number {
+    ghost prefix_of = { number_prefix };
+
+    fn prefix(&self) -> u64 {
+        u64::MAX - self.value
+    }
+
+    ghost ascends = { number_ascends };
 }
 
 /// The greatest number comes first. New numbers are above all earlier ones, and a map looks at its first keys first: so
