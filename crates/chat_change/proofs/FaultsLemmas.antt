@@ -1,4 +1,4 @@
--- What is not refused is lawful. Of several faults the first is told, each exactly where what goes before it is lawful.
+-- What is not refused is lawful. Of several faults the first counts, each exactly where what goes before it is lawful.
 use Rattle.std.proofs.Common.{◌≡◌, ◌≤◌, ℕ, Bool, true, false, ◌&&◌, nat_le, List, length, Option, None, Some, ◌↔◌, IsTrue, refl, ap, ◌∙◌, arith, ◌<◌}
 use Rattle.std.specs.Prelude.{is_none}
 use Rattle.std.proofs.lemmas.Bool.Decides.{nat_tests}
@@ -170,7 +170,7 @@ line_too_long-told m =
     let beyond = above (length (line_of m)) in
     (λ e. let k = h.0 e in (k.0, k.1, k.2, beyond.0 k.3), λ k. h.1 (k.0, k.1, k.2, beyond.1 k.3))
 
--- tags are told last
+-- tags come last
 tags_told : (first : Option ChangeFault) (lawful : Bool) → (first ≡ Some BadTags → ⊥) → (first_fault first (unless_lawful lawful BadTags None) ≡ Some BadTags) ↔ ((first ≡ None) × (lawful ≡ false))
 tags_told None true n = (λ e. cc, λ h. cc)
 tags_told None false n = (λ e. (refl, refl), λ h. refl)

@@ -18,7 +18,7 @@ abbrev pub account_of : Extent → List ℕ
 account_of (OfAccount a) = a
 account_of (OfBuffer b) = b.account
 
--- the texts by which extents are told apart
+-- the texts by which extents differ
 abbrev pub extent_texts : Extent → List (List ℕ)
 extent_texts (OfAccount a) = a ∷ []
 extent_texts (OfBuffer b) = buffer_texts b

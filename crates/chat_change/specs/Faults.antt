@@ -1,4 +1,4 @@
--- Which parts the makers of accounts, buffers, ids and records refuse, and why: of several faults the first is told.
+-- Which parts the makers of accounts, buffers, ids and records refuse, and why: of several faults the first counts.
 use Rattle.std.specs.Prelude.{ℕ, Bool, ◌&&◌, nat_le, List, length, Option, None, Some, is_none, unwrap_or, if◌then◌else◌}
 use Rattle.chat_change.specs.Words.{is_name, is_target, is_id, is_source, is_body, is_tags}
 use Rattle.chat_change.specs.Message.{Message, line_of}

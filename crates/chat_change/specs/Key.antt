@@ -22,7 +22,7 @@ value_of (code_key.Floor e) = FloorOf (extent.value_of e)
 value_of (code_key.Marker buffer) = MarkerOf buffer.now
 value_of (code_key.Message buffer id) = MessageOf buffer.now id.now
 
--- the texts by which keys are told apart and ordered: by account and buffer, there the floor, the marker, and the messages
+-- the texts by which keys differ and are ordered: by account and buffer, there the floor, the marker, and the messages
 -- by id
 abbrev pub key_texts : Key → List (List ℕ)
 key_texts (FloorOf e) = extent_texts e ++ (0 ∷ []) ∷ []

@@ -16,7 +16,7 @@ use std::alloc::AllocError;
 pub enum Change {
     /// A message was posted.
     Post(Record),
-    /// The message of that id was redacted, for good (IRCv3 draft/message-redaction). Where it stood is told by a moment,
+    /// The message of that id was redacted, for good (IRCv3 draft/message-redaction). A moment says where it stood,
     /// if that is known.
     Redact {
         buffer: Buffer,

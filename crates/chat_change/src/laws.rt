@@ -70,7 +70,7 @@ pub fn makers_give_lawful_fields()
         (tagged_fault m tags ≡ None) ↔ (IsLawfulMessage m × (is_tags tags ≡ true)) }
 {}
 
-/// Why the makers of buffers and ids refuse: of a buffer a bad name is told before a bad target.
+/// Why the makers of buffers and ids refuse: for a buffer a bad name goes before a bad target.
 pub fn makers_of_keys_tell_the_first_fault()
     ensures bad_name { (account network target : List ℕ) →
         (buffer_fault account network target ≡ Some fault.BadName)
@@ -81,7 +81,7 @@ pub fn makers_of_keys_tell_the_first_fault()
     ensures bad_id { (text : List ℕ) → (id_fault text ≡ Some fault.BadId) ↔ (is_id text ≡ false) }
 {}
 
-/// Why the makers of records refuse: their faults are told in the order target, source, body, line, tags.
+/// Why the makers of records refuse: their faults come in the order target, source, body, line, tags.
 pub fn maker_of_records_tells_the_first_fault()
     ensures bad_target { (m : Message) → (record_fault m ≡ Some fault.BadTarget)
         ↔ (is_target m.target ≡ false) }

@@ -50,5 +50,5 @@ pub use order::goes_before;
 pub use record::Record;
 pub use words::{
     ID_LIMIT, NAME_LIMIT, TAGS_LIMIT, TARGET_LIMIT, is_body, is_id, is_name, is_source, is_tags,
-    is_target,
+    is_tags_as_written, is_target,
 };

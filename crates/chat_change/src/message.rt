@@ -5,6 +5,7 @@ ghost use Rattle.chat_change.specs.Message.{value_of, IsLawfulMessage};
 
 use crate::faults::ChangeFault;
 use crate::words::{is_body, is_source, is_tags, is_target};
+use std::alloc::Global;
 
 /// The most bytes of a line without its ending (RFC 1459 section 2.3).
 pub const LINE_LIMIT: usize = 510;
@@ -85,12 +86,16 @@ pub(crate) fn fault_of(message: Message<'_>) -> Option<ChangeFault>
 }
 
 /// The same of a message with tags, whose fault is the last.
-pub(crate) fn tagged_fault_of(message: Message<'_>, tags: &[u8]) -> Option<ChangeFault>
+pub(crate) fn tagged_fault_of(
+    alloc: Global,
+    message: Message<'_>,
+    tags: &[u8],
+) -> Option<ChangeFault>
     ensures { result ≡ tagged_fault (value_of message.entry) tags.now }
 {
     match fault_of(message) {
         Some(fault) => Some(fault),
-        None if is_tags(tags) => None,
+        None if is_tags(alloc, tags) => None,
         None => Some(ChangeFault::BadTags),
     }
 }

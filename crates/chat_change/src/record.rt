@@ -122,7 +122,7 @@ impl Record {
         ensures refused { IfErr result (λ fault.
             fault ≡ fault_or_no_memory (tagged_fault (value_of message.entry) tags.now)) }
     {
-        match tagged_fault_of(message, tags) {
+        match tagged_fault_of(alloc, message, tags) {
             Some(fault) => Err(fault),
             None => match Record::from_lawful(alloc, buffer, id, at, message, tags) {
                 Ok(record) => Ok(record),

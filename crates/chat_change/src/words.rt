@@ -1,11 +1,13 @@
-//! Tests of the texts that changes are made of. They take no memory.
-ghost use Rattle.std.specs.Prelude.{◌≡◌};
+//! Tests of the texts that changes are made of. All but that of tags take no memory, and none needs any.
+ghost use Rattle.std.specs.Prelude.{◌≡◌, true};
 ghost use Rattle.std.specs.List.{list_any, list_all};
 ghost use Rattle.byte_text.specs.Words.{has_length_to};
+ghost use Rattle.irc_tags.specs.ClientOnly.{is_client_only_text};
 ghost use Rattle.chat_change.specs.Words as spec;
 
 use byte_text::{begins_with, ends_word, has_line_end, has_word_end};
 use irc_tags::is_client_only_text;
+use std::alloc::Global;
 
 /// The most bytes that the name of an account or of a network has.
 pub const NAME_LIMIT: usize = 32;
@@ -105,8 +107,16 @@ pub fn is_body(text: &[u8]) -> bool
 /// Whether the text is the tags of a message (IRCv3 message-tags, "Client-only tags"): 1 to 4094 bytes, none of NUL, CR,
 /// LF and space, that spell tags of distinct keys, each with a `+` in front, as they are written: joined by `;`, with an
 /// empty value as the bare key, and in other values the five escapes and no others.
-pub fn is_tags(text: &[u8]) -> bool
+pub fn is_tags(alloc: Global, text: &[u8]) -> bool
     ensures { result ≡ spec.is_tags text.now }
 {
-    has_length_to(TAGS_LIMIT, text) && !has_word_end(text) && is_client_only_text(text)
+    has_length_to(TAGS_LIMIT, text) && !has_word_end(text) && is_client_only_text(alloc, text)
+}
+
+/// The same of a text that is written of client-only tags, whose length and bytes are looked at alone.
+pub fn is_tags_as_written(text: &[u8]) -> bool
+    requires { is_client_only_text text.now ≡ true }
+    ensures { result ≡ spec.is_tags text.now }
+{
+    has_length_to(TAGS_LIMIT, text) && !has_word_end(text)
 }

@@ -71,7 +71,7 @@ module _ (changes : List Change) (all : AllByRecursion IsLawfulChange changes) w
   lawful_mark b (Some t) e =
       (All-contains IsLawfulChange changes (Mark b t) (All-from_recursion IsLawfulChange changes all) ((mark_greatest changes b t).0 e).0).1
 
--- ---- words that are told again
+-- ---- words that are repeated
 
 upper_other : (c b : ℕ) → c < 65 → (to_ascii_uppercase b == c) ≡ (b == c)
 upper_other c b h = grind (arith, nat_tests)

@@ -29,7 +29,7 @@ pub record Answer : Type 0 where
 abbrev pub plain : List ℕ → Answer
 plain text = record { text = text; answered = Plain }
 
--- a command that the session has no capability for is told as unknown
+-- a command that the session has no capability for is answered as unknown
 abbrev pub unknown : Facts → List ℕ → Answer
 unknown facts command = plain (unknown_text facts.cluster facts.nick command)
 
@@ -39,7 +39,7 @@ fail facts command code context reason = plain (fail_text facts.cluster command 
 
 -- ---- refusals of CHATHISTORY
 
--- the subcommand as it is told again: in upper case, and `*` for a word that can't be told
+-- the subcommand as it is repeated: in upper case, and `*` for a word that can't be repeated
 abbrev pub subcommand_of : List ℕ → List ℕ
 subcommand_of word = map to_ascii_uppercase (echoed word)
 

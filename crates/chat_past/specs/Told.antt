@@ -18,7 +18,7 @@ pub record HasOwn (r : Record) (own : List Tag) : Type 0 where
 abbrev pub tag_if : Bool → List ℕ → List ℕ → List Tag
 tag_if flag key value = if flag then (key, value) ∷ [] else []
 
--- what a session is told of a message: its id, its moment, and then the record's own tags
+-- what a session hears of a message: its id, its moment, and then the record's own tags
 abbrev pub told_of : CapSet → Record → List Tag → List Tag
 told_of caps r own =
     tag_if caps.message_tags (codes "msgid") r.id

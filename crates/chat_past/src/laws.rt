@@ -80,7 +80,7 @@ pub fn targets_lists_buffers_by_their_latest()
 {}
 
 /// With the set of changes unchanged, AFTER by the last message of the page before, repeated from a visible message until
-/// a page is empty, comes to an end and gives each later visible record once, in order.
+/// a page is empty, ends and gives each later visible record once, in order.
 pub fn reading_forward_gives_each_later_record_once()
     ensures gives { (changes : List Change) (scope : Scope) (target : List ℕ) (limit : ℕ)
         (earlier later : List Record) (r : Record)
@@ -96,7 +96,7 @@ pub fn reading_forward_gives_each_later_record_once()
 {}
 
 /// With the set of changes unchanged, LATEST and then BEFORE by the first message of the page before, repeated until a
-/// page is empty, comes to an end and gives every visible record once; the pages come from the last to the first.
+/// page is empty, ends and gives every visible record once; the pages come from the last to the first.
 pub fn reading_backward_gives_each_record_once()
     ensures gives { (changes : List Change) (scope : Scope) (target : List ℕ) (limit : ℕ)
         → 0 < limit → 0 < scope.maximum

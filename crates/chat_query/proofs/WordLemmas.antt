@@ -71,7 +71,7 @@ pub kind_is_command : (kind : Kind) → is_command (kind_word kind) ≡ true
 kind_is_command Privmsg = refl
 kind_is_command Notice = refl
 
--- a word that is told again
+-- a word that is repeated
 some_bytes : (text : List ℕ) → not (length text == 0) ≡ true → 0 < length text
 some_bytes text e = grind arith
 

@@ -51,7 +51,7 @@ selector_of word =
 abbrev pub selector_or_none_of : List ℕ → Option (Option Selector)
 selector_or_none_of word = if is_star word then Some None else option_map Some (selector_of word)
 
--- ---- checks, of which the first that fails is told
+-- ---- checks, of which the first that fails counts
 
 abbrev pub checked : {A B : Type 0} → Option A → QueryFault → (A → Result B QueryFault)
     → Result B QueryFault
