@@ -89,7 +89,7 @@ word_at s place = slice_index s.words place
 abbrev pub exchanged_word : PlaceStep → ℕ → ℕ
 exchanged_word st found = either (found == st.first) st.second found
 
--- What so many places and their seats can come to
+-- What so many places and their seats can reach
 pub data Reached (count : ℕ) : State (Unit {0}) (Option ℕ) → Type 0 where
   -- the table is made, with each word free, and one seat
   made : Reached count (opening (replicate count free_word) [] first_view)

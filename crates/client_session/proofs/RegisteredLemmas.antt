@@ -1,4 +1,4 @@
--- What a line after registration can come to: one statement for all rows of its table.
+-- What a line after registration can do: one statement for all rows of its table.
 use Rattle.std.proofs.Common.{◌≡◌, ℕ, Bool, not, ◌&&◌, List, [], ◌∷◌, ◌++◌, Option, None, Some, Ok, Err, Result, refl, codes}
 use Rattle.std.specs.List.{AllByRecursion}
 use Rattle.irc_line.specs.declared.line.LineFault.{LineFault}

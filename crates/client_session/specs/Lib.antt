@@ -1,4 +1,4 @@
--- what a reader must believe: the commands, what each comes to before registration and after it, one step, lists of
+-- what a reader must believe: the commands, what each does before registration and after it, one step, lists of
 -- steps, who hears of what comes from a server, and under which conditions what is sent reads back
 pub mod Command
 pub mod Step

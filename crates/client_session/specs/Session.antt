@@ -1,4 +1,4 @@
--- One step of a session: what a line comes to, by the directory of that moment.
+-- One step of a session: what a line does, by the directory of that moment.
 use Rattle.std.specs.Prelude.{ℕ, Bool, false, List, [], Option, None, Some, Result, Ok, Err}
 use Rattle.irc_line.specs.declared.line.LineFault.{LineFault}
 use Rattle.irc_line.specs.declared.line.LineFault.TheVariants.{TooLong}
@@ -36,13 +36,13 @@ facts_now directory f = with_nick_of (entry_in directory f.account f.network) f
 abbrev pub refuse : Facts → LineFault → Step
 refuse f fault = stays f (refusal f.cluster f.nick fault)
 
--- what a line comes to that can't be read
+-- what a line that can't be read does
 abbrev pub fault_step : Directory → Stage → LineFault → Step
 fault_step directory (Waiting w) fault = waits w (refusal w.cluster no_nick fault)
 fault_step directory (Registered f) fault = refuse (facts_now directory f) fault
 fault_step directory Closed fault = silence
 
--- What a line comes to that reads so. The flag says whether the message is shown that a REDACT names.
+-- What a line of that reading does. The flag says whether the message is shown that a REDACT names.
 abbrev pub line_step : Directory → Bool → Stage → List ℕ → Reading → Step
 line_step directory shown (Waiting w) bytes line =
     before_registration directory w (command_of line.command) line.parameters
@@ -55,12 +55,12 @@ abbrev pub reading_step : Directory → Bool → Stage → List ℕ → Result R
 reading_step directory shown session bytes (Err fault) = fault_step directory session fault
 reading_step directory shown session bytes (Ok line) = line_step directory shown session bytes line
 
--- what a line comes to
+-- what a line does
 unfoldable pub step : Directory → Bool → Stage → List ℕ → Step
 step directory shown session bytes =
     reading_step directory shown session bytes (read Client bytes)
 
--- what a line comes to that was too long to be taken in
+-- what a line that was too long does
 abbrev pub too_long : Directory → Stage → Step
 too_long directory session = fault_step directory session TooLong
 

@@ -1,4 +1,4 @@
--- What a line comes to, and what the commands have in common before registration and after it.
+-- What a line does, and what the commands have in common before registration and after it.
 use Rattle.std.specs.Prelude.{ℕ, ◌==◌, not, List, [], ◌∷◌, codes, length, Option, None, Some, if◌then◌else◌}
 use Rattle.irc_line.specs.declared.line.LineFault.{LineFault}
 use Rattle.irc_line.specs.declared.line.LineFault.TheVariants.{Empty, TagsTooLong, TooLong, BadByte, NoCommand}

@@ -318,7 +318,7 @@ fn exchange_nick(facts: &mut Facts, nick: Option<Text>) -> Option<Text>
     }
 }
 
-/// What a command comes to, under the network's present nick. For want of memory nothing changes.
+/// What a command does, under the network's present nick. For want of memory nothing changes.
 pub(crate) fn serve(
     alloc: Global,
     scratch: &mut Scratch,
@@ -349,7 +349,7 @@ pub(crate) fn serve(
     }
 }
 
-/// What a line comes to that can't be read, under the network's present nick. For want of memory nothing changes.
+/// What a line that can't be read does, under the network's present nick. For want of memory nothing changes.
 pub(crate) fn refuse(
     alloc: Global,
     entry: Option<&Entry>,

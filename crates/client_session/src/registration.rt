@@ -321,7 +321,7 @@ impl Waiting {
         }
     }
 
-    /// What a command comes to. It is a copy that goes on, so that a refused step leaves the session as it was.
+    /// What a command does. It is a copy that goes on, so that a refused step leaves the session as it was.
     pub(crate) fn step(
         &self,
         alloc: Global,
@@ -337,7 +337,7 @@ impl Waiting {
         next.serve(alloc, directory, command, parameters)
     }
 
-    /// What a line comes to that can't be read.
+    /// What a line that can't be read does.
     pub(crate) fn refuse(&self, alloc: Global, fault: LineFault) -> Result<Vec<Effect>, NoMemory>
         ensures { IfOk result (λ list. list.items
             ≡ steps.refusal self.now.cluster no_nick fault) }

@@ -129,7 +129,7 @@ impl Session {
         drop(mem::replace(&mut self.stage, stage));
     }
 
-    // What a line comes to that reads so.
+    // What a line of that reading does.
     fn serve(
         &mut self,
         alloc: Global,
@@ -171,7 +171,7 @@ impl Session {
         }
     }
 
-    // What a line comes to that can't be read.
+    // What a line that can't be read does.
     fn refuse(
         &mut self,
         alloc: Global,
@@ -211,7 +211,7 @@ impl Session {
         }
     }
 
-    /// What a line comes to, which stands without its ending, by the directory of this moment. A REDACT looks once whether
+    /// What a line without its ending does, by the directory of this moment. A REDACT looks once whether
     /// its message is shown; no other line looks. A refused step leaves the session as it was.
     ///
     /// A step of a registered session that passes the line on copies it once. It copies nothing else, unless the directory
@@ -243,7 +243,7 @@ impl Session {
         Ok(self.step_shown(alloc, directory, shown, bytes)?)
     }
 
-    /// What a line comes to that was too long to be taken in (`irc_line::Next::TooLong`). A refused call leaves the
+    /// What a line that was too long (`irc_line::Next::TooLong`) does. A refused call leaves the
     /// session as it was.
     pub fn too_long(
         &mut self,

@@ -86,7 +86,7 @@ pub(crate) fn nick_refusal(
     Ok(Some(text))
 }
 
-/// What a line comes to that can't be read.
+/// What a line that can't be read does.
 pub(crate) fn refusal(
     alloc: Global,
     cluster: &[u8],

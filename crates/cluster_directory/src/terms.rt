@@ -9,7 +9,7 @@ use crate::shared_word::SharedWord;
 use crate::version::Version;
 use std::marker::Model;
 
-/// What a node is told of one of its peers.
+/// What a node knows of one of its peers.
 #[derive(Drop)]
 pub struct PeerTerms {
     /// Its name.
