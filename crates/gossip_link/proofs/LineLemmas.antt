@@ -157,10 +157,10 @@ sends t side before l =
     (λ is. ⊎_elim (λ r. inr (is.0, sym r ∙ is.1, is.2)) (λ r. absurd (close_is_no_greeting is.0 (sym r ∙ is.1))) (last_of t side before l))
     (acted_sent t (record s { handshake = record s.handshake { stage = after t s.handshake.stage l } }) l a)
 
-closes_at : (t : Terms) (s : Session) (l : Option PeerLine) (a : Action) → a ≡ act.Close → ((acted t s l a).heard ≡ Close (fault_of l)) × ((acted t s l a).sent ≡ [])
-closes_at t s l a e = subst (λ b. ((acted t s l b).heard ≡ Close (fault_of l)) × ((acted t s l b).sent ≡ [])) (sym e) (refl, refl)
+closes_at : (t : Terms) (s : Session) (l : Option PeerLine) (a : Action) → a ≡ act.Close → ((acted t s l a).heard ≡ Close (fault_of t.me.node l)) × ((acted t s l a).sent ≡ [])
+closes_at t s l a e = subst (λ b. ((acted t s l b).heard ≡ Close (fault_of t.me.node l)) × ((acted t s l b).sent ≡ [])) (sym e) (refl, refl)
 
-pub nothing_follows : (t : Terms) (s : Session) (l next : Option PeerLine) → is_close (step t s l).heard ≡ true → (pace.is_due (step t s l).session.pace ≡ false) × ((step t (step t s l).session next).heard ≡ Close (fault_of next)) × ((step t (step t s l).session next).sent ≡ [])
+pub nothing_follows : (t : Terms) (s : Session) (l next : Option PeerLine) → is_close (step t s l).heard ≡ true → (pace.is_due (step t s l).session.pace ≡ false) × ((step t (step t s l).session next).heard ≡ Close (fault_of t.me.node next)) × ((step t (step t s l).session next).sent ≡ [])
 nothing_follows t s l next e =
     let here : Session = record s { handshake = record s.handshake { stage = after t s.handshake.stage l } } in
     let goes = acted_goes t here l (action s.handshake.side (after t s.handshake.stage l)) in

@@ -43,7 +43,7 @@ abbrev pub reply : Link → Arrived → Outcome → List ℕ
 reply l (Packet p) Taken = written (line.Ack (ack_of l.me p))
 reply l _ _ = []
 
--- what a message may come to
+-- what a message may do
 abbrev pub IsOutcome : Link → Arrived → Outcome → Type 0
 IsOutcome l (Word word) o = o ≡ Ignored
 IsOutcome l (Hello life version) o = o ≡ (if hello_is_wrong l.name l.peer life then Ignored else Known)

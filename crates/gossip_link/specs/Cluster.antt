@@ -37,7 +37,7 @@ pub record World : Type 0 where
 --   Make          a node makes changes
 --   Take          it takes the first so many of a list that it made
 --   Ask           it is asked something
---   Greet         it says hello, in its own version or another that it is told to say
+--   Greet         it says hello, in its own version or another
 --   Hello_comes   a hello reaches its link with a peer
 --   Send          it sends a peer the delta of the first so many changes that it took
 --   Packet_comes  a packet reaches its link with a peer

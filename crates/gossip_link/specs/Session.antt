@@ -1,10 +1,11 @@
 -- One connection with a peer, and what comes of each of its lines.
-use Rattle.std.specs.Prelude.{ℕ, ◌≡◌, ◌++◌, Bool, true, false, Option, Some, None, List, [], Ok, Err}
+use Rattle.std.specs.Prelude.{ℕ, ◌≡◌, ◌++◌, Bool, true, false, Option, Some, None, List, [], Ok, Err, if◌then◌else◌}
 use Rattle.peer_lines.specs.Gather as gather
 use Rattle.peer_lines.specs.Gather.{Gather, pushed}
 use Rattle.peer_lines.specs.Spelling.{Spells, written}
 use Rattle.peer_lines.specs.declared.peer_line.PeerLine.{PeerLine}
 use Rattle.peer_lines.specs.declared.peer_line.PeerLine.TheVariants as line
+use Rattle.cluster_directory.specs.Names.{same_name}
 use Rattle.cluster_directory.specs.Terms.{Terms, version_for}
 use Rattle.gossip_link.specs.Handshake.{after, action, greeted_first}
 use Rattle.gossip_link.specs.declared.handshake.Handshake.{Handshake}
@@ -13,7 +14,7 @@ use Rattle.gossip_link.specs.declared.handshake.Stage.TheVariants.{Silent, Refus
 use Rattle.gossip_link.specs.declared.handshake.Action.{Action}
 use Rattle.gossip_link.specs.declared.handshake.Action.TheVariants as act
 use Rattle.gossip_link.specs.declared.heard.Fault.{Fault}
-use Rattle.gossip_link.specs.declared.heard.Fault.TheVariants.{WrongWord, UnknownNode, BadLine}
+use Rattle.gossip_link.specs.declared.heard.Fault.TheVariants.{WrongWord, UnknownNode, OwnName, BadLine}
 use Rattle.gossip_link.specs.declared.heard.Heard.{Heard}
 use Rattle.gossip_link.specs.declared.heard.Heard.TheVariants.{Nothing, Message, Close}
 use Rattle.gossip_link.specs.declared.pace.Pace.{Pace}
@@ -61,11 +62,15 @@ refused s = record {
   pace = pace.new;
 }
 
--- the fault of a line that the handshake refuses, by what the line is
-abbrev pub fault_of : Option PeerLine → Fault
-fault_of (Some (line.Word word)) = WrongWord
-fault_of (Some (line.Hello life version)) = UnknownNode
-fault_of _ = BadLine
+-- the fault of a hello of a node, at a node of the first name
+abbrev pub fault_of_hello : List ℕ → List ℕ → Fault
+fault_of_hello me name = if same_name name me then OwnName else UnknownNode
+
+-- the fault of a line that the handshake refuses, by what the line is, at a node of that name
+abbrev pub fault_of : List ℕ → Option PeerLine → Fault
+fault_of me (Some (line.Word word)) = WrongWord
+fault_of me (Some (line.Hello life version)) = fault_of_hello me life.node
+fault_of me _ = BadLine
 
 -- whether the connection is to be closed
 abbrev pub is_close : Heard → Bool
@@ -91,7 +96,7 @@ abbrev pub acted : Terms → Session → Option PeerLine → Action → Step
 acted t s l act.Wait = record { session = s; heard = Nothing; sent = [] }
 acted t s l (act.GreetAndHandUp place) = record (handed_up s place l) { sent = greeting t place }
 acted t s l (act.HandUp place) = handed_up s place l
-acted t s l act.Close = closed s (fault_of l)
+acted t s l act.Close = closed s (fault_of t.me.node l)
 
 -- what comes of a line. None stands for one that can't be read or is too long
 abbrev pub step : Terms → Session → Option PeerLine → Step

@@ -1,4 +1,4 @@
-//! What a message of a peer comes to, on the link with that peer.
+//! What a message of a peer does, on the link with that peer.
 ghost use Rattle.std.specs.Prelude.{◌≡◌, ◌++◌, ◌⊎◌, true, IfOk, OnErr};
 ghost use Rattle.chat_history.specs.Growth.{AfterOthers};
 ghost use Rattle.peer_lines.specs.Spelling.{written};
@@ -126,7 +126,7 @@ impl PeerSession {
             ≡ out.old.items ++ spec.reply link.old arrived.now outcome) }
         ensures taker { IfOk result (spec.IsTaken T.holds T.may_add taker.old taker.new
             (spec.changes_of arrived.now)) }
-        // Want of memory is told only of a packet for this life.
+        // Want of memory is answered only of a packet for this life.
         ensures memory { OnErr result (spec.IsPacketForMe link.old arrived.now) }
         ensures err { OnErr result ((taker.new ≡ taker.old)
             ⊎ AfterOthers T.holds T.may_add taker.old

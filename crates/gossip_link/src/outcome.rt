@@ -1,6 +1,6 @@
-//! What messages come to.
+//! What messages do.
 
-/// What a message of a peer comes to.
+/// What a message of a peer does.
 #[derive(Clone, Copy, PartialEq, Eq)]
 pub enum Outcome {
     /// It is passed over: it is of another life or for another, or acknowledges more than was sent.

@@ -17,7 +17,7 @@ pub(crate) struct UnderWay {
     since: u64,
 }
 
-/// When packets are made for a peer, over one connection. It reads nothing: it is told what happens, and of moments in
+/// When packets are made for a peer, over one connection. It reads nothing: it is given what happens, and moments in
 /// milliseconds.
 #[derive(Clone, Copy)]
 pub(crate) struct Pace {

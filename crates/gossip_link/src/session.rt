@@ -76,7 +76,7 @@ impl PeerSession {
     }
 
     /// Appends what is to be sent before any line came: the shared word and the own hello to the peer to which this node
-    /// opened the connection, and nothing where the other node did, so that no stranger is told the word.
+    /// opened the connection, and nothing where the other node did, so that no stranger learns the word.
     pub fn open(&self, terms: &Terms, out: &mut Vec<u8>) -> Result<(), NoMemory>
         ensures { IfOk result (λ _. out.new.items
             ≡ out.old.items ++ spec.opening terms.now self.now.handshake.side) }
@@ -87,13 +87,13 @@ impl PeerSession {
         }
     }
 
-    /// What a line comes to. None stands for one that was too long; the others stand without their ending. The reply is
+    /// What a line does. None stands for one that was too long; the others stand without their ending. The reply is
     /// appended: where the other node opened the connection, the shared word and the own hello, once that node has said
     /// the right word and the hello of a configured peer. The own hello bears the version that this peer is to be told.
     ///
     /// A message arrives only from a configured peer that has said the right word and hello. The connection is to be closed
     /// where a line can't be read, is too long, or breaks the order of lines, and so is it where it wasn't read or gathered
-    /// for want of memory. Then nothing is left of a packet that wasn't whole, further lines come to [`Heard::Close`], and no
+    /// for want of memory. Then nothing is left of a packet that wasn't whole, further lines give [`Heard::Close`], and no
     /// packet is due.
     pub fn hear(
         &mut self,
@@ -105,7 +105,7 @@ impl PeerSession {
         ensures step { IfOk result (λ heard. spec.AfterBytes terms.now self.old
             (option_map deref bytes.entry) (λ step. (self.new ≡ step.session)
             × (heard ≡ step.heard) × (out.new.items ≡ out.old.items ++ step.sent))) }
-        // Want of memory is told only of bytes that spell a line.
+        // Want of memory is answered only of bytes that spell a line.
         ensures memory { OnErr result (spec.SpellsSome (option_map deref bytes.entry)) }
         ensures err { OnErr result (self.new ≡ spec.refused self.old) }
     {
@@ -119,7 +119,7 @@ impl PeerSession {
         heard
     }
 
-    // What a line comes to that was read, or that couldn't be.
+    // What a line does, read or unreadable.
     fn take_line(
         &mut self,
         alloc: Global,
@@ -149,7 +149,7 @@ impl PeerSession {
             },
             Action::HandUp(place) => self.gather_line(alloc, terms, place, line),
             Action::Close => {
-                let fault = Fault::of(&line);
+                let fault = Fault::of(terms.me().node(), &line);
                 drop(line);
                 self.refuse(terms);
                 Ok(Heard::Close(fault))

@@ -66,7 +66,7 @@ pub fn closed_after_three_packets()
 /// so far, with it, are the shared word, then a hello of a configured peer other than this node, then what that peer
 /// sends; and it goes to that peer's place. Something is sent because of a line only where the other node opened the
 /// connection and the lines are such a word and such a first hello, and no more: it is the greeting to that peer, so no
-/// stranger is told the word. Once a connection is to be closed no packet is due, and each further line is refused.
+/// stranger learns the word. Once a connection is to be closed no packet is due, and each further line is refused.
 pub fn messages_come_from_peers()
     ensures arrives { (t : Terms) (side : Side) (before : List (Option PeerLine))
         (line : Option PeerLine) (place : ℕ) (arrived : Arrived) →
@@ -82,7 +82,7 @@ pub fn messages_come_from_peers()
     ensures closed { (t : Terms) (s : Session) (line next : Option PeerLine) →
         is_close (step t s line).heard ≡ true → let then = step t (step t s line).session next in
         (pace.is_due (step t s line).session.pace ≡ false)
-        × (then.heard ≡ Close (fault_of next)) × (then.sent ≡ []) }
+        × (then.heard ≡ Close (fault_of t.me.node next)) × (then.sent ≡ []) }
 {
     super::handshake();
 }
