@@ -1,3 +1,4 @@
 mod DifferingLemmas
 mod EntryLemmas
+mod NamingLemmas
 mod TableLemmas

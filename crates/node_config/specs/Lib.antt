@@ -3,7 +3,9 @@
 pub mod Document
 pub mod Values
 pub mod Meaning
+pub mod Keeper
 pub mod Names
+pub mod Naming
 pub mod Differing
 pub mod Beginnings
 -- what the contracts of the readers cite besides

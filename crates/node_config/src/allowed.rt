@@ -39,6 +39,10 @@ pub enum Allowed {
     NewName,
     /// The name of an account of the configuration.
     KnownAccount,
+    /// The path of a file.
+    Path,
+    /// A name that is smaller than that of each peer.
+    SmallestName,
 }
 
 impl Allowed {
@@ -62,6 +66,8 @@ impl Allowed {
             Allowed::OtherNode => "not the name of this node",
             Allowed::NewName => "a name that no entry before has",
             Allowed::KnownAccount => "the name of an account",
+            Allowed::Path => "the path of a file",
+            Allowed::SmallestName => SMALLEST_NAME,
         }
     }
 }
@@ -76,6 +82,9 @@ impl Display for Allowed {
         }
     }
 }
+
+const SMALLEST_NAME: &str =
+    "a name smaller than each peer's by its bytes, since a keeper opens every connection";
 
 const TARGET: &str =
     "1 to 200 bytes without NUL, CR, LF, space and ',', not '*', and no ':' in front";

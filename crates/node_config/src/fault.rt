@@ -37,6 +37,8 @@ impl ListName {
 pub enum ConfigPlace {
     /// The whole.
     Top,
+    /// The whole of a keeper's configuration.
+    Keeper,
     /// An entry of a list. Entries are counted from 1.
     Entry(ListName, usize),
 }
@@ -85,7 +87,7 @@ impl From<AllocError> for ValueFault {
 impl fmt::Display for ConfigPlace {
     fn fmt<W: fmt::Write>(&self, f: &mut fmt::Formatter<W>) -> Result<(), fmt::Error> {
         match *self {
-            ConfigPlace::Top => f.write_str("top level"),
+            ConfigPlace::Top | ConfigPlace::Keeper => f.write_str("top level"),
             ConfigPlace::Entry(list, entry) => write!(f, "{} {entry}", list.as_str()),
         }
     }
@@ -93,16 +95,40 @@ impl fmt::Display for ConfigPlace {
 
 impl fmt::Display for Wrong {
     fn fmt<W: fmt::Write>(&self, f: &mut fmt::Formatter<W>) -> Result<(), fmt::Error> {
-        match (self.place, self.key) {
-            (ConfigPlace::Top, Some(key)) => write!(f, "{key}: ")?,
-            (place, Some(key)) => write!(f, "{place}, {key}: ")?,
-            (place, None) => write!(f, "{place}: ")?,
-        }
-        if self.allowed == Allowed::KnownKeys {
-            return write_known(f, self.place);
-        }
-        write!(f, "{}", self.allowed)
+        write_wrong(f, self, None)
     }
+}
+
+/// Writes what is wrong, with the name of the entry that it is in behind the entry's number, where one is given.
+pub(crate) fn write_wrong<W: fmt::Write>(
+    f: &mut fmt::Formatter<W>,
+    wrong: &Wrong,
+    name: Option<&str>,
+) -> Result<(), fmt::Error> {
+    write_place(f, wrong, name)?;
+    match wrong.allowed {
+        Allowed::KnownKeys => write_known(f, wrong.place),
+        allowed => write!(f, "{allowed}"),
+    }
+}
+
+// Which table is wrong, and at which key. A key of the top level stands alone.
+fn write_place<W: fmt::Write>(
+    f: &mut fmt::Formatter<W>,
+    wrong: &Wrong,
+    name: Option<&str>,
+) -> Result<(), fmt::Error> {
+    match (wrong.place, wrong.key) {
+        (ConfigPlace::Top | ConfigPlace::Keeper, Some(key)) => return write!(f, "{key}: "),
+        (place, _) => write!(f, "{place}")?,
+    }
+    if let Some(name) = name {
+        write!(f, " ({name})")?;
+    }
+    if let Some(key) = wrong.key {
+        write!(f, ", {key}")?;
+    }
+    f.write_str(": ")
 }
 
 // Which keys a table may have.

@@ -26,6 +26,11 @@ const TOP: Keys = Keys {
     allowed: &["maximum", "peer", "account", "network"],
 };
 
+const KEEPER: Keys = Keys {
+    wanted: &["node", "peer_word", "file"],
+    allowed: &["peer"],
+};
+
 const PEER: Keys = Keys {
     wanted: &["name", "address"],
     allowed: &["version"],
@@ -45,6 +50,7 @@ const NETWORK: Keys = Keys {
 pub(crate) fn keys_of(place: ConfigPlace) -> Keys {
     match place {
         ConfigPlace::Top => TOP,
+        ConfigPlace::Keeper => KEEPER,
         ConfigPlace::Entry(ListName::Peers, _) => PEER,
         ConfigPlace::Entry(ListName::Accounts, _) => ACCOUNT,
         ConfigPlace::Entry(ListName::Networks, _) => NETWORK,
@@ -99,4 +105,10 @@ pub(crate) fn check_keys(table: &Table) -> Result<(), Wrong> {
     check_list(table, ListName::Peers)?;
     check_list(table, ListName::Accounts)?;
     check_list(table, ListName::Networks)
+}
+
+/// The same of a keeper's configuration.
+pub(crate) fn check_keeper_keys(table: &Table) -> Result<(), Wrong> {
+    check_table(table, ConfigPlace::Keeper)?;
+    check_list(table, ListName::Peers)
 }

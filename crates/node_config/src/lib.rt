@@ -31,12 +31,26 @@
 //! channels = ["#a"]
 //! ```
 //!
+//! A keeper, which holds the history in a file and has no clients and no networks, has a configuration of its own
+//! ([`read_keeper_config`]):
+//!
+//! ```toml
+//! node = "k1"                     # smaller than the name of each peer by its bytes
+//! peer_word = "green"
+//! file = "/var/lib/bnc-keep/past"
+//!
+//! [[peer]]                        # each node, as above
+//! name = "n1"
+//! address = "127.0.0.1:7000"
+//! ```
+//!
 //! All keys but `maximum`, `version` and `keep_from` are needed, and no others may stand there; each of the three lists
 //! may be missing.
 //! [`read_config`] answers a [`Config`] or the first [`ConfigFault`], which says where the text is wrong and what is
-//! allowed there, and never shows a secret or the shared word. A [`Config`] gives what the parts of a node begin with:
-//! the directory of accounts and networks for clients' sessions, the names of the peers, and a copy of each network for
-//! the session with its server. No type that holds a secret or the shared word has a `Debug` text.
+//! allowed there, and never shows a secret or the shared word. A [`NamedFault`] shows the name of the entry too, by
+//! [`entry_name`]. A [`Config`] gives what the parts of a node begin with: the directory of accounts and networks for clients'
+//! sessions, the names of the peers, and a copy of each network for the session with its server. No type that holds a secret
+//! or the shared word has a `Debug` text.
 #![tactic(auto)]
 
 mod allowed;
@@ -44,9 +58,12 @@ mod beginnings;
 mod config;
 mod entries;
 mod fault;
+mod keeper;
+mod keeper_reading;
 mod keys;
 mod limits;
 mod names;
+mod naming;
 mod networks;
 mod peers;
 mod reading;
@@ -56,6 +73,9 @@ pub use allowed::Allowed;
 pub use config::Config;
 pub use entries::{AccountConfig, NetworkConfig, PeerConfig};
 pub use fault::{ConfigFault, ConfigPlace, ListName, Wrong};
+pub use keeper::KeeperConfig;
+pub use keeper_reading::read_keeper_config;
 pub use limits::Limits;
 pub use names::is_cluster_name;
+pub use naming::{NamedFault, entry_name};
 pub use reading::read_config;

@@ -1,5 +1,6 @@
 //! Reading a configuration.
-ghost use Rattle.std.specs.Prelude.{◌≡◌, true, false, IfOk, IfErr};
+ghost use Rattle.std.specs.Prelude.{◌≡◌, true, false, IfOk, IfErr, IsSomeAnd};
+ghost use Rattle.toml.specs.Parse.{parse_document};
 ghost use Rattle.toml.specs.View.{table_view};
 ghost use Rattle.node_config.specs.Document.{IsDocument, IsRefused};
 ghost use Rattle.node_config.specs.Differing.{all_differ, same_peer, has_peer, same_account};
@@ -29,23 +30,13 @@ use toml::Table;
 /// Reads a configuration. It is refused for the first of these: it isn't UTF-8 or TOML, a key is missing or isn't known, a
 /// value isn't allowed. A configuration that is read is what the text says: each value is the one under its own key, and
 /// each list has all entries in their order. All are in their ranges, as [`Config`] and its parts say.
-/// Which wrong key or value is told is left to tests: the first in the order of the keys, and of the entries.
+/// Tests show which wrong key or value is named: the first in the order of the keys, and of the entries.
 pub fn read_config(alloc: Global, bytes: &[u8]) -> Result<Config, ConfigFault>
     ensures document { IfOk result (λ _. IsDocument bytes.now) }
     ensures refused { IfErr result (λ fault. IsRefused bytes.now fault) }
     ensures values { IfOk result (λ config. Says bytes.now config) }
 {
-    let text = match std::str::from_utf8(bytes) {
-        Ok(text) => text,
-        Err(fault) => return Err(ConfigFault::BadText(line_at(bytes, fault.valid_up_to()))),
-    };
-    let table = match toml::table_from_str(alloc, text) {
-        Ok(table) => table,
-        Err(fault) => match fault.span() {
-            None => return Err(ConfigFault::NoMemory),
-            Some(span) => return Err(ConfigFault::BadText(line_at(bytes, span.start))),
-        },
-    };
+    let table = document_in(alloc, bytes)?;
     if let Err(wrong) = check_keys(&table) {
         return Err(ConfigFault::BadKey(wrong));
     }
@@ -53,6 +44,26 @@ pub fn read_config(alloc: Global, bytes: &[u8]) -> Result<Config, ConfigFault>
         Ok(config) => Ok(config),
         Err(ValueFault::Wrong(wrong)) => Err(ConfigFault::BadValue(wrong)),
         Err(ValueFault::NoMemory) => Err(ConfigFault::NoMemory),
+    }
+}
+
+/// The table that the bytes spell.
+pub(crate) fn document_in(alloc: Global, bytes: &[u8]) -> Result<Table, ConfigFault>
+    ensures document { IfOk result (λ _. IsDocument bytes.now) }
+    ensures table { IfOk result (λ table.
+        IsSomeAnd (parse_document bytes.now) (λ document. document ≡ table_view table)) }
+    ensures refused { IfErr result (λ fault. IsRefused bytes.now fault) }
+{
+    let text = match std::str::from_utf8(bytes) {
+        Ok(text) => text,
+        Err(fault) => return Err(ConfigFault::BadText(line_at(bytes, fault.valid_up_to()))),
+    };
+    match toml::table_from_str(alloc, text) {
+        Ok(table) => Ok(table),
+        Err(fault) => match fault.span() {
+            None => Err(ConfigFault::NoMemory),
+            Some(span) => Err(ConfigFault::BadText(line_at(bytes, span.start))),
+        },
     }
 }
 

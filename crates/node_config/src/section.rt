@@ -123,6 +123,17 @@ impl<'a> Section<'a> {
         Ok(Text::new(alloc, text.as_bytes())?)
     }
 
+    /// The path of a file: a text with something in it.
+    pub fn path(self, alloc: Global, key: &'static str) -> Result<Text, ValueFault>
+        ensures { IfOk result (λ text. HasText (table_of self.entry) key.now text) }
+    {
+        let text = self.text(key, Allowed::Path)?;
+        if text.is_empty() {
+            return Err(self.wrong(key, Allowed::Path));
+        }
+        Ok(Text::new(alloc, text.as_bytes())?)
+    }
+
     pub fn cluster_name(self, alloc: Global, key: &'static str) -> Result<Text, ValueFault>
         ensures named { IfOk result (λ text. spec.is_cluster_name text ≡ true) }
         ensures value { IfOk result (λ text. HasText (table_of self.entry) key.now text) }
