@@ -61,7 +61,7 @@ acted_alike t a b k l (act.GreetAndHandUp place) =
     let h = handed_alike a b k place l in
     record { session = record { handshake = h.session.handshake; gather = h.session.gather }; heard = h.heard; sent = refl }
 acted_alike t a b k l (act.HandUp place) = handed_alike a b k place l
-acted_alike t a b k l act.Close = closed_alike a b k (fault_of l)
+acted_alike t a b k l act.Close = closed_alike a b k (fault_of t.me.node l)
 
 step_alike : (t : Terms) (a b : Session) → Alike a b → (l : Option PeerLine) → AlikeSteps (step t a l) (step t b l)
 step_alike t a b k l =

@@ -91,6 +91,7 @@ fn reason_of(noted: Option<usize>, fault: Fault) -> Reason {
     match (noted, fault) {
         (None, Fault::WrongWord) => Reason::WrongWord,
         (None, Fault::UnknownNode) => Reason::UnknownNode,
+        (None, Fault::OwnName) => Reason::OwnName,
         _ => Reason::BadLine,
     }
 }
@@ -166,7 +167,20 @@ impl<C: Connection> Talk<C> {
     /// Hears the next line that came over the connection, or that it was too long. What is to be sent because of it waits for
     /// the peer. Where the connection is to be closed because of the line, it is lost. Nothing is heard before the message that
     /// came is carried out. False where the next line isn't there yet: it is time to [`fill`](Talk::fill).
-    pub fn hear(&mut self, view: &NodeView, out: &mut Vec<u8>) -> bool {
+    ///
+    /// Where too much waits already, that is written first. Where the connection doesn't take enough of it, it is lost.
+    pub fn hear<P: Carries<ToPeer, Connection = C>>(
+        &mut self,
+        port: &mut P,
+        view: &NodeView,
+        out: &mut Vec<u8>,
+    ) -> bool {
+        self.make_room(port);
+        self.hear_line(view, out)
+    }
+
+    // The same once there is room.
+    fn hear_line(&mut self, view: &NodeView, out: &mut Vec<u8>) -> bool {
         if self.lost.is_some() {
             return true;
         }

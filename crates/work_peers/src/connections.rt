@@ -3,8 +3,9 @@ ghost use Rattle.std.specs.Prelude.{◌≡◌, []};
 
 use crate::peer::Peer;
 use crate::peers::Peers;
-use bnc_ports::{Carries, Connection, Event, Reason};
+use bnc_ports::{Carries, Connection, Event, Reason, Unreached};
 use peer_connection::ToPeer;
+use std::net::SocketAddr;
 use worker_io::{Context, NodeView, PATIENCE, Timer};
 
 impl<C: Connection> Peers<C> {
@@ -23,18 +24,19 @@ impl<C: Connection> Peers<C> {
         }
         let Some(connection) = context.port.open(number) else {
             return match dialed {
-                Some(place) => self.retry(context, place),
+                Some(place) => self.retry(context, place, Unreached::Gone),
                 None => self.tell_refused(context, None, Reason::Unreachable, None),
             };
         };
-        match self.open(&context.view, number, connection, dialed) {
+        let address = context.port.address(&connection);
+        match self.open(&context.view, number, connection, address, dialed) {
             Ok(()) => {
                 self.connections.wake(number);
                 if context.set_patience(number, PATIENCE).is_err() {
                     self.close(context, number, Reason::NoMemory);
                 }
             }
-            Err(connection) => self.turn_away(context, connection, dialed),
+            Err(connection) => self.turn_away(context, connection, address, dialed),
         }
     }
 
@@ -43,9 +45,9 @@ impl<C: Connection> Peers<C> {
         &mut self,
         context: &mut Context<P>,
         connection: C,
+        address: Option<SocketAddr>,
         dialed: Option<usize>,
     ) {
-        let address = context.port.address(&connection);
         context.port.close(connection);
         self.tell_refused(context, address, Reason::NoMemory, dialed);
         if let Some(place) = dialed {
@@ -53,13 +55,14 @@ impl<C: Connection> Peers<C> {
         }
     }
 
-    // Takes a new connection in, over which nothing came and nothing was sent, with what is to be sent before any line came. For
-    // want of memory it is handed back.
+    // Takes a new connection with that address in, over which nothing came and nothing was sent, with what is to be sent before
+    // any line came. For want of memory it is handed back.
     fn open(
         &mut self,
         view: &NodeView,
         number: usize,
         connection: C,
+        address: Option<SocketAddr>,
         dialed: Option<usize>,
     ) -> Result<(), C>
         requires received { C.received connection ≡ [] }
@@ -67,7 +70,7 @@ impl<C: Connection> Peers<C> {
     {
         let order = self.begun;
         self.begun = order.saturating_add(1);
-        let peer = Peer::new(view, connection, dialed, order, &mut self.out)?;
+        let peer = Peer::new(view, connection, address, dialed, order, &mut self.out)?;
         match self.connections.insert(number, peer) {
             Ok(()) => Ok(()),
             Err(peer) => Err(peer.into_connection()),
@@ -133,11 +136,9 @@ impl<C: Connection> Peers<C> {
         context.timers.clear(Timer::Unregistered(number));
         context.timers.clear(Timer::UnansweredPacket(number));
         context.timers.clear(Timer::QuietPeer(number));
-        let dialed = peer.dialed;
+        let (dialed, address) = (peer.dialed, peer.address);
         let place = peer.talk.noted();
-        let connection = peer.into_connection();
-        let address = context.port.address(&connection);
-        context.port.close(connection);
+        context.port.close(peer.into_connection());
         match self.name(place) {
             Some(node) => context.report(&Event::PeerDown { node, reason }),
             None => self.tell_refused(context, address, reason, dialed),

@@ -1,6 +1,6 @@
 //! Connections that this node opens.
 use crate::peers::Peers;
-use bnc_ports::{Connection, Dial, Event, Port};
+use bnc_ports::{Connection, Dial, Event, Port, Unreached};
 use worker_io::{Context, RETRY, Timer};
 
 impl<C: Connection> Peers<C> {
@@ -17,19 +17,19 @@ impl<C: Connection> Peers<C> {
         if !self.is_wanted(place) {
             return;
         }
-        if context.port.dial(Dial::Peer(place)).is_err() {
-            self.retry(context, place);
+        if let Err(why) = context.port.dial(Dial::Peer(place)) {
+            self.retry(context, place, why);
         }
     }
 
-    /// A connection with the peer at that place could not be made: the operator is told with which and where, and it is tried
-    /// again later.
-    pub fn retry<P: Port>(&mut self, context: &mut Context<P>, place: usize) {
+    /// A connection with the peer at that place could not be made: the operator is told with which, where and why, and it is
+    /// tried again later.
+    pub fn retry<P: Port>(&mut self, context: &mut Context<P>, place: usize, why: Unreached) {
         let address = context.port.target(Dial::Peer(place));
         if let Some(node) = self.name(Some(place)) {
             context
                 .port
-                .report(&Event::PeerUnreachable { node, address });
+                .report(&Event::PeerUnreachable { node, address, why });
         }
         self.dial_later(context, place);
     }

@@ -1,5 +1,5 @@
 //! Lives that are behind: a peer that says hello as an earlier life than the one that is known of it, and this node, where a
-//! peer knows a later life of it. That is so where a clock was set back before a start.
+//! peer knows a later life of it. That is so where a clock was set back before a start, and where two nodes have one name.
 use crate::peer::Peer;
 use crate::peer_record::PeerRecord;
 use bnc_ports::{Connection, Event, Port};
@@ -55,9 +55,12 @@ impl PeerRecord {
             None => said,
         };
         if incarnation == said {
-            context
-                .port
-                .report(&Event::PeerGreeted { node, incarnation });
+            let address = peer.address;
+            context.port.report(&Event::PeerGreeted {
+                node,
+                address,
+                incarnation,
+            });
         } else {
             context
                 .port
@@ -79,9 +82,11 @@ impl PeerRecord {
             return;
         }
         peer.is_behind = true;
+        let incarnation = receiver.incarnation();
         context.port.report(&Event::NodeBehind {
             node: self.name.as_bytes(),
-            incarnation: receiver.incarnation(),
+            incarnation,
+            is_past: incarnation <= context.view.moment.ms(),
         });
     }
 }

@@ -4,12 +4,15 @@ ghost use Rattle.std.specs.Prelude.{◌≡◌, []};
 use crate::level::Supply;
 use bnc_ports::Connection;
 use peer_connection::Talk;
+use std::net::SocketAddr;
 use worker_io::{NodeView, Served};
 
 /// A connection with a peer.
 #[derive(Drop)]
 pub struct Peer<C: Connection> {
     pub(crate) talk: Talk<C>,
+    /// Who is at the other end.
+    pub(crate) address: Option<SocketAddr>,
     /// The place of the peer to which this node connected.
     pub(crate) dialed: Option<usize>,
     /// How many connections came before it.
@@ -27,11 +30,12 @@ pub struct Peer<C: Connection> {
 }
 
 impl<C: Connection> Peer<C> {
-    /// A new connection, to the peer at that place where this node opened it, behind so many others. What is said first is
-    /// written into the room, and waits for the peer. For want of memory the connection comes back.
+    /// A new connection with that address, to the peer at that place where this node opened it, behind so many others. What is
+    /// said first is written into the room, and waits for the peer. For want of memory the connection comes back.
     pub(crate) fn new(
         view: &NodeView,
         connection: C,
+        address: Option<SocketAddr>,
         dialed: Option<usize>,
         order: u64,
         room: &mut Vec<u8>,
@@ -42,6 +46,7 @@ impl<C: Connection> Peer<C> {
         let talk = Talk::new(view, connection, dialed, room)?;
         Ok(Peer {
             talk,
+            address,
             dialed,
             order,
             supply: Supply::Awaited { since: view.now },

@@ -56,7 +56,7 @@ impl<C: Connection> Peer<C> {
         context: &mut Context<P>,
         out: &mut Vec<u8>,
     ) -> PeerStep {
-        if self.talk.hear(&context.view, out) {
+        if self.talk.hear(&mut context.port, &context.view, out) {
             self.next_step()
         } else {
             self.fill(context)

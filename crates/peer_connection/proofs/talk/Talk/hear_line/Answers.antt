@@ -5,7 +5,7 @@ use Rattle.gossip_link.specs.Session.{is_close}
 use Rattle.gossip_link.specs.declared.heard.Heard.TheVariants.{Nothing}
 use Rattle.peer_connection.specs.Served.{AfterNext}
 use Rattle.peer_connection.proofs.CourseLemmas.{owed, by_terms, hears}
-use Rattle.peer_connection.proofs.talk.Talk.hear.Goals as goal
+use Rattle.peer_connection.proofs.talk.Talk.hear_line.Goals as goal
 
 pub invariant_of-self-2 : goal.invariant_of-self-2
 invariant_of-self-2 g c =
