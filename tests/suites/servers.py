@@ -5,7 +5,8 @@ import re
 
 from harness.client import page
 from harness.failure import Failed, expect
-from harness.node import Node
+from harness.identities import NETWORKS, Identity
+from harness.node import Node, TwoAccounts
 from harness.registry import test
 from harness.server import Server
 
@@ -340,8 +341,35 @@ def clients_stay_where_the_server_ends(fixture):
 def a_server_that_can_not_be_reached_is_told(fixture):
     """Clients come in meanwhile."""
     node = Node(fixture, servers=[("127.0.0.1", 1)]).begin()
-    node.wait_for("upstream down: demo/net: it could not be reached")
+    node.wait_for("upstream down: demo/net: it could not be reached at 127.0.0.1:1: connection refused")
     node.client().register()
+
+
+class AllNetworks(TwoAccounts):
+    """A node with each account and each network of it, by harness/identities.py."""
+
+    def sessions(self):
+        return [self.session(*names, address) for names, address in zip(NETWORKS, self.servers)]
+
+
+@test
+def each_network_is_dialed_by_its_own_nick_user_and_channel(fixture):
+    """Two networks of one account, and one of another account. Each server hears what the configuration has for it, and clients
+    are told the nick and the channel of their own network, at either worker."""
+    servers = [Server(fixture) for _ in NETWORKS]
+    node = AllNetworks(fixture, servers=[it.address for it in servers], channels=["#a"]).begin()
+    for (account, network), server, who in zip(NETWORKS, servers, (Identity("al", ["#a"]), *list(NETWORKS.values())[1:])):
+        session = server.accept(f"the server of {account}/{network}")
+        session.hear("CAP LS 302", f"NICK {who.nick}", f"USER {who.user} 0 * :{who.user}")
+        session.say(":irc.example CAP * LS :")
+        session.hear("CAP END")
+        session.say(f":irc.example 001 {who.nick} :Welcome", "PING :up")
+        session.hear(*(f"JOIN {channel}" for channel in who.channels), "PONG :up")
+        session.say(*(f":{who.nick}!{who.user}@host JOIN {channel}" for channel in who.channels))
+        server.settled(session)
+        for number in range(2):
+            client = node.client(f"client {number} of {account}/{network}")
+            client.register("draft/read-marker", account=account, network=network, nick=who.nick, channels=who.channels)
 
 
 @test

@@ -8,7 +8,7 @@ use crate::peer_turns::serve_peers;
 use crate::publisher::Publisher;
 use crate::server_turns::{do_said, do_server, serve_server};
 use crate::work_port::{PortClients, PortPeers, PortServers, WorkPort};
-use bnc_ports::{Connection, Dial, Gate, Happening, Port};
+use bnc_ports::{Connection, Dial, Gate, Happening, Port, Unreached};
 use byte_text::NoMemory;
 use chat_change::Moment;
 use client_places::Attachment;
@@ -168,11 +168,12 @@ fn refused<S: Connection, E: Connection, P: Port>(
     peers: &mut Peers<E>,
     number: usize,
     what: Dial,
+    why: Unreached,
 ) {
     context.port.give_up(number);
     match what {
-        Dial::Network(network) => servers.retry(context, network),
-        Dial::Peer(place) => peers.retry(context, place),
+        Dial::Network(network) => servers.retry(context, network, why),
+        Dial::Peer(place) => peers.retry(context, place, why),
     }
 }
 
@@ -288,7 +289,9 @@ fn act_on<N: Node, X: Attachment, P: WorkPort>(
             }
             Dial::Peer(place) => peers.begin(context, *number, Some(*place)),
         },
-        Happening::Refused { number, what } => refused(context, servers, peers, *number, *what),
+        Happening::Refused { number, what, why } => {
+            refused(context, servers, peers, *number, *what, *why);
+        }
         Happening::Ready {
             number,
             readable,

@@ -17,6 +17,6 @@ pub(crate) fn delivery_of(is_taken: bool) -> Delivery {
     if is_taken {
         Delivery::Taken
     } else {
-        Delivery::Refused(Reason::Overrun)
+        Delivery::Refused(Reason::OverBound)
     }
 }

@@ -66,7 +66,7 @@ impl<X: Attachment, C: Connection> Client<X, C> {
             .connection
             .offer::<ToClient, P>(&mut context.port, room.as_slice())
         {
-            return Delivery::Refused(Reason::Overrun);
+            return Delivery::Refused(Reason::OverBound);
         }
         self.told = nick;
         Delivery::Taken

@@ -30,7 +30,7 @@ impl<X: Attachment, C: Connection> Admitted<X, C> {
             return ClientStep::Over(reason);
         }
         if !self.client.offer_waiting() {
-            return ClientStep::Over(Reason::Overrun);
+            return ClientStep::Over(Reason::OverBound);
         }
         if let Closing::AfterWrites(reason) = self.closing {
             return last_step(self.client.pump(&mut context.port), reason);
@@ -103,7 +103,7 @@ impl<X: Attachment, C: Connection> Clients<X, C> {
             Pumped::All | Pumped::Some => return self.connections.wake(number),
             Pumped::Blocked => return,
             Pumped::Closed => Reason::Closed,
-            Pumped::Overrun => Reason::Overrun,
+            Pumped::Overrun => Reason::OverBound,
             Pumped::NoMemory => Reason::NoMemory,
         };
         self.close(context, number, reason);

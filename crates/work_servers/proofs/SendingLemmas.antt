@@ -258,6 +258,10 @@ pub went_out : {lost : Option Reason} {session : OwnSession} {before later : Tra
 went_out {unread = unread} same went =
     filled (λ given are. subst (λ (r : List ℕ). AreGiven r given unread) (sym same) are) went
 
+-- of a connection that is lost nothing is said
+pub lost_now : {session : OwnSession} {traffic : Traffic} {unread : Unread} {kept : Option (List ℕ)} (reason : Reason) → IsHeldTo (Some reason) session traffic unread kept
+lost_now reason = record { exchanged = λ none. absurd (cc) }
+
 -- nothing was lost, and what is owed goes out
 pub may_go : {lost : Option Reason} {session : OwnSession} {traffic : Traffic} {unread : Unread} {kept : Option (List ℕ)} → lost ≡ None → IsHeldTo lost session traffic unread kept → BeginsOf (IsToldByRight traffic.received) (handed traffic)
 may_go {lost} {session} {traffic} {unread} {kept} none held =

@@ -5,9 +5,10 @@ ghost use Rattle.work_servers.specs.Owing.{Begins};
 use crate::dialogue::Dialogue;
 use crate::entry_update::EntryUpdate;
 use crate::kind::ToServer;
+use crate::owing::room_for;
 use crate::server::Server;
 use crate::servers::Servers;
-use bnc_ports::{Carries, Connection, Dial, Event, Port, Reason};
+use bnc_ports::{Carries, Connection, Dial, Event, Port, Reason, Unreached};
 use byte_text::{NoMemory, Text};
 use network_session::{NetworkSession, ServerEffects};
 use passed_lines::NetworkEntry;
@@ -36,6 +37,14 @@ fn new_session(
             drop(session);
             Err(NoMemory)
         }
+    }
+}
+
+// How many bytes may wait for the server of a network.
+fn room_of(view: &NodeView, network: usize) -> usize {
+    match view.networks.get(network) {
+        Some(config) => room_for(config.channels.names()),
+        None => room_for(&[]),
     }
 }
 
@@ -85,14 +94,24 @@ impl<C: Connection> Servers<C> {
     pub fn dial<P: Port>(&mut self, context: &mut Context<P>, network: usize) {
         match context.port.dial(Dial::Network(network)) {
             Ok(number) => self.set_line(network, Some(number)),
-            Err(_) => self.retry(context, network),
+            Err(why) => self.retry(context, network, why),
         }
     }
 
-    /// A connection with a network's server could not be made: the operator is told, and it is tried again later.
-    pub fn retry<P: Port>(&mut self, context: &mut Context<P>, network: usize) {
+    /// A connection with a network's server could not be made: the operator is told where and why, and it is tried again later.
+    pub fn retry<P: Port>(&mut self, context: &mut Context<P>, network: usize, why: Unreached) {
         self.set_line(network, None);
-        put_off(context, network, Reason::Unreachable, None);
+        let address = context.port.target(Dial::Network(network));
+        let Context { port, view, .. } = context;
+        if let Some(config) = view.networks.get(network) {
+            port.report(&Event::UpstreamUnreachable {
+                account: config.account.as_bytes(),
+                network: config.network.as_bytes(),
+                address,
+                why,
+            });
+        }
+        context.set_timer(Timer::RetryNetwork(network), RETRY);
     }
 
     // The network's next session, what it begins with, and how it stands.
@@ -129,7 +148,8 @@ impl<C: Connection> Servers<C> {
             return Err(connection);
         };
         let dialogue = Dialogue::new(view.alloc, connection, session, &opening);
-        let server = Server::new(dialogue, network, entry, view.now);
+        let room = room_of(view, network);
+        let server = Server::new(dialogue, network, entry, room, view.now);
         self.insert(number, server)?;
         Ok(opening)
     }
@@ -144,7 +164,7 @@ impl<C: Connection> Servers<C> {
     ) -> Option<ServerEffects> {
         drop(self.close(context, number, Reason::Closed));
         let Some(connection) = context.port.open(number) else {
-            self.retry(context, network);
+            self.retry(context, network, Unreached::Gone);
             return None;
         };
         match self.take_up(&context.view, number, connection, network) {

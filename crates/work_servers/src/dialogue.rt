@@ -51,7 +51,8 @@ pub(crate) struct Dialogue<C: Connection> {
     input: Input,
     // The line that came last, where there was no memory for it.
     kept: Option<KeptLine>,
-    // Why the connection is lost, once a line to the server could not be owed. Nothing goes out then.
+    // Why the connection is lost, once a line to the server could not be owed, or too much of what is owed isn't taken. Nothing
+    // goes out then.
     lost: Option<Reason>,
     ghost by_right: { ∥ IsHeldTo lost session queue input kept ∥₁ },
 }
@@ -254,6 +255,38 @@ impl<C: Connection> Dialogue<C> {
         match self.lost {
             Some(reason) => Err(reason),
             None => Ok(self.queue.pump::<ToServer, P>(port)),
+        }
+    }
+
+    /// The connection is lost, if it isn't yet.
+    pub(crate) fn lose(&mut self, reason: Reason) {
+        self.lost = Some(self.lost.unwrap_or(reason));
+    }
+
+    /// Writes what waits for the server where that is more than so many bytes, by as many writes as it takes. Where the connection
+    /// doesn't take enough of it, it is lost.
+    pub(crate) fn make_room<P: Carries<ToServer, Connection = C>>(
+        &mut self,
+        port: &mut P,
+        room: usize,
+    ) {
+        if self.queue.owed() <= room {
+            return;
+        }
+        // (what tells of room may still be on its way)
+        self.mark_writable();
+        for _ in 0..usize::MAX {
+            if self.queue.owed() <= room {
+                return;
+            }
+            match self.pump(port) {
+                Ok(Pumped::All | Pumped::Some) => {}
+                Ok(Pumped::Closed) => return self.lose(Reason::Closed),
+                Ok(Pumped::Blocked | Pumped::Overrun | Pumped::NoMemory) => {
+                    return self.lose(Reason::Overrun);
+                }
+                Err(_) => return,
+            }
         }
     }
 

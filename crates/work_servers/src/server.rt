@@ -15,6 +15,9 @@ use worker_io::{Context, Served};
 /// A server that sends without pause is asked for room each time that bytes came so often.
 const UNPAUSED: u32 = 4;
 
+/// So often bytes are taken in of a connection that is lost: some megabytes, as much as a system holds of one.
+const LAST_FILLS: u32 = 2_048;
+
 /// What a step of a server comes to.
 #[derive(Drop)]
 pub enum ServerStep {
@@ -45,6 +48,10 @@ pub struct Server<C: Connection> {
     pub(crate) heard_at: u64,
     // How often bytes came since none were there.
     fills: u32,
+    // How many bytes may wait for the server.
+    room: usize,
+    // How often bytes are still taken in once the connection is lost.
+    last_fills: u32,
     // why it is closed, once what is owed is written
     pub(crate) ends: Option<Reason>,
 }
@@ -55,11 +62,13 @@ fn is_kept_only(effects: &ServerEffects) -> bool {
 }
 
 impl<C: Connection> Server<C> {
-    /// A session with a network's server that begins over a connection, at that moment. No worker knows yet how it stands.
+    /// A session with a network's server that begins over a connection, at that moment. So many bytes may wait for the server. No
+    /// worker knows yet how it stands.
     pub(crate) fn new(
         dialogue: Dialogue<C>,
         network: usize,
         entry: NetworkEntry,
+        room: usize,
         now: u64,
     ) -> Server<C> {
         Server {
@@ -71,6 +80,8 @@ impl<C: Connection> Server<C> {
             joined: None,
             heard_at: now,
             fills: 0,
+            room,
+            last_fills: LAST_FILLS,
             ends: None,
         }
     }
@@ -93,19 +104,43 @@ impl<C: Connection> Server<C> {
         Some(entry)
     }
 
-    /// Why the connection is to be closed after such a write, where it is.
-    pub(crate) fn end_after(&self, pumped: Pumped) -> Option<Reason> {
-        match pumped {
-            Pumped::Some | Pumped::Blocked => None,
-            Pumped::All => self.ends,
-            Pumped::Closed | Pumped::Overrun => Some(self.ends.unwrap_or(Reason::Closed)),
-            Pumped::NoMemory => Some(self.ends.unwrap_or(Reason::NoMemory)),
+    /// Writes what waits for the server, by one write: whether more can be written or heard at once, or the connection is over. A
+    /// connection that is lost is over once what came before is heard.
+    pub(crate) fn write<P: Carries<ToServer, Connection = C>>(
+        &mut self,
+        port: &mut P,
+    ) -> ServerStep {
+        match self.dialogue.pump(port) {
+            Ok(Pumped::Some) => ServerStep::Again,
+            Ok(Pumped::Blocked) => ServerStep::Rest,
+            Ok(Pumped::All) => match self.ends {
+                Some(reason) => ServerStep::Over(reason),
+                None => ServerStep::Rest,
+            },
+            Ok(Pumped::Closed | Pumped::Overrun) => self.lose(Reason::Closed),
+            Ok(Pumped::NoMemory) => self.lose(Reason::NoMemory),
+            Err(reason) => self.lose(reason),
         }
     }
 
-    /// Whether it takes lines: the connection is neither lost nor to be closed.
+    // The connection is lost. Where no further line is taken it is over.
+    fn lose(&mut self, reason: Reason) -> ServerStep {
+        if let Some(reason) = self.ends {
+            return ServerStep::Over(reason);
+        }
+        self.dialogue.lose(reason);
+        ServerStep::Again
+    }
+
+    /// Where too much waits for the server it is written, before more is to wait. False where the connection is lost.
+    pub(crate) fn make_room<P: Carries<ToServer, Connection = C>>(&mut self, port: &mut P) -> bool {
+        self.dialogue.make_room(port, self.room);
+        self.dialogue.lost().is_none()
+    }
+
+    /// Whether it takes lines: the connection is not to be closed. Of one that is lost it takes what came before.
     pub(crate) fn takes_lines(&self) -> bool {
-        self.ends.is_none() && self.dialogue.lost().is_none()
+        self.ends.is_none()
     }
 
     /// What the next line comes to, or more bytes where there is none. A line for which there is no memory is kept, and is the
@@ -117,6 +152,7 @@ impl<C: Connection> Server<C> {
         number: usize,
         room: &mut LineRoom,
     ) -> ServerStep {
+        self.make_room(&mut context.port);
         match self.dialogue.hear(&context.view, number, room) {
             Hearing::Line(heard) => {
                 self.joined = heard.joined;
@@ -130,11 +166,19 @@ impl<C: Connection> Server<C> {
         }
     }
 
-    // Takes in more bytes.
+    // Takes in more bytes. A connection that is lost is over once nothing more is there, or so much came since that it can't
+    // have been there before.
     fn fill<P: Port + Carries<ToServer, Connection = C>>(
         &mut self,
         context: &mut Context<P>,
     ) -> ServerStep {
+        let lost = self.dialogue.lost();
+        if let Some(reason) = lost {
+            if self.last_fills == 0 {
+                return ServerStep::Over(reason);
+            }
+            self.last_fills -= 1;
+        }
         match self.dialogue.fill(context) {
             Filled::More => {
                 self.heard_at = context.view.now;
@@ -146,9 +190,12 @@ impl<C: Connection> Server<C> {
             }
             Filled::Nothing => {
                 self.fills = 0;
-                ServerStep::Rest
+                match lost {
+                    Some(reason) => ServerStep::Over(reason),
+                    None => ServerStep::Rest,
+                }
             }
-            Filled::Closed => ServerStep::Over(Reason::Closed),
+            Filled::Closed => ServerStep::Over(lost.unwrap_or(Reason::Closed)),
             Filled::NoMemory => ServerStep::Over(Reason::NoMemory),
         }
     }

@@ -8,7 +8,6 @@ use bnc_ports::{Carries, Connection, Event, Port, Reason};
 use byte_text::NoMemory;
 use network_session::{SayFault, ServerEffects};
 use passed_lines::Said;
-use work_lines::Pumped;
 use worker_io::{Context, NodeView};
 
 // So often a client's line is tried.
@@ -120,26 +119,22 @@ impl<C: Connection> Servers<C> {
         number: usize,
         has_more: bool,
     ) -> Option<EntryUpdate> {
-        if has_more {
-            self.connections.wake(number);
-        }
         let server = self.connections.get_mut(number)?;
-        let pumped = match server.dialogue.pump(&mut context.port) {
-            Ok(pumped) => pumped,
-            Err(reason) => return self.close(context, number, reason),
-        };
-        if let Some(reason) = server.end_after(pumped) {
-            return self.close(context, number, reason);
+        match server.write(&mut context.port) {
+            ServerStep::Over(reason) => return self.close(context, number, reason),
+            ServerStep::Again => self.connections.wake(number),
+            ServerStep::Rest | ServerStep::Do(_) => {}
         }
-        if pumped == Pumped::Some {
+        if has_more {
             self.connections.wake(number);
         }
         None
     }
 
-    /// What a client's line for the network's server comes to. What the session sends waits for the server. None where there is
-    /// no connection with that server, where it is lost, or where the line is for the server of another account's network.
-    pub fn say<P: Port>(
+    /// What a client's line for the network's server comes to. What the session sends waits for the server; where too much waits
+    /// already, that is written first. None where there is no connection with that server, where it is lost, or where the line is
+    /// for the server of another account's network.
+    pub fn say<P: Port + Carries<ToServer, Connection = C>>(
         &mut self,
         context: &mut Context<P>,
         network: usize,
@@ -147,7 +142,8 @@ impl<C: Connection> Servers<C> {
     ) -> Option<SaidStep> {
         let number = self.line_of(network)?;
         let server = self.connections.get_mut(number)?;
-        if server.dialogue.lost().is_some() {
+        if !server.make_room(&mut context.port) {
+            self.connections.wake(number);
             return None;
         }
         let effects = match say_often(&mut server.dialogue, &context.view, said) {
