@@ -1,5 +1,6 @@
 //! What the operator is told.
 use crate::clocks::Leap;
+use crate::unreached::Unreached;
 use bstr::BStr;
 use irc_time::{Moment, write_time};
 use std::fmt;
@@ -26,6 +27,8 @@ pub enum Reason {
     WrongWord,
     /// It is no configured peer, or said that it is another one.
     UnknownNode,
+    /// It said hello by this node's own name.
+    OwnName,
     /// It acknowledged nothing for too long.
     Unacknowledged,
     /// Nothing came from a peer for five minutes.
@@ -34,6 +37,8 @@ pub enum Reason {
     Replaced,
     /// It didn't read what was owed to it.
     Overrun,
+    /// More would be owed to a client than its bound: it didn't read what was owed, or a line is longer.
+    OverBound,
     /// Each place is taken.
     NoPlace,
     /// It had waited longest to say who it is, and others wait.
@@ -56,10 +61,15 @@ impl fmt::Display for Reason {
             Reason::BadLine => "it sent a line that is refused",
             Reason::WrongWord => "it sent another word than the shared one",
             Reason::UnknownNode => "it is no configured peer",
+            Reason::OwnName => {
+                "it said hello by this node's own name: give each node a name of its own"
+            },
             Reason::Unacknowledged => "it acknowledged nothing for too long",
             Reason::Unheard => "nothing came from it for five minutes, so it is taken for gone",
             Reason::Replaced => "a newer connection took its place",
             Reason::Overrun => "it did not read what was owed to it",
+            Reason::OverBound =>
+                "it did not read what was owed to it, or a line was longer than its bound",
             Reason::NoPlace => "each place is taken",
             Reason::GaveWay => "it had waited longest to say who it is, and gave way to another",
             Reason::NoMemory => "no memory",
@@ -71,6 +81,11 @@ impl fmt::Display for Reason {
 /// What the operator is told. No secret, no shared word and no text of a message stands in it.
 #[derive(Clone, Copy)]
 pub enum Event<'a> {
+    /// The program begins a node: which one, with its version, and with which logic of the kit it is proved.
+    Starting {
+        program: &'a str,
+        logic: &'a str,
+    },
     /// The node accepts clients and peers at these addresses.
     Listening {
         clients: SocketAddr,
@@ -123,17 +138,25 @@ pub enum Event<'a> {
         network: &'a [u8],
         nick: &'a [u8],
     },
-    /// The session with the network's server ended, or could not begin. With it stand the words by which the server refused it,
-    /// if it did.
+    /// The session with the network's server could not begin, since the server could not be reached at that address.
+    UpstreamUnreachable {
+        account: &'a [u8],
+        network: &'a [u8],
+        address: Option<SocketAddr>,
+        why: Unreached,
+    },
+    /// The session with the network's server ended, or could not begin for want of memory. With it stand the words by which the
+    /// server refused it, if it did.
     UpstreamDown {
         account: &'a [u8],
         network: &'a [u8],
         reason: Reason,
         words: Option<&'a [u8]>,
     },
-    /// A peer and this node greeted each other.
+    /// A peer and this node greeted each other. The peer is at that address.
     PeerGreeted {
         node: &'a [u8],
+        address: Option<SocketAddr>,
         incarnation: u64,
     },
     /// A peer said hello as an earlier life than the one of that incarnation, which is known of it: it is sent nothing.
@@ -141,10 +164,12 @@ pub enum Event<'a> {
         node: &'a [u8],
         incarnation: u64,
     },
-    /// A peer knows a later life of this node, of that incarnation, and sends this one nothing.
+    /// A peer knows a later life of this node, of that incarnation, and sends this one nothing. Whether that one began before now
+    /// by this node's clock, as where two nodes have one name.
     NodeBehind {
         node: &'a [u8],
         incarnation: u64,
+        is_past: bool,
     },
     /// For the first time since it started, this node has all that the peer had, and the peer has all that this node had.
     PeerLevel {
@@ -154,6 +179,7 @@ pub enum Event<'a> {
     PeerUnreachable {
         node: &'a [u8],
         address: Option<SocketAddr>,
+        why: Unreached,
     },
     /// There has been no connection for two minutes with a peer to which this node opens them.
     PeerAbsent {
@@ -178,12 +204,17 @@ pub enum Event<'a> {
     OutOfMemory {
         count: u64,
     },
+    /// So many lines of the log were lost, since nobody read it in time.
+    LinesLost {
+        count: u64,
+    },
 }
 
 impl<'a> Event<'a> {
     // What kind of event it is.
     fn title(&self) -> &'static str {
         match self {
+            Event::Starting { .. } => "starting",
             Event::Listening { .. } => "listening",
             Event::Retention { .. } => "retention",
             Event::FloorPut { .. } => "floor put",
@@ -195,7 +226,7 @@ impl<'a> Event<'a> {
             Event::ClientRefused { .. } => "client refused",
             Event::ClientsRefused { .. } => "clients refused",
             Event::UpstreamUp { .. } => "upstream up",
-            Event::UpstreamDown { .. } => "upstream down",
+            Event::UpstreamUnreachable { .. } | Event::UpstreamDown { .. } => "upstream down",
             Event::PeerGreeted { .. } => "peer greeted",
             Event::PeerBehind { .. } => "peer behind",
             Event::NodeBehind { .. } => "node behind",
@@ -206,6 +237,7 @@ impl<'a> Event<'a> {
             Event::PeerRefused { .. } => "peer refused",
             Event::PeersRefused { .. } => "peers refused",
             Event::OutOfMemory { .. } => "out of memory",
+            Event::LinesLost { .. } => "lines lost",
         }
     }
 
@@ -247,6 +279,11 @@ impl<'a> Event<'a> {
                 network,
                 ..
             }
+            | Event::UpstreamUnreachable {
+                account,
+                network,
+                ..
+            }
             | Event::UpstreamDown {
                 account,
                 network,
@@ -281,6 +318,7 @@ struct Detail<'a, 'b>(&'b Event<'a>);
 impl<'a, 'b> fmt::Display for Detail<'a, 'b> {
     fn fmt<W: fmt::Write>(&self, f: &mut fmt::Formatter<W>) -> fmt::Result {
         match *self.0 {
+            Event::Starting { program, logic } => write!(f, "{program}, logic {logic}"),
             Event::Listening { clients, peers } => {
                 write!(f, "clients on {clients}, peers on {peers}")
             }
@@ -317,16 +355,22 @@ impl<'a, 'b> fmt::Display for Detail<'a, 'b> {
                 Some(node) => write!(f, "{} at {}", BStr::new(node), Address(address)),
                 None => write!(f, "{}", Address(address)),
             },
-            Event::PeerUnreachable { node, address } => {
-                write!(f, "{} at {}", BStr::new(node), Address(address))
+            Event::PeerUnreachable { node, address, why } => {
+                write!(f, "{} at {}: {why}", BStr::new(node), Address(address))
             }
             Event::OutOfMemory { count } => {
                 write!(f, "{count} connections were closed within a minute")
             }
+            Event::LinesLost { count } => write!(f, "{count}, for which the log had no room"),
             Event::ClientsRefused { count } | Event::PeersRefused { count } => {
                 write!(f, "{count} more within a minute")
             }
             Event::UpstreamUp { nick, .. } => write!(f, " as {}", BStr::new(nick)),
+            Event::UpstreamUnreachable { address, why, .. } => write!(
+                f,
+                ": it could not be reached at {}: {why}",
+                Address(address)
+            ),
             Event::UpstreamDown { .. } => Ok(()),
             Event::PeerGreeted { node, .. }
             | Event::PeerBehind { node, .. }
@@ -347,19 +391,43 @@ struct PeerDetail<'a, 'b>(&'b Event<'a>);
 impl<'a, 'b> fmt::Display for PeerDetail<'a, 'b> {
     fn fmt<W: fmt::Write>(&self, f: &mut fmt::Formatter<W>) -> fmt::Result {
         match *self.0 {
-            Event::PeerGreeted { incarnation, .. } => write!(f, " (incarnation {incarnation})"),
+            Event::PeerGreeted {
+                address,
+                incarnation,
+                ..
+            } => write!(f, " at {} (incarnation {incarnation})", Address(address)),
             Event::PeerBehind { incarnation, .. } => write!(
                 f,
                 ": its clock is behind its last life (incarnation {incarnation})"
             ),
-            Event::NodeBehind { incarnation, .. } => write!(
+            Event::NodeBehind {
+                incarnation,
+                is_past,
+                ..
+            } => write!(
                 f,
-                " knows a later life of this node (incarnation {incarnation}): set the clock right and start again"
+                " knows a later life of this node (incarnation {incarnation}): {}",
+                Remedy(is_past)
             ),
             Event::PeerLevel { .. } => f.write_str(": each has what the other had"),
             Event::PeerAbsent { .. } => f.write_str(": no connection for two minutes"),
             _ => Ok(()),
         }
+    }
+}
+
+// What helps a node of which a peer knows a later life, which began before now or is still to begin by its clock.
+#[derive(Clone, Copy)]
+struct Remedy(bool);
+
+impl fmt::Display for Remedy {
+    fn fmt<W: fmt::Write>(&self, f: &mut fmt::Formatter<W>) -> fmt::Result {
+        f.write_str(match self.0 {
+            true => {
+                "another node has its name, or its clock was behind as it started: give each node a name of its own, or start it again"
+            }
+            false => "set the clock right and start again",
+        })
     }
 }
 

@@ -21,6 +21,7 @@ mod port;
 mod refusals;
 mod serve_fault;
 mod threads;
+mod unreached;
 mod waiting;
 
 pub use clocks::{Clocks, Leap};
@@ -33,4 +34,5 @@ pub use port::{Dial, Halt, Happening, Port, PortFault};
 pub use refusals::Refusals;
 pub use serve_fault::ServeFault;
 pub use threads::{StartFault, each_in_a_thread};
+pub use unreached::Unreached;
 pub use waiting::Waiting;

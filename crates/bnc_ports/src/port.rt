@@ -1,6 +1,7 @@
 //! The connections of a worker, and what else comes to it.
 use crate::clocks::Clocks;
 use crate::event::Event;
+use crate::unreached::Unreached;
 use std::net::SocketAddr;
 
 /// Whom a worker connects to. Networks and peers are those of the configuration, counted from 0.
@@ -36,6 +37,7 @@ pub enum Happening<M> {
     Refused {
         number: usize,
         what: Dial,
+        why: Unreached,
     },
     /// Bytes may be there, or room for bytes.
     Ready {
@@ -76,8 +78,8 @@ pub trait Port: Drop {
     /// Gives up a connection that was never opened. One that isn't there is left so.
     fn give_up(&mut self, number: usize);
 
-    /// Begins a connection: `Opened` or `Refused` of that line follows.
-    fn dial(&mut self, what: Dial) -> Result<usize, PortFault>;
+    /// Begins a connection: `Opened` or `Refused` of that line follows. Where none can be begun it is answered why.
+    fn dial(&mut self, what: Dial) -> Result<usize, Unreached>;
 
     /// The address to which it connects for that.
     fn target(&self, what: Dial) -> Option<SocketAddr>;
