@@ -1,10 +1,13 @@
 """What the operator is told of servers and clients (docs/OPERATING.md, "What it logs"). No line has a secret, the shared word or a
 message."""
 
+import fcntl
 import os
 import re
+import threading
 import time
 
+from harness.client import greeting
 from harness.connection import spelled
 from harness.failure import Failed, expect
 from harness.node import Node
@@ -85,7 +88,14 @@ def the_text_of_432_before_the_welcome(fixture):
 @test
 def a_server_that_is_not_there_said_nothing(fixture):
     node = Node(fixture, servers=[NOBODY]).begin()
-    is_told(fixture, node, "upstream down: demo/net: it could not be reached")
+    is_told(fixture, node, f"upstream down: demo/net: it could not be reached at {spelled(NOBODY)}: connection refused")
+
+
+@test
+def a_server_to_which_the_system_makes_no_connection(fixture):
+    """Since no descriptor is left: a node with two workers takes ten, with the three standard ones, before it dials."""
+    node = Node(fixture, servers=[NOBODY], front=["sh", "-c", 'ulimit -n 10; exec "$@"', "sh"]).begin()
+    is_told(fixture, node, f"upstream down: demo/net: it could not be reached at {spelled(NOBODY)}: too many open files")
 
 
 @test
@@ -141,3 +151,189 @@ def each_reason_of_the_documents_stands_in_the_program(fixture):
     with open(fixture.program, "rb") as file:
         program = file.read()
     expect("reasons that aren't in the program", [], [text for text in reasons if text.encode() not in program])
+
+
+# ---- where nobody reads standard error, or not fast
+
+
+class Piped(Node):
+    """A node whose standard error is a pipe. It is read as the test asks for the log, or slowly beside the test."""
+
+    # (names as long as they may be, so that the lines are long)
+    account, networks = "a" * 32, ("n" * 32,)
+
+    def __init__(self, fixture, **how):
+        super().__init__(fixture, **how)
+        self.ours, self.theirs = os.pipe()
+        os.set_blocking(self.ours, False)
+        self.is_done, self.beside = threading.Event(), None
+        fixture.at_end(self.end)
+
+    def end(self):
+        self.is_done.set()
+        if self.beside:
+            self.beside.join(5)
+        for it in (self.ours, self.theirs):
+            os.close(it)
+
+    def errors(self):
+        return os.fdopen(os.dup(self.theirs), "wb")
+
+    def read(self, most):
+        """Reads so many bytes at most, and answers whether there were any."""
+        try:
+            piece = os.read(self.ours, most)
+        except BlockingIOError:
+            return False
+        with super().errors() as log:
+            log.write(piece)
+        return True
+
+    def log(self):
+        while not self.beside and self.read(1 << 16):
+            pass
+        return super().log()
+
+    def is_read_slowly(self):
+        """From now on so much is read each hundredth of a second, of a pipe that has room for eight times as much."""
+        fcntl.fcntl(self.ours, fcntl.F_SETPIPE_SZ, 8 * PIECE)
+        self.beside = threading.Thread(target=self.read_beside, daemon=True)
+        self.beside.start()
+
+    def read_beside(self):
+        while not self.is_done.wait(0.01):
+            self.read(PIECE)
+
+    def guests_come_and_go(self, count, at_once=20):
+        """So many clients come, and leave once they are served."""
+        lines = (f"PASS {self.secret}", "NICK al", f"USER {self.account}/{self.networks[0]} 0 * :Al", "PING here")
+        for first in range(0, count, at_once):
+            guests = [self.client(f"client {first + number}") for number in range(at_once)]
+            for guest in guests:
+                guest.say(*lines)
+            for guest in guests:
+                guest.hear(*greeting(network=self.networks[0]), ":bnc.example PONG bnc.example :here")
+                guest.close()
+
+
+def piped(fixture, **how):
+    """Such a node of four workers, and its session with its server. What is told of both is read."""
+    server = Server(fixture)
+    node = Piped(fixture, servers=[server.address], workers=WORKERS, places=256, **how).begin()
+    session = server.register()
+    node.wait_for("upstream up: ")
+    return node, server, session
+
+
+def events_of(node, *kinds):
+    """How often these kinds of events were told."""
+    told = [line.partition(" ")[2] for line in node.log()]
+    return [sum(it.startswith(kind) for it in told) for kind in kinds]
+
+
+LEFT_OUT = re.compile(r"\S+ lines lost: ([0-9]+), for which the log had no room")
+# More clients than those whose lines have room, and those of a log that is read; and so many bytes are read at a time.
+CROWD, GUESTS, PIECE = 3000, 400, 512
+# So many bytes of lines wait at least, which are some 5,000 lines.
+WAITING = 500000
+# So many workers a node has.
+WORKERS = 4
+# The lines before the first client comes: the node starts, listens, and is in its network.
+BEGINNING = 3
+
+
+@test
+def a_log_that_nobody_reads_stops_nobody(fixture):
+    """Standard error is a pipe that nobody reads, and clients come and go by the hundred. All are served, and those who stay hear
+    what is said. Once the pipe is read, each line is there."""
+    node, server, session = piped(fixture)
+    stays = [node.client(f"a client of worker {number}") for number in range(4)]
+    for client in stays:
+        client.say(f"PASS {node.secret}", "NICK al", f"USER {node.account}/{node.networks[0]} 0 * :Al")
+        client.hear(*greeting(network=node.networks[0]))
+    node.guests_come_and_go(GUESTS)
+    session.say(":bob!b@h PRIVMSG #a :hi")
+    for client in stays:
+        client.hear(":bob!b@h PRIVMSG #a :hi")
+        client.ping()
+    wanted = [len(stays) + GUESTS, GUESTS, 0]
+    kinds = ("client in", "client out", "lines lost")
+    fixture.until("each line is there", lambda: events_of(node, *kinds) == wanted or node.is_over())
+
+
+@test
+def how_many_lines_were_left_out_is_told(fixture):
+    """Nobody reads while more lines come than those for which there is room. Once the pipe is read, one line says how many were
+    left out: with those that are there, it makes all. Then nothing is lost any more."""
+    node, _, _ = piped(fixture)
+    node.guests_come_and_go(CROWD)
+    wanted = BEGINNING + 2 * CROWD
+
+    def counted():
+        """The lines that were told, and those that were left out, once that is all."""
+        lines = node.log()
+        left = [int(found[1]) for found in map(LEFT_OUT.fullmatch, lines) if found]
+        return (lines, left) if len(lines) - len(left) + sum(left) >= wanted else node.is_over()
+
+    lines, left = fixture.until("all lines are told, or counted", counted, 90)
+    expect("how many lines were told and left out", wanted, len(lines) - len(left) + sum(left))
+    expect("how often it is told how many were left out", 1, len(left))
+    told = sum(len(line) + 1 for line in lines)
+    if told < WAITING:
+        raise Failed(f"{told} bytes were told, of more that waited")
+    behind = lines[next(at for at, line in enumerate(lines) if LEFT_OUT.fullmatch(line)):]
+    expect("who came in before that is told and is told behind it", 0, sum(" client in: " in line for line in behind))
+    node.guests_come_and_go(20)
+    fixture.until("those that come then are told", lambda: len(node.log()) >= len(lines) + 40 or node.is_over())
+    expect("how many lines there are then", len(lines) + 40, len(node.log()))
+    fixture.notes.append(f"{left[0]} of {wanted} lines were left out")
+
+
+def fails_with_full_log(fixture):
+    """A node whose log nobody reads, and a worker of which has failed when more lines waited than a pipe has room for. Its other
+    workers have ended too."""
+    failure = fixture.path("failure")
+    front = ["env", f"LD_PRELOAD={fixture.shims.path('waits')}", "WAITS=2", f"FAILS={failure}"]
+    node, _, _ = piped(fixture, front=front)
+    sockets, threads = node.sockets(), node.threads()
+    node.guests_come_and_go(GUESTS)
+    fixture.until("all have left", lambda: node.sockets() == sockets)
+    fixture.write("failure", b"")
+    fixture.until("the workers have ended", lambda: node.threads() == threads - WORKERS)
+    return node
+
+
+@test
+def a_node_that_fails_tells_first_what_waits(fixture):
+    """Its log is read only as it ends. Each line that waited is there, and the last two say why it ended."""
+    node = fails_with_full_log(fixture)
+    # (little at a time, so that it doesn't all go before the node looks whether it is written)
+    fixture.until("the node ends", lambda: not node.read(4 * PIECE) and node.process.poll() is not None)
+    lines = node.log()
+    expect("the status", 4, node.process.returncode)
+    expect("who came and who left", [GUESTS, GUESTS], events_of(node, "client in", "client out"))
+    expect("the last lines", ["read or write failed", "a worker failed"], lines[-2:])
+
+
+@test
+def a_node_that_fails_ends_though_nobody_reads_its_log(fixture):
+    node = fails_with_full_log(fixture)
+    expect("the status", 4, node.process.wait(fixture.patience()))
+
+
+@test
+def a_log_that_is_read_slowly_has_each_line(fixture):
+    """Each client comes and leaves, in this order, and no line is torn. Some lines are read at a time, of a pipe that has no room
+    for more than thirty."""
+    node, _, _ = piped(fixture)
+    node.is_read_slowly()
+    node.guests_come_and_go(GUESTS)
+    fixture.until("all is told", lambda: events_of(node, "client in", "client out") == [GUESTS, GUESTS] or node.is_over())
+    inside, pattern = set(), re.compile(
+        rf"20\S+Z client (in|out): {node.account}/{node.networks[0]} from ([0-9.:]+)(: the other end closed it)?")
+    for line in node.log()[BEGINNING:]:
+        found = pattern.fullmatch(line)
+        if not found or (found[1] == "in") == (found[2] in inside) or (found[1] == "out") != bool(found[3]):
+            raise Failed(f"a line that is torn, or not in its place: {line}")
+        (inside.add if found[1] == "in" else inside.remove)(found[2])
+    expect("who is still in", set(), inside)

@@ -1,7 +1,8 @@
-"""Sockets that take little, are interrupted, are read late, or aren't there (docs/OPERATING.md, "Clients that are slow, or gone",
-"What it logs" and "Size"). What comes over them is whole."""
+"""Sockets that take little, are interrupted, are read late, or aren't there (docs/CLIENTS.md, "Clients that are slow, or gone";
+docs/OPERATING.md, "What it logs" and "Size"). What comes over them is whole."""
 
 import os
+import socket
 import time
 
 from harness.client import greeting, page
@@ -120,8 +121,9 @@ def a_client_that_asks_while_a_page_is_owed_waits(fixture):
         client.ping()
 
 
-# So many descriptors a node has, so many connect, and so long nothing changes while there is none left.
-DESCRIPTORS, GUESTS, WHILE = 20, 40, 2.5
+# So many descriptors a node has, so many connect, and so long nothing changes while there is none left. Once there are some again,
+# those who wait are let in a second later, or somewhat more where the machine is busy.
+DESCRIPTORS, GUESTS, WHILE, SOON = 20, 40, 2.5, 10
 
 
 @test
@@ -160,7 +162,7 @@ def without_descriptors_nobody_spins_and_everybody_is_served_in_the_end(fixture)
             guest.close()
         begun = time.monotonic()
         fixture.until("the next are in", lambda: not outside or readable([it.socket for it in outside]))
-        if time.monotonic() - begun > 3:
+        if time.monotonic() - begun > SOON:
             raise Failed(f"who waited was let in after {time.monotonic() - begun:.1f} seconds")
         time.sleep(0.3)
         inside = [guest for guest in outside if readable([guest.socket])]
@@ -215,8 +217,7 @@ REPEATED, AT_ONCE = 400000, 1000
 
 @test
 def a_peer_that_repeats_a_packet_and_reads_nothing_is_closed(fixture):
-    """Once more than 1,048,576 bytes would wait for it, beyond what the system's own buffers hold. Clients are served
-    meanwhile."""
+    """Once more than 2,366,621 bytes wait for it, beyond what the system's own buffers hold. Clients are served meanwhile."""
     node = Node(fixture, peers=[("n0", NOBODY, ("version", 2))], servers=[NOBODY]).begin()
     client = node.client().register()
     peer = Peer(fixture, connect(fixture, node.peers, room=2048), "n0", version=2, told=2).greet()
@@ -236,3 +237,196 @@ def a_peer_that_repeats_a_packet_and_reads_nothing_is_closed(fixture):
     again.give(0, "C MARK demo net #a 6000")
     again.hear_acknowledged(1)
     fixture.notes.append(f"{number + AT_ONCE} packets at most")
+
+
+# So often a connection is closed by the node, and so many lines lie unread then.
+TRIALS, UNREAD = 60, 3000
+# So many bytes are asked for that a client reads late, by PINGs of 300 bytes.
+ASKED = 200
+
+
+def heard_to_the_end(client):
+    """All that comes until the connection ends. It has to end as the node closes it, and not by a reset, with which a system may
+    throw away what wasn't read yet."""
+    came = b""
+    client.socket.settimeout(client.fixture.patience())
+    while True:
+        try:
+            more = client.socket.recv(65536)
+        except ConnectionResetError:
+            raise Failed(f"{client.name}: the connection was reset, behind {came[-80:]!r}") from None
+        if not more:
+            return came.decode().splitlines()
+        came += more
+
+
+@test
+def the_last_words_arrive_though_lines_lie_unread(fixture):
+    """A client says QUIT and many lines behind it, which nobody reads, over and over."""
+    node = Node(fixture, servers=[NOBODY]).begin()
+    for number in range(TRIALS):
+        client = node.client(f"client {number}")
+        client.send(b"QUIT\r\n" + b"PING unread\r\n" * UNREAD)
+        expect(client.name, ["ERROR :Closing link"], heard_to_the_end(client))
+
+
+@test
+def a_refusal_arrives_though_lines_lie_unread(fixture):
+    """A node tells a second later that a secret is wrong, and reads nothing meanwhile. Eight clients wait for it at once."""
+    node = Node(fixture, servers=[NOBODY]).begin()
+    for turn in range(TRIALS // 20):
+        clients = [node.client(f"client {number} of turn {turn}") for number in range(8)]
+        for client in clients:
+            client.say("PASS swordfish", "NICK al", "USER demo/net 0 * :Al")
+        time.sleep(0.3)
+        for client in clients:
+            client.send(b"PING unread\r\n" * UNREAD)
+        for client in clients:
+            expect(client.name, [":bnc.example 464 * :Password incorrect", "ERROR :Closing link"], heard_to_the_end(client))
+
+
+# So many connections that a worker has closed are kept for who may still read, each for so many seconds at most.
+LINGERING, STAYS = 16, 1
+# What a client says at once behind its QUIT, and how much of that the node and the system take at most.
+PIECE, TAKEN = b"PING unread\r\n" * 100000, 64 << 20
+
+
+@test
+def who_is_closed_hears_of_it_at_once(fixture):
+    """The quickest of five counts, since other tests may have the processors meanwhile: none waits until the node lets it go."""
+    node, took = Node(fixture).begin(), []
+    for number in range(5):
+        client = node.client(f"client {number}")
+        begun = time.monotonic()
+        client.say("QUIT")
+        client.hear("ERROR :Closing link")
+        client.hear_end()
+        took.append(time.monotonic() - begun)
+    if min(took) > 0.9 * STAYS:
+        raise Failed(f"the end was heard after {min(took):.2f} seconds")
+
+
+@test
+def few_whom_the_node_has_closed_are_kept_and_not_for_long(fixture):
+    """They don't close their ends. A worker keeps 16 of them for a second."""
+    node = Node(fixture, workers=1, places=64).begin()
+    other = node.client("another client")
+    other.ping()
+    before = node.sockets()
+    clients = [node.client(f"client {number}") for number in range(3 * LINGERING)]
+    for client in clients:
+        client.say("QUIT")
+    for client in clients:
+        client.hear("ERROR :Closing link")
+        client.hear_end()
+    # (the last of them was closed before that is answered)
+    other.ping()
+    count = node.sockets() - before
+    if count > LINGERING:
+        raise Failed(f"{count} are kept")
+    fixture.notes.append(f"{count} were kept")
+    fixture.until("none is kept", lambda: node.sockets() == before)
+
+
+def speaks_on(client, other):
+    """Says QUIT and hears the end. Once the node has looked at its connections again, it says more."""
+    client.say("QUIT")
+    client.hear("ERROR :Closing link")
+    client.hear_end()
+    other.ping()
+    client.say(*UNREAD * ["PING unread"])
+    other.ping()
+
+
+def is_not_reset(call):
+    """The connection of a call's client isn't reset, once at least of five times: a node keeps those that it has closed for a
+    second alone, and other tests may have the processors for longer."""
+    for _ in range(5):
+        try:
+            if call().socket.getsockopt(socket.SOL_SOCKET, socket.SO_ERROR) == 0:
+                return
+        except ConnectionError:
+            pass
+    raise Failed("each connection was reset")
+
+
+@test
+def who_speaks_on_behind_its_end_is_not_reset(fixture):
+    """Nor is it as the node lets it go."""
+    node = Node(fixture, workers=1).begin()
+    other = node.client("another client")
+    other.ping()
+    before = node.sockets()
+
+    def call():
+        client = node.client()
+        speaks_on(client, other)
+        fixture.until("the node lets it go", lambda: node.sockets() == before)
+        return client
+
+    is_not_reset(call)
+
+
+@test
+def of_many_whom_the_node_has_closed_the_latest_are_kept(fixture):
+    """Sixteen that were closed don't close their ends. The next one speaks on, and isn't reset: the first makes way for it."""
+    node = Node(fixture, workers=1, places=64).begin()
+    other = node.client("another client")
+    other.ping()
+    before = node.sockets()
+
+    def call():
+        fixture.until("none is kept", lambda: node.sockets() == before)
+        kept = [node.client(f"client {number}") for number in range(LINGERING)]
+        for client in kept:
+            client.say("QUIT")
+        for client in kept:
+            client.hear("ERROR :Closing link")
+            client.hear_end()
+        client = node.client()
+        speaks_on(client, other)
+        return client
+
+    is_not_reset(call)
+
+
+@test
+def who_goes_on_speaking_behind_its_end_is_cut_off(fixture):
+    """The node reads little of that, and others are served meanwhile."""
+    node = Node(fixture, workers=1).begin()
+    client, other = node.client(), node.client("another client")
+    client.say("QUIT")
+    client.hear("ERROR :Closing link")
+    taken = 0
+    while taken < TAKEN:
+        try:
+            client.send(PIECE)
+        except ConnectionError:
+            break
+        taken += len(PIECE)
+        other.ping()
+    expect("whether it was cut off", True, taken < TAKEN)
+    fixture.notes.append(f"{taken >> 20} MB were taken")
+
+
+def reads_late(fixture, lines, *words):
+    """A client reads all only after the node has closed it: answers that waited for it in the system, and the last words behind
+    them. It said more than the node has read."""
+    node = Node(fixture, servers=[NOBODY]).begin()
+    client = node.client("a client that reads late", room=2048)
+    client.say(*(f"PING {number:0300}" for number in range(ASKED)), *lines, *UNREAD * ["PING unread"])
+    node.wait_for(f"client refused: {spelled(client.address)}: ")
+    time.sleep(0.2)
+    expect("what came", [*(f":bnc.example PONG bnc.example :{number:0300}" for number in range(ASKED)), *words],
+           heard_to_the_end(client))
+
+
+@test
+def a_late_reader_hears_a_refusal_behind_its_answers(fixture):
+    reads_late(fixture, ("PASS swordfish", "NICK al", "USER demo/net 0 * :Al"),
+               ":bnc.example 464 * :Password incorrect", "ERROR :Closing link")
+
+
+@test
+def a_late_reader_hears_the_answer_of_quit_behind_its_answers(fixture):
+    reads_late(fixture, ["QUIT"], "ERROR :Closing link")

@@ -1,13 +1,17 @@
 //! What other threads hand in to a worker: mail of other workers, and those who connect.
 use bnc_ports::{Arrival, PortFault};
 use client_places::{Attachment, Boxed};
-use crossbeam_channel::{SendError, Sender};
+use crossbeam_channel::{Receiver, SendError, Sender, unbounded};
 use mio::Waker;
 use mio::net::TcpStream;
 use rtrb::Producer;
-use std::alloc::AllocError;
+use std::alloc::{AllocError, Global};
 use std::net::SocketAddr;
+use std::sync::atomic::{AtomicUsize, Ordering};
 use std::sync::{Arc, Wait};
+
+/// So many nodes that connected wait for a worker at most.
+const MOST_PEERS: usize = 16;
 
 /// What reaches a worker from another one. Workers tell each other an `M`.
 #[derive(Drop)]
@@ -20,7 +24,7 @@ pub enum Delivery<M> {
 
 /// Who comes in at a worker's intake, or is to leave.
 #[derive(Drop)]
-pub enum Newcomer {
+pub(crate) enum Newcomer {
     /// A client, whose attachment was sent to the lobby under the ticket before.
     Client {
         stream: TcpStream,
@@ -86,27 +90,92 @@ impl<M: Drop> Mailbox<M> {
     }
 }
 
+/// Where newcomers are handed in.
+#[derive(Drop)]
+pub struct Entrance {
+    newcomers: Sender<Newcomer>,
+    // How many nodes that connected wait.
+    peers: Arc<AtomicUsize>,
+}
+
+/// Where newcomers arrive.
+#[derive(Drop)]
+pub struct Newcomers {
+    newcomers: Receiver<Newcomer>,
+    peers: Arc<AtomicUsize>,
+}
+
+impl Entrance {
+    /// The entrance to one worker, and where those arrive who are handed in there.
+    pub fn new(alloc: Global) -> Result<(Entrance, Newcomers), AllocError> {
+        let (sender, receiver) = unbounded(alloc)?;
+        let waiting = Arc::new(alloc, AtomicUsize::new(0))?;
+        let entrance = Entrance {
+            newcomers: sender,
+            peers: Arc::try_clone(&waiting)?,
+        };
+        let newcomers = Newcomers {
+            newcomers: receiver,
+            peers: waiting,
+        };
+        Ok((entrance, newcomers))
+    }
+
+    // Whether a further node that connected may wait.
+    fn has_room_for_a_peer(&self) -> bool {
+        self.peers.load(Ordering::SeqCst) < MOST_PEERS
+    }
+
+    // Hands somebody in.
+    fn hand<R: Wait>(&self, rt: &R, newcomer: Newcomer) -> Result<(), PortFault> {
+        sent(self.newcomers.send(rt, newcomer))
+    }
+
+    // Hands in a node that connected.
+    fn hand_peer<R: Wait>(
+        &self,
+        rt: &R,
+        stream: TcpStream,
+        address: SocketAddr,
+    ) -> Result<(), PortFault> {
+        // (before it can arrive)
+        self.peers.fetch_add(1, Ordering::SeqCst);
+        self.hand(rt, Newcomer::Peer { stream, address })
+    }
+}
+
+impl Newcomers {
+    // Who came next. None where nobody did.
+    pub(crate) fn next<R: Wait>(&self, rt: &R) -> Option<Newcomer> {
+        let newcomer = self.newcomers.try_recv(rt).ok()?;
+        if let Newcomer::Peer { .. } = &newcomer {
+            self.peers.fetch_sub(1, Ordering::SeqCst);
+        }
+        Some(newcomer)
+    }
+}
+
 /// Where those who connect are handed in to one worker.
 #[derive(Drop)]
 pub struct WorkerIntake<M, X = Boxed> {
     mailbox: Mailbox<M>,
-    newcomers: Sender<Newcomer>,
+    entrance: Entrance,
     // with room for as many as there are places
     arrivals: Producer<Arrival<X>>,
     ticket: u64,
 }
 
 impl<M: Drop, X: Attachment> WorkerIntake<M, X> {
-    /// An intake of the worker of that mailbox, whose port is at the other end of the channel, and its lobby at that of the ring.
-    /// The ring has room for an arrival from each place.
+    /// An intake of the worker of that mailbox, whose port has the other end of the entrance, and its lobby that of the ring. The
+    /// ring has room for an arrival from each place.
     pub fn new(
         mailbox: Mailbox<M>,
-        newcomers: Sender<Newcomer>,
+        entrance: Entrance,
         arrivals: Producer<Arrival<X>>,
     ) -> WorkerIntake<M, X> {
         WorkerIntake {
             mailbox,
-            newcomers,
+            entrance,
             arrivals,
             ticket: 0,
         }
@@ -114,7 +183,7 @@ impl<M: Drop, X: Attachment> WorkerIntake<M, X> {
 
     // Hands somebody in, and wakes the worker.
     fn hand<R: Wait>(&self, rt: &R, newcomer: Newcomer) -> Result<(), PortFault> {
-        sent(self.newcomers.send(rt, newcomer))?;
+        self.entrance.hand(rt, newcomer)?;
         self.mailbox.wake();
         Ok(())
     }
@@ -157,6 +226,11 @@ impl<M: Drop, X: Attachment> WorkerIntake<M, X> {
         self.hand(rt, Newcomer::Leave { ticket })
     }
 
+    /// Whether a further node that connected may wait for the worker: 16 do at most.
+    pub fn has_room_for_a_peer(&self) -> bool {
+        self.entrance.has_room_for_a_peer()
+    }
+
     /// Hands a node that connected in.
     pub fn hand_peer<R: Wait>(
         &self,
@@ -164,7 +238,9 @@ impl<M: Drop, X: Attachment> WorkerIntake<M, X> {
         stream: TcpStream,
         address: SocketAddr,
     ) -> Result<(), PortFault> {
-        self.hand(rt, Newcomer::Peer { stream, address })
+        self.entrance.hand_peer(rt, stream, address)?;
+        self.mailbox.wake();
+        Ok(())
     }
 
     /// Tells the worker to end.

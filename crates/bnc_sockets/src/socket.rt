@@ -1,7 +1,7 @@
 //! One connection.
 ghost use Rattle.std.specs.Prelude.{◌≤◌, length, IfOk};
 
-use bnc_ports::{Dial, Halt};
+use bnc_ports::{Dial, Halt, Unreached};
 use mio::net::TcpStream;
 use std::io;
 use std::io::{ErrorKind, Read, Write};
@@ -32,7 +32,7 @@ pub(crate) struct Socket {
 #[derive(Clone, Copy, PartialEq, Eq)]
 pub(crate) enum Outcome {
     Connected,
-    Failed,
+    Failed(Unreached),
     Pending,
 }
 
@@ -50,12 +50,13 @@ impl Socket {
     pub(crate) fn outcome(&self) -> Outcome {
         match self.stream.take_error() {
             Ok(None) => {}
-            _ => return Outcome::Failed,
+            Ok(Some(error)) => return Outcome::Failed(Unreached::from(error)),
+            Err(error) => return Outcome::Failed(Unreached::from(error)),
         }
         match self.stream.peer_addr() {
             Ok(_) => Outcome::Connected,
             Err(error) if error.kind() == ErrorKind::NotConnected => Outcome::Pending,
-            Err(_) => Outcome::Failed,
+            Err(error) => Outcome::Failed(Unreached::from(error)),
         }
     }
 

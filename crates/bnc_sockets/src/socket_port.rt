@@ -1,22 +1,23 @@
 //! The port of a worker over sockets.
 
 use crate::connection::SocketConnection;
-use crate::handing::{Delivery, Mailbox, Newcomer};
+use crate::handing::{Delivery, Mailbox, Newcomer, Newcomers};
+use crate::lingering::Lingering;
+use crate::log::Log;
 use crate::socket::{Outcome, Socket, Stage};
-use bnc_ports::{Carries, Clocks, Connection, Dial, Event, Halt, Happening, Kind, Port, PortFault};
-use bstr::BStr;
+use bnc_ports::{
+    Carries, Clocks, Connection, Dial, Event, Halt, Happening, Kind, Port, PortFault, Unreached,
+};
 use crossbeam_channel::Receiver;
-use irc_time::{Moment, write_time};
 use mio::event::Event as Readiness;
 use mio::net::TcpStream;
 use mio::{Events, Interest, Poll, Token, Waker};
 use std::alloc::AllocError;
 use std::collections::BTreeMap;
-use std::io::Eprint;
+use std::io;
 use std::net::{Net, SocketAddr};
 use std::sync::{Arc, Wait};
 use std::time::{Clock, Duration};
-use std::{fmt, io};
 
 // The token of the waker. Those of sockets are their numbers.
 const WAKER: Token = Token(usize::MAX);
@@ -72,12 +73,15 @@ pub struct SocketPort<R: Wait + Drop, M: Drop> {
     // Whether a delivery comes next of what was handed in, before a newcomer.
     is_turn_of_parcels: bool,
     deliveries: Receiver<Delivery<M>>,
-    newcomers: Receiver<Newcomer>,
+    newcomers: Newcomers,
     mailboxes: Vec<Mailbox<M>>,
     sockets: BTreeMap<usize, Socket>,
+    // Those that the worker has closed.
+    lingering: Lingering,
     // The number of the next socket. No two have the same one, so what was meant for a socket that is gone reaches no other.
     number: usize,
     addresses: Addresses,
+    log: Log,
 }
 
 impl<R: Wait + Drop, M: Drop> Drop for SocketPort<R, M> {
@@ -96,8 +100,10 @@ impl<R: Wait + Drop, M: Drop> Drop for SocketPort<R, M> {
             newcomers: _,
             mailboxes: _,
             sockets: _,
+            lingering: _,
             number: _,
             addresses: _,
+            log: _,
         } = self;
     }
 }
@@ -111,19 +117,21 @@ impl<R: Wait + Drop, M: Drop> SocketPort<R, M> {
     }
 }
 
-impl<R: Net + Wait + Clock + Eprint + AllocGlobal + Drop, M: Drop> SocketPort<R, M> {
-    /// The port of the worker whose deliveries and newcomers come over those channels, and whose poll has the waker of
-    /// [`waker_of`]. `mailboxes` are those of all workers, in their order.
+impl<R: Net + Wait + Clock + AllocGlobal + Drop, M: Drop> SocketPort<R, M> {
+    /// The port of the worker whose deliveries and newcomers arrive there, and whose poll has the waker of [`waker_of`].
+    /// `mailboxes` are those of all workers, in their order.
     pub fn new(
         rt: R,
         poll: Poll,
         deliveries: Receiver<Delivery<M>>,
-        newcomers: Receiver<Newcomer>,
+        newcomers: Newcomers,
         mailboxes: Vec<Mailbox<M>>,
         addresses: Addresses,
+        log: Log,
     ) -> Result<SocketPort<R, M>, AllocError> {
         let events = Events::with_capacity(rt.alloc(), EVENTS)?;
         let sockets = BTreeMap::new(rt.alloc());
+        let lingering = Lingering::new(rt.alloc());
         Ok(SocketPort {
             rt,
             poll,
@@ -137,8 +145,10 @@ impl<R: Net + Wait + Clock + Eprint + AllocGlobal + Drop, M: Drop> SocketPort<R,
             newcomers,
             mailboxes,
             sockets,
+            lingering,
             number: 0,
             addresses,
+            log,
         })
     }
 
@@ -179,6 +189,17 @@ impl<R: Net + Wait + Clock + Eprint + AllocGlobal + Drop, M: Drop> SocketPort<R,
         drop(self.sockets.remove(&number));
     }
 
+    // Reads on from the sockets that the worker has closed. Each look of at most a second does so, and bytes that come meanwhile
+    // end it.
+    fn read_lingering(&mut self) {
+        if self.lingering.is_empty() {
+            return;
+        }
+        // (a time that can't be read is up)
+        let now = monotonic_ms(&self.rt).unwrap_or(u64::MAX);
+        self.lingering.read_on(now);
+    }
+
     // What another worker handed in next.
     fn next_parcel(&self) -> Option<Happening<M>> {
         match self.deliveries.try_recv(&self.rt) {
@@ -191,9 +212,7 @@ impl<R: Net + Wait + Clock + Eprint + AllocGlobal + Drop, M: Drop> SocketPort<R,
     // Who came in next. A peer for whom there is no memory is closed.
     fn next_newcomer(&mut self) -> Option<Happening<M>> {
         for _ in 0..usize::MAX {
-            let Ok(newcomer) = self.newcomers.try_recv(&self.rt) else {
-                return None;
-            };
+            let newcomer = self.newcomers.next(&self.rt)?;
             let happening = self.let_in(newcomer);
             if happening.is_some() {
                 return happening;
@@ -295,9 +314,9 @@ impl<R: Net + Wait + Clock + Eprint + AllocGlobal + Drop, M: Drop> SocketPort<R,
                 kept.stage = Stage::Connected;
                 Some(Happening::Opened { number, what })
             }
-            Outcome::Failed => {
+            Outcome::Failed(why) => {
                 self.close_socket(number);
-                Some(Happening::Refused { number, what })
+                Some(Happening::Refused { number, what, why })
             }
         }
     }
@@ -305,6 +324,7 @@ impl<R: Net + Wait + Clock + Eprint + AllocGlobal + Drop, M: Drop> SocketPort<R,
     // Looks at the sockets, and waits for so long where nothing is there. A signal ends the wait as if the time were up. What
     // was handed in is looked for after each wait, so a wake that was lost costs the patience.
     fn look(&mut self, patience: u64) -> Result<(), PortFault> {
+        self.read_lingering();
         self.at = 0;
         self.taken = 0;
         self.has_looked = true;
@@ -316,7 +336,7 @@ impl<R: Net + Wait + Clock + Eprint + AllocGlobal + Drop, M: Drop> SocketPort<R,
     }
 }
 
-impl<R: Net + Wait + Clock + Eprint + AllocGlobal + Drop, M: Drop> Port for SocketPort<R, M> {
+impl<R: Net + Wait + Clock + AllocGlobal + Drop, M: Drop> Port for SocketPort<R, M> {
     type Mail = M;
 
     // The sockets are looked at before each `Nothing`, and after some happenings at the latest: so in each turn of a worker that
@@ -346,16 +366,14 @@ impl<R: Net + Wait + Clock + Eprint + AllocGlobal + Drop, M: Drop> Port for Sock
         }
     }
 
-    fn dial(&mut self, what: Dial) -> Result<usize, PortFault> {
+    fn dial(&mut self, what: Dial) -> Result<usize, Unreached> {
         let Some(address) = self.addresses.of(what) else {
-            return Err(PortFault);
+            return Err(Unreached::Gone);
         };
-        let Ok(stream) = TcpStream::connect(&self.rt, address) else {
-            return Err(PortFault);
-        };
+        let stream = TcpStream::connect(&self.rt, address)?;
         match self.add(stream, address, Stage::Connecting(what)) {
             Some(socket) => Ok(socket),
-            None => Err(PortFault),
+            None => Err(Unreached::NoMemory),
         }
     }
 
@@ -390,12 +408,11 @@ impl<R: Net + Wait + Clock + Eprint + AllocGlobal + Drop, M: Drop> Port for Sock
     }
 
     fn report(&mut self, event: &Event<'_>) {
-        report(&self.rt, event);
+        self.log.report(&self.rt, event);
     }
 }
 
-impl<K: Kind, R: Net + Wait + Clock + Eprint + AllocGlobal + Drop, M: Drop> Carries<K>
-    for SocketPort<R, M> {
+impl<K: Kind, R: Net + Wait + Clock + AllocGlobal + Drop, M: Drop> Carries<K> for SocketPort<R, M> {
     type Connection = SocketConnection;
 
     fn open(&mut self, number: usize) -> Option<SocketConnection> {
@@ -430,7 +447,10 @@ impl<K: Kind, R: Net + Wait + Clock + Eprint + AllocGlobal + Drop, M: Drop> Carr
     }
 
     fn close(&mut self, connection: SocketConnection) {
-        self.close_socket(connection.number());
+        if let Some(socket) = self.sockets.remove(&connection.number()) {
+            let now = monotonic_ms(&self.rt).unwrap_or(0);
+            self.lingering.add(socket.stream, now);
+        }
     }
 
     fn address(&self, connection: &SocketConnection) -> Option<SocketAddr> {
@@ -451,28 +471,6 @@ pub fn now_ms<R: Clock>(rt: &R) -> Option<u64> {
 pub fn monotonic_ms<R: Clock>(rt: &R) -> Option<u64> {
     let now = rt.monotonic().ok()?;
     u64::try_from(now.as_millis()).ok()
-}
-
-// An event with its time, which is lent: the borrow checker copies no event out of a reference.
-#[derive(Clone, Copy)]
-struct TimedEvent<'a, 'b> {
-    moment: Moment,
-    event: &'b Event<'a>,
-}
-
-impl<'a, 'b> fmt::Display for TimedEvent<'a, 'b> {
-    fn fmt<W: fmt::Write>(&self, f: &mut fmt::Formatter<W>) -> fmt::Result {
-        let time = write_time(self.moment);
-        write!(f, "{} {}", BStr::new(&time), self.event)
-    }
-}
-
-/// Tells the operator of an event, by a line on standard error.
-pub fn report<R: Clock + Eprint>(rt: &R, event: &Event<'_>) {
-    let _ = match now_ms(rt).and_then(Moment::from_ms) {
-        Some(moment) => rt.eprintln(TimedEvent { moment, event }),
-        None => rt.eprintln(event),
-    };
 }
 
 /// The waker of a poll, under the token that a port knows.

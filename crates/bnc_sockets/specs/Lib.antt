@@ -1,0 +1,3 @@
+-- ---- what a reader has to believe: what becomes of lines that are handed in for the operator
+
+pub mod LogQueue
