@@ -2,18 +2,23 @@
 firewalls")."""
 
 import collections
+import os
 import signal
+import subprocess
+import sys
 import threading
 import time
 
+from harness import processes
 from harness.client import greeting
 from harness.clocks import Clocks
 from harness.connection import Connection, connect, spelled
 from harness.failure import Failed, expect
 from harness.node import Node
 from harness.peer import Peer
-from harness.registry import test
+from harness.registry import add, test
 from harness.server import Server
+from suites.turns import reads_all, says_without_pause
 
 # So many strangers come in a second, and in all; so many of their connections are kept open on this side.
 RATE, STRANGERS, KEPT = 200, 10000, 400
@@ -177,6 +182,56 @@ def a_peer_that_has_said_hello_stays(fixture):
         stranger.close()
 
 
+# So many strangers come to the peers' port while a worker is held up, and so many clients; so many of the strangers wait for the
+# worker, and so many are there at once, at a node with one peer.
+HELD_UP, GUESTS, WAITING, THERE = 40, 5, 16, 10
+
+
+@test
+def sixteen_wait_for_a_worker_and_the_others_in_the_queue_of_the_system(fixture):
+    """The one worker is held up, and strangers come to the peers' port, with a peer behind them: the node takes in 16 of them, and
+    no more as clients come to the other port, which it takes in one by one. Once the worker goes on, each of them has its turn. So
+    it is again when they have left."""
+    held = fixture.path("held")
+    front = ["env", f"LD_PRELOAD={fixture.shims.path('waits')}", "WAITS=2", f"HELD={held}"]
+    node = Node(fixture, workers=1, peers=[("n0", NOBODY)], front=front).begin()
+    before = node.sockets()
+    for turn in range(2):
+        fixture.write("held", b"")
+        fixture.until("the worker is held up", lambda: os.path.exists(f"{held}.here"))
+        came = sixteen_wait(fixture, node, before, 5 + turn)
+        os.remove(held)
+        all_have_their_turn(*came)
+        fixture.until("all have left", lambda: node.sockets() == before)
+        os.remove(f"{held}.here")
+
+
+def sixteen_wait(fixture, node, before, incarnation):
+    """Strangers, a peer and clients that come to a node whose worker is held up, and that has so many sockets before."""
+    strangers = [Connection(fixture, connect(fixture, node.peers), f"stranger {number}") for number in range(HELD_UP)]
+    peer, clients = Peer.dial(node, incarnation=incarnation), []
+    peer.say("W green", peer.hello())
+    for number in range(GUESTS + 1):
+        wanted = before + WAITING + number
+        fixture.until(f"{wanted} sockets", lambda wanted=wanted: node.sockets() >= wanted)
+        expect("sockets of the node", wanted, node.sockets())
+        if number < GUESTS:
+            clients.append(node.client(f"client {number}"))
+    return strangers, peer, clients
+
+
+def all_have_their_turn(strangers, peer, clients):
+    """Of the strangers those go who came first, and the others can stay; the peer and the clients are heard. Then all leave."""
+    for stranger in strangers[:HELD_UP - THERE]:
+        stranger.hear_end()
+    peer.hear("W green")
+    peer.hear_hello()
+    for client in clients:
+        client.ping()
+    for it in (*strangers, peer, *clients):
+        it.close()
+
+
 @test
 def those_beyond_ten_within_a_minute_are_told_by_their_number(fixture):
     """The first ten of a minute are told one by one, at each door."""
@@ -203,3 +258,75 @@ def those_beyond_ten_within_a_minute_are_told_by_their_number(fixture):
         return sorted(told) == sorted(wanted) or node.is_over()
 
     fixture.until("ten of each kind are told, and how many more there were", are_told)
+
+
+# Strangers who come as fast as the system takes them. Each leaves once a hundred more of its process have come.
+CROWD = """
+import collections, socket, sys
+address, kept, count = (sys.argv[1], int(sys.argv[2])), collections.deque(), 0
+print("here", flush=True)
+while True:
+    try:
+        kept.append(socket.create_connection(address, 5))
+    except OSError:
+        continue
+    if len(kept) > 100:
+        kept.popleft().close()
+"""
+# So many processes of them, clients that keep the worker busy, messages of a page, and seconds; and so often a peer comes, within
+# so many seconds of the node's own.
+CROWDS, ASKING, MESSAGES, LONG = 4, 20, 1000, 5
+PEERS, IN_TIME = 5, 2
+# So many sockets more a node may have meanwhile: ten strangers, 16 who wait for the worker, the 64 at most that it looks at before
+# it closes those that give way, 16 that it has closed, one that is handed to it, and the peer.
+MORE = THERE + WAITING + 64 + 16 + 2
+
+
+def busy_node(fixture):
+    """A node of one worker, at which clients ask for the longest pages without pause."""
+    server = Server(fixture)
+    node = Node(fixture, servers=[server.address], peers=[("n0", NOBODY)], workers=1, places=64, maximum=MESSAGES).begin()
+    session = server.register("message-tags")
+    session.say(*(f"@msgid=m{number:04} :bob!b@h PRIVMSG #a :{number} {'x' * 400}" for number in range(MESSAGES)))
+    server.settled(session)
+    clients = [node.client(f"client {number}").register("batch draft/chathistory", maximum=MESSAGES) for number in range(ASKING)]
+    for client in clients:
+        reads_all(fixture, client)
+        says_without_pause(fixture, client, f"CHATHISTORY LATEST #a * {MESSAGES}")
+    return node
+
+
+def crowds_come(fixture, address):
+    """Strangers begin to come to that address, from processes of their own."""
+    for _ in range(CROWDS):
+        crowd = processes.start([sys.executable, "-c", CROWD, *map(str, address)], stdin=subprocess.DEVNULL,
+                                stdout=subprocess.PIPE, stderr=subprocess.DEVNULL)
+        fixture.at_end(lambda crowd=crowd: processes.end(crowd))
+        expect("what strangers say first", b"here\n", crowd.stdout.readline())
+
+
+def strangers_leave_descriptors(fixture):
+    """Strangers come to the peers' port by the thousand while the one worker is busy. Those beyond 16 who wait for it stay in the
+    system's queue, so the node's sockets stay bounded. A peer gets in while the node takes two seconds of processor time, of
+    which it has less than there are where other tests have the processors. The quickest of five counts, since the system may ask
+    a peer to come again."""
+    node = busy_node(fixture)
+    before, most, took = node.sockets(), 0, []
+    crowds_come(fixture, node.peers)
+    for number in range(PEERS):
+        end = time.monotonic() + LONG / PEERS
+        while time.monotonic() < end:
+            most = max(most, node.sockets())
+            time.sleep(0.01)
+        if most > before + MORE:
+            raise Failed(f"the node had {before} sockets before the strangers came, and {most} meanwhile")
+        begun = node.processor_seconds()
+        peer = Peer.dial(node, incarnation=5 + number).greet()
+        took.append(node.processor_seconds() - begun)
+        peer.close()
+    fixture.notes.append(f"{before} sockets before, {most} at most; a peer in {max(took):.2f} seconds of the node's at most")
+    if min(took) > IN_TIME:
+        raise Failed(f"peers were let in after {min(took):.2f} to {max(took):.2f} seconds of the node's processor time")
+
+
+add("strangers: by the thousand at the peers' port, while the worker is busy", strangers_leave_descriptors)

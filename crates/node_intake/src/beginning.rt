@@ -6,11 +6,11 @@ ghost use Rattle.change_log.specs.Names.{IsNamed};
 use crate::floors::put_floors;
 use crate::intake::Intake;
 use bnc_ports::{Port, ServeFault};
+use bnc_sockets::Log;
 use chat_change::Change;
 use client_places::{Attachment, RingClient};
 use shared_node::{Naming, NodeFault, Pass, SharedNode, Unnamed};
 use std::alloc::{AllocError, Global};
-use std::io::Eprint;
 use std::sync::Wait;
 use std::thread::Threads;
 use std::time::Clock;
@@ -25,6 +25,7 @@ pub type Job<J, X, P> = (Pass<J>, WorkerConfig<X>, P);
 /// `boxed` makes of a client the attachment that its worker keeps; none where there is no memory.
 pub fn begin_node<'a, J, R, X, P, F>(
     rt: &'a R,
+    log: &Log,
     name: Unnamed,
     intake: Intake<X>,
     beginnings: Vec<(WorkerConfig<X>, P)>,
@@ -33,14 +34,14 @@ pub fn begin_node<'a, J, R, X, P, F>(
 ) -> Result<(SharedNode<J, &'a R>, Vec<Job<J, X, P>>), ServeFault>
 where
     J: Naming,
-    R: Threads + Wait + Clock + Eprint + AllocGlobal + Copy + Send + Drop + 'static,
+    R: Threads + Wait + Clock + AllocGlobal + Copy + Send + Drop + 'static,
     X: Attachment + Send + 'static,
     P: Port,
     F: Fn(RingClient) -> Option<X> + Send + Drop + 'static,
     requires named { IsNamed J.book J.name J.parts name }
     requires callable { F.IsAlwaysCallable boxed }
 {
-    match node_with::<J, R, X, P>(rt, name, beginnings, &floors) {
+    match node_with::<J, R, X, P>(rt, log, name, beginnings, &floors) {
         Ok((node, jobs)) => {
             intake.begin(rt, boxed)?;
             Ok((node, jobs))
@@ -66,13 +67,14 @@ fn fault_of_node(fault: NodeFault) -> ServeFault
 // A node of that name, in which the floors are put, and a job for each of its passes.
 fn node_with<'a, J, R, X, P>(
     rt: &'a R,
+    log: &Log,
     name: Unnamed,
     beginnings: Vec<(WorkerConfig<X>, P)>,
     floors: &[Change],
 ) -> Result<(SharedNode<J, &'a R>, Vec<Job<J, X, P>>), ServeFault>
 where
     J: Naming,
-    R: Wait + Clock + Eprint + AllocGlobal + Drop,
+    R: Wait + Clock + AllocGlobal + Drop,
     X: Attachment,
     P: Port,
     requires { IsNamed J.book J.name J.parts name }
@@ -82,7 +84,7 @@ where
         Err(fault) => return Err(fault_of_node(fault)),
     };
     if let Some(pass) = passes.first_mut() {
-        put_floors(rt, &node, pass, floors)?;
+        put_floors(rt, log, &node, pass, floors)?;
     }
     let jobs = in_step(rt.alloc(), passes, beginnings)?;
     Ok((node, jobs))

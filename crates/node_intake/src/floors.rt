@@ -4,13 +4,12 @@ ghost use Rattle.std.specs.Option.{option_to_list};
 ghost use Rattle.node_intake.specs.WorkerConfigs as spec;
 
 use bnc_ports::{Event, ServeFault};
-use bnc_sockets::{now_ms, report};
+use bnc_sockets::{Log, now_ms};
 use byte_text::NoMemory;
 use chat_change::{Account, Change, Moment};
 use node_config::AccountConfig;
 use shared_node::{Naming, Pass, SharedNode};
 use std::alloc::Global;
-use std::io::Eprint;
 use std::sync::Wait;
 use std::time::Clock;
 
@@ -52,8 +51,9 @@ pub(crate) fn floors_of(alloc: Global, accounts: &[AccountConfig]) -> Result<Vec
 }
 
 /// Puts floors of accounts through a pass, and tells the operator of each.
-pub(crate) fn put_floors<J: Naming, R: Wait + Clock + Eprint + Drop, W: Wait + Clock + Eprint>(
+pub(crate) fn put_floors<J: Naming, R: Wait + Drop, W: Wait + Clock>(
     rt: &W,
+    log: &Log,
     node: &SharedNode<J, R>,
     pass: &mut Pass<J>,
     floors: &[Change],
@@ -73,7 +73,7 @@ pub(crate) fn put_floors<J: Naming, R: Wait + Clock + Eprint + Drop, W: Wait + C
                 at: *at,
                 is_ahead: now < at.ms(),
             };
-            report(rt, &event);
+            log.report(rt, &event);
         }
     }
     Ok(())

@@ -8,14 +8,17 @@ use bnc_sockets::{WorkerIntake, monotonic_ms};
 use client_places::{Attachment, Boxed, RingClient, Stand};
 use passed_lines::Mail;
 use std::alloc::Global;
-use std::io::Eprint;
 use std::sync::Wait;
 use std::thread;
 use std::thread::Threads;
 use std::time::Clock;
 
+// After so many milliseconds it is looked whether worker 0 has taken a node in by now.
+const PEERS_PATIENCE: u64 = 1;
+
 /// Where connections come in, and where they are handed to the workers: clients, of whom each has a place, to the workers in
-/// turn, and peers to worker 0. Where each place is taken those give way who have waited longest to be registered.
+/// turn, and peers to worker 0. Where each place is taken those give way who have waited longest to be registered. As long as 16
+/// peers wait for worker 0, the next ones wait in the queue of the system.
 #[derive(Drop)]
 pub struct Intake<X = Boxed> {
     listeners: Listeners,
@@ -44,15 +47,15 @@ fn attachment_at<X, F: Fn(RingClient) -> Option<X>>(
 impl<X: Attachment> Intake<X> {
     // Nobody is there, and nobody waits.
     pub(crate) fn new(
-        alloc: Global,
         listeners: Listeners,
+        queue: Queue,
         places: ClientPlaces,
         intakes: Vec<WorkerIntake<Mail, X>>,
         bound: usize,
     ) -> Intake<X> {
         Intake {
             listeners,
-            queue: Queue::new(alloc),
+            queue,
             places,
             workers: WorkerIntakes::new(intakes),
             bound,
@@ -62,7 +65,7 @@ impl<X: Attachment> Intake<X> {
     // Takes connections in from now on, on a thread of its own. Once the system can't wait for them the workers are told to end.
     pub(crate) fn begin<R, F>(self, rt: &R, boxed: F) -> Result<(), ServeFault>
     where
-        R: Threads + Wait + Clock + Eprint + AllocGlobal + Copy + Send + Drop + 'static,
+        R: Threads + Wait + Clock + AllocGlobal + Copy + Send + Drop + 'static,
         X: Send + 'static,
         F: Fn(RingClient) -> Option<X> + Send + Drop + 'static,
         requires { F.IsAlwaysCallable boxed }
@@ -76,7 +79,7 @@ impl<X: Attachment> Intake<X> {
     }
 
     // Takes connections in for as long as the system can wait for them. Then the workers are told to end.
-    fn receive<R: Wait + Clock + Eprint + AllocGlobal, F: Fn(RingClient) -> Option<X>>(
+    fn receive<R: Wait + Clock + AllocGlobal, F: Fn(RingClient) -> Option<X>>(
         &mut self,
         rt: &R,
         boxed: &F,
@@ -87,8 +90,9 @@ impl<X: Attachment> Intake<X> {
             // (first, since the system doesn't tell once more of those whom a full queue left waiting)
             self.seat_all(rt, boxed);
             let was_client = self.queue.take_client(rt, &mut self.listeners);
-            let was_peer = self.take_peer(rt);
-            if !was_client && !was_peer && !self.queue.wait(&mut self.listeners) {
+            let is_crowded = !self.workers.has_room_for_a_peer();
+            let was_peer = !is_crowded && self.take_peer(rt);
+            if !was_client && !was_peer && !self.wait(is_crowded) {
                 break;
             }
             self.queue.tell_refusals(rt);
@@ -96,8 +100,19 @@ impl<X: Attachment> Intake<X> {
         self.workers.stop(rt);
     }
 
+    // Waits until somebody connects, or until it is time to look at something else. False where the system can't wait. (Nor does
+    // the system tell once more of nodes that connected while worker 0 had no room for them.)
+    fn wait(&mut self, is_crowded: bool) -> bool {
+        let most = if is_crowded {
+            Some(PEERS_PATIENCE)
+        } else {
+            self.queue.patience()
+        };
+        self.listeners.wait(most)
+    }
+
     // Hands the next node that connected to worker 0. False where none waited.
-    fn take_peer<R: Wait + Clock + Eprint>(&mut self, rt: &R) -> bool {
+    fn take_peer<R: Wait + Clock>(&mut self, rt: &R) -> bool {
         match self.listeners.accept(rt, Entrance::Peers) {
             Caller::Nobody => false,
             Caller::Gone => true,
@@ -109,7 +124,7 @@ impl<X: Attachment> Intake<X> {
     }
 
     // Hands in those who wait for a place, in their order and as far as places are free.
-    fn seat_all<R: Wait + Clock + Eprint + AllocGlobal, F: Fn(RingClient) -> Option<X>>(
+    fn seat_all<R: Wait + Clock + AllocGlobal, F: Fn(RingClient) -> Option<X>>(
         &mut self,
         rt: &R,
         boxed: &F,
@@ -130,7 +145,7 @@ impl<X: Attachment> Intake<X> {
     }
 
     // Hands in who has waited longest for a place, with its attachment. Where there was no memory for that it is closed.
-    fn seat_next<R: Wait + Clock + Eprint>(&mut self, rt: &R, place: usize, attachment: Option<X>) {
+    fn seat_next<R: Wait + Clock>(&mut self, rt: &R, place: usize, attachment: Option<X>) {
         let Some((stream, address)) = self.queue.pop() else {
             return;
         };
@@ -145,7 +160,7 @@ impl<X: Attachment> Intake<X> {
 
     // Each place is taken. For each who waits for one, who has waited longest to be registered is asked to go. Where nobody is
     // left to be asked, those who wait for a place are closed.
-    fn make_way<R: Wait + Clock + Eprint>(&mut self, rt: &R) {
+    fn make_way<R: Wait + Clock>(&mut self, rt: &R) {
         let now = monotonic_ms(rt).unwrap_or(0);
         for _ in self.places.count_leaving(now)..self.queue.len() {
             match self.places.ask_longest(now) {
@@ -162,7 +177,7 @@ impl<X: Attachment> Intake<X> {
 // Takes connections in on a thread of its own. False where the system gives no thread.
 fn receive_in_a_thread<R, X, F>(rt: R, intake: Intake<X>, boxed: F) -> bool
 where
-    R: Threads + Wait + Clock + Eprint + AllocGlobal + Copy + Send + Drop + 'static,
+    R: Threads + Wait + Clock + AllocGlobal + Copy + Send + Drop + 'static,
     X: Attachment + Send + 'static,
     F: Fn(RingClient) -> Option<X> + Send + Drop + 'static,
     requires { F.IsAlwaysCallable boxed }

@@ -1,11 +1,12 @@
 //! The sockets on which a node accepts connections.
 use bnc_ports::{Event, ServeFault};
-use bnc_sockets::report;
+use bnc_sockets::Log;
 use mio::net::{TcpListener, TcpStream};
 use mio::{Events, Interest, Poll, Token};
 use std::io;
-use std::io::{Eprint, ErrorKind};
+use std::io::ErrorKind;
 use std::net::{Net, SocketAddr};
+use std::sync::Wait;
 use std::time::{Clock, Duration};
 
 // How many events the system tells at once. There are two listeners.
@@ -58,6 +59,7 @@ pub(crate) struct Listeners {
     events: Events,
     clients: TcpListener,
     peers: TcpListener,
+    log: Log,
     // Whether the system gave no connection since the last wait, and before it.
     is_failing: bool,
     was_failing: bool,
@@ -67,6 +69,7 @@ impl Listeners {
     // Listens at both addresses.
     pub(crate) fn open<R: Net + AllocGlobal>(
         rt: &R,
+        log: &Log,
         clients: SocketAddr,
         peers: SocketAddr,
     ) -> Result<Listeners, ServeFault> {
@@ -79,20 +82,21 @@ impl Listeners {
             events,
             clients,
             peers,
+            log: log.try_clone()?,
             is_failing: false,
             was_failing: false,
         })
     }
 
     // Tells the operator where the node listens.
-    pub(crate) fn tell<R: Clock + Eprint>(&self, rt: &R) {
+    pub(crate) fn tell<R: Wait + Clock>(&self, rt: &R) {
         let Ok(clients) = self.clients.local_addr() else {
             return;
         };
         let Ok(peers) = self.peers.local_addr() else {
             return;
         };
-        report(rt, &Event::Listening { clients, peers });
+        self.log.report(rt, &Event::Listening { clients, peers });
     }
 
     // Waits until somebody connects, or until it is time to try again, and for so many milliseconds at most. False where the
@@ -110,7 +114,7 @@ impl Listeners {
     }
 
     // The next who waits. The system tells of new connections only once nobody waited.
-    pub(crate) fn accept<R: Clock + Eprint>(&mut self, rt: &R, entrance: Entrance) -> Caller {
+    pub(crate) fn accept<R: Wait + Clock>(&mut self, rt: &R, entrance: Entrance) -> Caller {
         let accepted = match entrance {
             Entrance::Clients => self.clients.accept(),
             Entrance::Peers => self.peers.accept(),
@@ -129,9 +133,9 @@ impl Listeners {
     }
 
     // Tells the operator once, and not again as long as it lasts.
-    fn fail<R: Clock + Eprint>(&mut self, rt: &R) {
+    fn fail<R: Wait + Clock>(&mut self, rt: &R) {
         if !self.is_failing && !self.was_failing {
-            report(rt, &Event::AcceptFailed);
+            self.log.report(rt, &Event::AcceptFailed);
         }
         self.is_failing = true;
     }

@@ -1,12 +1,12 @@
 //! Clients that wait for a place.
 use crate::listeners::{Caller, Entrance, Listeners};
 use bnc_ports::{Event, Reason, Refusals};
-use bnc_sockets::{monotonic_ms, report};
+use bnc_sockets::{Log, monotonic_ms};
 use mio::net::TcpStream;
-use std::alloc::Global;
+use std::alloc::{AllocError, Global};
 use std::collections::VecDeque;
-use std::io::Eprint;
 use std::net::SocketAddr;
+use std::sync::Wait;
 use std::time::Clock;
 use worker_io::Shortage;
 
@@ -24,16 +24,18 @@ pub(crate) struct Queue {
     refusals: Refusals,
     // Those of them for which there was no memory.
     shortage: Shortage,
+    log: Log,
 }
 
 impl Queue {
     // Nobody waits.
-    pub(crate) fn new(alloc: Global) -> Queue {
-        Queue {
+    pub(crate) fn new(alloc: Global, log: &Log) -> Result<Queue, AllocError> {
+        Ok(Queue {
             clients: VecDeque::new(alloc),
             refusals: Refusals::new(),
             shortage: Shortage::new(),
-        }
+            log: log.try_clone()?,
+        })
     }
 
     pub(crate) fn len(&self) -> usize {
@@ -47,7 +49,7 @@ impl Queue {
 
     // Takes in the next client that connected, which waits for a place from now on. False where none did, or no further one can
     // wait here.
-    pub(crate) fn take_client<R: Clock + Eprint>(
+    pub(crate) fn take_client<R: Wait + Clock>(
         &mut self,
         rt: &R,
         listeners: &mut Listeners,
@@ -66,25 +68,23 @@ impl Queue {
     }
 
     // A client waits for a place. Where there is no memory for that it is closed.
-    fn push<R: Clock + Eprint>(&mut self, rt: &R, stream: TcpStream, address: SocketAddr) {
+    fn push<R: Wait + Clock>(&mut self, rt: &R, stream: TcpStream, address: SocketAddr) {
         if self.clients.push_back((stream, address)).is_err() {
             self.tell_refused(rt, address, Reason::NoMemory);
         }
     }
 
-    // Waits until somebody connects, until a place may be free, or until the operator is to be told something. False where the
-    // system can't wait.
-    pub(crate) fn wait(&self, listeners: &mut Listeners) -> bool {
-        let most = if self.clients.is_empty() {
+    // For how many milliseconds at most the node waits before a place may be free, or the operator is to be told something.
+    pub(crate) fn patience(&self) -> Option<u64> {
+        if self.clients.is_empty() {
             self.refusals.patience().or(self.shortage.patience())
         } else {
             Some(PATIENCE)
-        };
-        listeners.wait(most)
+        }
     }
 
     // Closes those who wait for a place.
-    pub(crate) fn refuse_all<R: Clock + Eprint>(&mut self, rt: &R) {
+    pub(crate) fn refuse_all<R: Wait + Clock>(&mut self, rt: &R) {
         for _ in 0..MOST_QUEUED {
             let Some((stream, address)) = self.clients.pop_front() else {
                 return;
@@ -95,7 +95,7 @@ impl Queue {
     }
 
     // The operator is told that a client was closed before it was handed to a worker, or that there was one more of many.
-    pub(crate) fn tell_refused<R: Clock + Eprint>(
+    pub(crate) fn tell_refused<R: Wait + Clock>(
         &mut self,
         rt: &R,
         address: SocketAddr,
@@ -104,21 +104,21 @@ impl Queue {
         let address = Some(address);
         let event = Event::ClientRefused { address, reason };
         if self.shortage.is_told(&event) && self.refusals.add() {
-            report(rt, &event);
+            self.log.report(rt, &event);
         }
     }
 
     // The operator is told once a minute how many more clients were refused than were told one by one, and how many for want of
     // memory.
-    pub(crate) fn tell_refusals<R: Clock + Eprint>(&mut self, rt: &R) {
+    pub(crate) fn tell_refusals<R: Wait + Clock>(&mut self, rt: &R) {
         let Some(now) = monotonic_ms(rt) else {
             return;
         };
         if let Some(count) = self.refusals.take_untold(now) {
-            report(rt, &Event::ClientsRefused { count });
+            self.log.report(rt, &Event::ClientsRefused { count });
         }
         if let Some(count) = self.shortage.take(now) {
-            report(rt, &Event::OutOfMemory { count });
+            self.log.report(rt, &Event::OutOfMemory { count });
         }
     }
 }

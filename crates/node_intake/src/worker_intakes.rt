@@ -39,6 +39,14 @@ impl<X: Attachment> WorkerIntakes<X> {
         }
     }
 
+    // Whether a further node that connected may wait for worker 0.
+    pub(crate) fn has_room_for_a_peer(&self) -> bool {
+        match self.intakes.first() {
+            Some(intake) => intake.has_room_for_a_peer(),
+            None => false,
+        }
+    }
+
     // Hands a node that connected to worker 0.
     pub(crate) fn hand_peer<R: Wait>(&self, rt: &R, stream: TcpStream, address: SocketAddr) {
         if let Some(intake) = self.intakes.first() {

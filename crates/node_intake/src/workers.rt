@@ -4,15 +4,16 @@ ghost use Rattle.std.specs.Prelude.{◌≡◌, IfOk, map};
 use crate::places::ClientPlaces;
 use crate::worker_configs::worker_config_of;
 use bnc_ports::{Arrival, Lobby, ServeFault};
-use bnc_sockets::{Addresses, Delivery, Mailbox, Newcomer, SocketPort, WorkerIntake, waker_of};
+use bnc_sockets::{
+    Addresses, Delivery, Entrance, Log, Mailbox, Newcomers, SocketPort, WorkerIntake, waker_of,
+};
 use client_places::Attachment;
-use crossbeam_channel::{Receiver, Sender, unbounded};
+use crossbeam_channel::{Receiver, unbounded};
 use mio::Poll;
 use node_config::{Config, NetworkConfig, PeerConfig};
 use passed_lines::Mail;
 use rtrb::{Producer, RingBuffer};
 use std::alloc::{AllocError, Global};
-use std::io::Eprint;
 use std::net::{Net, SocketAddr};
 use std::sync::Wait;
 use std::time::Clock;
@@ -34,7 +35,7 @@ pub(crate) struct Workers<R: Wait + Drop, X: Drop> {
 struct Inbox {
     poll: Poll,
     deliveries: Receiver<Delivery<Mail>>,
-    newcomers: Receiver<Newcomer>,
+    newcomers: Newcomers,
 }
 
 // Where a worker waits, and where others hand in to it.
@@ -42,7 +43,7 @@ struct Inbox {
 struct WorkerSetup {
     inbox: Inbox,
     mailbox: Mailbox<Mail>,
-    entrance: Sender<Newcomer>,
+    entrance: Entrance,
 }
 
 // A mailbox that wakes that poll, and where its deliveries arrive.
@@ -58,7 +59,7 @@ fn mailbox_at<R: Net + AllocGlobal>(
 fn setup_of<R: Net + AllocGlobal>(rt: &R) -> Result<WorkerSetup, ServeFault> {
     let poll = Poll::new(rt)?;
     let (mailbox, deliveries) = mailbox_at(rt, &poll)?;
-    let (entrance, newcomers) = unbounded(rt.alloc())?;
+    let (entrance, newcomers) = Entrance::new(rt.alloc())?;
     let inbox = Inbox {
         poll,
         deliveries,
@@ -131,20 +132,22 @@ fn addresses_of(alloc: Global, config: &Config) -> Result<Addresses, AllocError>
 }
 
 // The port of a worker with that inbox, beside the workers of these mailboxes.
-fn port_of<R: Net + Wait + Clock + Eprint + AllocGlobal + Copy + Drop>(
+fn port_of<R: Net + Wait + Clock + AllocGlobal + Copy + Drop>(
     rt: &R,
+    log: &Log,
     addresses: &Addresses,
     mailboxes: &[Mailbox<Mail>],
     inbox: Inbox,
 ) -> Result<SocketPort<R, Mail>, AllocError> {
     let mailboxes = copies_of(rt.alloc(), mailboxes)?;
     let addresses = addresses.try_clone()?;
+    let log = log.try_clone()?;
     let Inbox {
         poll,
         deliveries,
         newcomers,
     } = inbox;
-    SocketPort::new(*rt, poll, deliveries, newcomers, mailboxes, addresses)
+    SocketPort::new(*rt, poll, deliveries, newcomers, mailboxes, addresses, log)
 }
 
 // A lobby for a worker's clients, of whom there are as many as places at most, and where their attachments are sent.
@@ -157,10 +160,11 @@ fn lobby_of<X: Attachment>(
     Ok((sender, Lobby::new(arrivals, waiting)))
 }
 
-impl<R: Net + Wait + Clock + Eprint + AllocGlobal + Copy + Drop, X: Attachment> Workers<R, X> {
+impl<R: Net + Wait + Clock + AllocGlobal + Copy + Drop, X: Attachment> Workers<R, X> {
     // The workers that the configuration asks for, in this incarnation of the node.
     pub(crate) fn new(
         rt: &R,
+        log: &Log,
         config: &Config,
         incarnation: u64,
     ) -> Result<Workers<R, X>, ServeFault> {
@@ -173,7 +177,7 @@ impl<R: Net + Wait + Clock + Eprint + AllocGlobal + Copy + Drop, X: Attachment> 
             intakes: Vec::new(alloc),
             places,
         };
-        workers.add_all(rt, config, incarnation, &addresses, setups)?;
+        workers.add_all(rt, log, config, incarnation, &addresses, setups)?;
         Ok(workers)
     }
 
@@ -181,6 +185,7 @@ impl<R: Net + Wait + Clock + Eprint + AllocGlobal + Copy + Drop, X: Attachment> 
     fn add_all(
         &mut self,
         rt: &R,
+        log: &Log,
         config: &Config,
         incarnation: u64,
         addresses: &Addresses,
@@ -188,7 +193,7 @@ impl<R: Net + Wait + Clock + Eprint + AllocGlobal + Copy + Drop, X: Attachment> 
     ) -> Result<(), ServeFault> {
         let mailboxes = mailboxes_of(rt.alloc(), &setups)?;
         for setup in setups {
-            self.add(rt, config, incarnation, addresses, &mailboxes, setup)?;
+            self.add(rt, log, config, incarnation, addresses, &mailboxes, setup)?;
         }
         Ok(())
     }
@@ -197,6 +202,7 @@ impl<R: Net + Wait + Clock + Eprint + AllocGlobal + Copy + Drop, X: Attachment> 
     fn add(
         &mut self,
         rt: &R,
+        log: &Log,
         config: &Config,
         incarnation: u64,
         addresses: &Addresses,
@@ -209,7 +215,7 @@ impl<R: Net + Wait + Clock + Eprint + AllocGlobal + Copy + Drop, X: Attachment> 
             entrance,
         } = setup;
         let lobby = self.add_intake(rt.alloc(), mailbox, entrance)?;
-        let port = port_of(rt, addresses, mailboxes, inbox)?;
+        let port = port_of(rt, log, addresses, mailboxes, inbox)?;
         let worker_config = worker_config_of(rt.alloc(), config, incarnation, lobby)?;
         self.beginnings
             .push((worker_config, port))
@@ -222,7 +228,7 @@ impl<R: Net + Wait + Clock + Eprint + AllocGlobal + Copy + Drop, X: Attachment> 
         &mut self,
         alloc: Global,
         mailbox: Mailbox<Mail>,
-        entrance: Sender<Newcomer>,
+        entrance: Entrance,
     ) -> Result<Lobby<X>, ServeFault> {
         let (arrivals, lobby) = lobby_of(alloc, &self.places)?;
         let intake = WorkerIntake::new(mailbox, entrance, arrivals);
