@@ -1,5 +1,5 @@
 -- How a script advances: by an item, by bytes that are fed, and to its end.
-use Rattle.std.proofs.Common.{◌≡◌, ℕ, ◌<◌, ◌≤◌, Bool, true, false, nat_lt, Option, None, Some, List, [], ◌∷◌, ◌++◌, length, take, drop, position, Result, Ok, Err, refl, sym, ap, ◌∙◌, subst, inl, inr, arith, append_assoc, append-nil, take-append-drop}
+use Rattle.std.proofs.Common.{◌≡◌, ℕ, ◌+◌, ◌<◌, ◌≤◌, Bool, true, false, nat_lt, Option, None, Some, List, [], ◌∷◌, ◌++◌, length, take, drop, position, Result, Ok, Err, refl, sym, ap, ◌∙◌, subst, inl, inr, arith, append_assoc, append-nil, length-append, take-append-drop}
 use Rattle.std.specs.Prelude.{◌≢◌, ◌⊎◌, IsErrAnd, IfSome, MatchResult, is_some}
 use Rattle.std.proofs.lemmas.Bool.{ltb-true, cond-false}
 use Rattle.std.proofs.lemmas.List.{length-take}
@@ -17,7 +17,7 @@ use Rattle.bnc_server.specs.World.{World}
 use Rattle.bnc_server.specs.Script.{outcome, text_of}
 use Rattle.bnc_server.specs.ChangeLines.{world_after}
 use Rattle.bnc_server.specs.Faults.{MayEnd}
-use Rattle.bnc_server.specs.Ending.{EndsInItem, MayEndBetween, Ends}
+use Rattle.bnc_server.specs.Ending.{EndsInItem, MayEndBetween, Ends, IsReadBy, most_reads}
 use Rattle.bnc_server.specs.HeldNode.{HeldWorld, held_world}
 use Rattle.bnc_server.specs.Progress.{text_of_next, world_after_next, MayEndNext, items_with, IsDrained, Goes, StopsInItem, StopsSending}
 use Rattle.bnc_server.proofs.OrderLemmas.{text_of-append, world_after-append}
@@ -325,3 +325,23 @@ pub faulted : {E : Type 0} (Q : E → Type 0) (r0 w0 w : Option (List ℕ)) (wor
 faulted Q None w0 w world r e p = tt
 faulted Q (Some xs) w0 w world (Ok x) e p = absurd e
 faulted Q (Some xs) w0 w world (Err y) e p = p
+
+-- ---- how much is read
+
+pub none_read : (r : Option (List ℕ)) → IsReadBy 0 r r
+none_read r = ([], Consumes-nil r, omega arith)
+
+-- one read more, of which so many bytes of a room for 4,096 came
+pub read_once : (n : ℕ) (r0 r r' : Option (List ℕ)) (count : ℕ) (room : List ℕ) → IsReadBy n r0 r → Consumes r r' (take count room) → length room ≡ 4096 → IsReadBy (n + 1) r0 r'
+read_once n r0 r r' count room so_far one whole = (
+  so_far.0 ++ take count room,
+  Consumes-trans r0 r r' so_far.0 (take count room) so_far.1 one,
+  omega (arith, so_far.2, whole, length-append so_far.0 (take count room), length-take count room),
+)
+
+-- one read more, which gave nothing
+pub read_kept : (n : ℕ) (r0 r r' : Option (List ℕ)) → IsReadBy n r0 r → Keeps r r' → IsReadBy (n + 1) r0 r'
+read_kept n r0 r r' so_far k = (so_far.0, Consumes-kept r0 r r' so_far.0 so_far.1 k, omega (arith, so_far.2))
+
+pub read_in_all : (n : ℕ) (r0 r : Option (List ℕ)) → IsReadBy n r0 r → n ≤ 16777216 → IsReadBy most_reads r0 r
+read_in_all n r0 r so_far some = (so_far.0, so_far.1, omega (arith, some, so_far.2))

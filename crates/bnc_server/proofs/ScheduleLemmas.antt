@@ -164,7 +164,7 @@ pub record Shown (w : cluster.World) (v : World) : Type 0 where
 abbrev pub IsShownBySome : World → Type 0
 IsShownBySome v = (w : cluster.World) × Shown w v
 
--- what a reader is told of it
+-- what a reader learns of it
 pub shown_is : (w : cluster.World) (v : World) → Shown w v → IsShown w v
 shown_is w v h = record {
   taken = λ k within. (h.agree k within).taken;
@@ -265,7 +265,7 @@ module _ (w : cluster.World) (v : World) (h : Shown w v) (s r : ℕ) (are : AreP
         λ q f. f,
       )
 
-  -- an acknowledgement comes to the sender
+  -- an acknowledgement reaches the sender
   heard_shown : (a : Ack) (which : ℕ) → slice_get w.acks which ≡ Some a → IsShownBySome (with_node v s (after_ack_of sender r a))
   heard_shown a which there =
       let now = after_ack (cluster.life (name_of s) x) (name_of r) (x.peers (name_of r)) a in
@@ -319,7 +319,7 @@ module _ (w : cluster.World) (v : World) (h : Shown w v) (s r : ℕ) (are : AreP
   abbrev ack_with : Bool → Packet → Option Ack
   ack_with t p = cond t (Some (ack_of_packet link_from.me p)) None
 
-  -- the packet comes to it
+  -- the packet reaches it
   come_shown : (p : Packet) (t : Bool) → packet_is_mine link_from.me link_from.name p ≡ t → slice_get w.packets 0 ≡ Some p
       → (u : cluster.World) × Shown u (with_test t p) × ((a : Ack) → ack_with t p ≡ Some a → slice_get u.acks 0 ≡ Some a)
   come_shown p false e there = (w, subst (λ ns. Shown w (record v { nodes = ns })) (sym (set-get_or v.nodes r no_node)) h, λ a f. (cc))
@@ -344,7 +344,7 @@ module _ (w : cluster.World) (v : World) (h : Shown w v) (s r : ℕ) (are : AreP
   delivered_shown None sent = (w, h, λ a f. (cc))
   delivered_shown (Some p) sent = come_shown p (packet_is_mine link_from.me link_from.name p) refl (sent p refl)
 
--- a packet is made, and comes to the receiver
+-- a packet is made, and reaches the receiver
 both_shown : (v : World) (s r : ℕ) → ArePlaces s r → IsShownBySome v
     → (u : cluster.World) × Shown u (after_packet_of v s r) × ((a : Ack) → ack_of v s r ≡ Some a → slice_get u.acks 0 ≡ Some a)
 both_shown v s r are (w, h) =

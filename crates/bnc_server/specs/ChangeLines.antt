@@ -53,7 +53,7 @@ pub record AreAlike (one other : World) : Type 0 where
   pub selected : one.selected ≡ other.selected
   pub nodes : AllTookTheSame one.nodes other.nodes
 
--- no packet and no acknowledgement comes to a node
+-- no packet and no acknowledgement reaches a node
 abbrev pub IsLocal : Request → Type 0
 IsLocal (of_change change) = ⊤
 IsLocal (of_command (select node)) = ⊤

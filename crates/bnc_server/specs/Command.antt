@@ -1,7 +1,7 @@
 -- The lines that begin with `%`: what they ask of the nodes.
 use Rattle.std.specs.Prelude.{ℕ, ◌-◌, Bool, not, ◌&&◌, ◌==◌, nat_le, List, [], ◌∷◌, if◌then◌else◌}
 
--- nodes are told by their places, which begin with 0
+-- nodes are numbered by their places, which begin with 0
 pub data NodeCommand : Type 0 where
   select : (node : ℕ) → NodeCommand  -- `%2`
   exchange : (sender receiver : ℕ) → NodeCommand  -- `%1>2`

@@ -1,5 +1,5 @@
--- Where a script ends with a fault: in one of its items, or between two.
-use Rattle.std.specs.Prelude.{◌≡◌, ◌≢◌, ◌⊎◌, ⊤, ℕ, List, [], ◌∷◌, ◌++◌, Option}
+-- Where a script ends with a fault: in one of its items, or between two. And how much of it is read.
+use Rattle.std.specs.Prelude.{◌≡◌, ◌≢◌, ◌⊎◌, ⊤, ℕ, ◌*◌, ◌≤◌, List, [], ◌∷◌, ◌++◌, length, Option}
 use Rattle.std.specs.Io.KnownBytes.{Appends, Consumes}
 use Rattle.byte_text.specs.Writes.{AppendsPrefix}
 use Rattle.irc_line.specs.Stream.{Item, items}
@@ -43,3 +43,11 @@ abbrev pub Ends : (unread left old new : Option (List ℕ)) → World → Replay
 Ends unread left old new w fault =
     (read : List ℕ) × Consumes unread left read
     × (EndsInItem old new w (items read) fault ⊎ EndsBetween old new w read fault)
+
+-- The reader gave what so many reads of 4,096 bytes give at most. It had `unread` and has `left`, where these are known.
+abbrev pub IsReadBy : ℕ → (unread left : Option (List ℕ)) → Type 0
+IsReadBy reads unread left =
+    (read : List ℕ) × Consumes unread left read × (length read ≤ reads * 4096)
+
+abbrev pub most_reads : ℕ
+most_reads = 16777216

@@ -16,7 +16,7 @@ use Rattle.bnc_server.specs.Node.{Node, with_session, reply_to_effect, step_of}
 use Rattle.bnc_server.specs.World.{World, node_at, life_of, packet_of, after_sending, after_command}
 use Rattle.bnc_server.specs.Script.{selected_node}
 
--- a count is at its last value, which is told as Read, or else there was no memory
+-- a count is at its last value, which is answered as Read, or else there was no memory
 abbrev pub MayLack : (count last : ℕ) → ReplayFault → Type 0
 MayLack count last NoMemory = count ≢ last
 MayLack count last Read = count ≡ last

@@ -1,4 +1,4 @@
--- A node with its session, and what each effect of the session comes to.
+-- A node with its session, and what each effect of the session does.
 use Rattle.std.specs.Prelude.{ℕ, Bool, false, List, [], ◌∷◌, ◌++◌, Option, None, Some, Result, Ok}
 use Rattle.std.specs.List.{list_any}
 use Rattle.std.specs.Str.{bytes_eq}
@@ -23,7 +23,7 @@ use Rattle.cluster_directory.specs.Life.{Life}
 use Rattle.peer_lines.specs.Packet.{Ack}
 use Rattle.gossip_link.specs.Link.{Link}
 
--- A node in its present life. Nodes are told apart by their places, from 0 on.
+-- A node in its present life. Nodes differ by their places, which begin with 0.
 pub record Node : Type 0 where
   pub life : Life
   pub session : Stage

@@ -3,7 +3,7 @@ ghost use Rattle.std.specs.Prelude.{◌≡◌, ◌-◌, ◌<◌, ◌&&◌, not, 
 ghost use Rattle.bnc_server.specs.Command as spec;
 ghost use Rattle.bnc_server.specs.HeldNode.{value_of, HasNodes};
 
-/// What a line that begins with `%` asks of the nodes, which are told by their places from 0 on.
+/// What a line that begins with `%` asks of the nodes, which are numbered by their places from 0 on.
 #[derive(Clone, Copy)]
 pub(crate) enum NodeCommand {
     /// The client talks to that node.

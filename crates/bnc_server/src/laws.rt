@@ -12,7 +12,7 @@ ghost use Rattle.bnc_server.specs.Schedule.{IsSchedule};
 
 /// What is printed goes by the sets of changes that the nodes took, whatever their order and repeats, and whether they came
 /// as lines, from clients or in packets of other nodes: worlds whose nodes took the same sets print the same, as long as no
-/// further packet and no acknowledgement comes to a node. What a packet carries may depend on the order: it has the first
+/// further packet and no acknowledgement reaches a node. What a packet carries may depend on the order: it has the first
 /// 256 of the changes that its receiver still wants.
 pub fn answers_are_of_the_set()
     ensures { (one other : World) (items : List Item) → AreAlike one other → AreLocal items
@@ -20,7 +20,7 @@ pub fn answers_are_of_the_set()
 {}
 
 /// Change lines given in another order, or again, don't change what later lines print: behind them these print the same, as
-/// long as no packet and no acknowledgement comes to a node.
+/// long as no packet and no acknowledgement reaches a node.
 pub fn order_of_changes_does_not_show()
     ensures later { (w : World) (before items : List Item) → text_of w (before ++ items)
         ≡ text_of w before ++ text_of (world_after w before) items }

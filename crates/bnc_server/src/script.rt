@@ -6,7 +6,7 @@ ghost use Rattle.irc_line.specs.Stream.{holding, items, next_item, held_without}
 ghost use Rattle.chat_change.specs.Faults.{buffer_fault};
 ghost use Rattle.bnc_server.specs.Script.{start, script, text_of};
 ghost use Rattle.bnc_server.specs.World as worlds;
-ghost use Rattle.bnc_server.specs.Ending.{Ends};
+ghost use Rattle.bnc_server.specs.Ending.{Ends, IsReadBy, most_reads};
 ghost use Rattle.bnc_server.specs.HeldNode.{held_world, WritesTextOf, Becomes, EndsBy};
 ghost use Rattle.bnc_server.specs.Progress.{text_of_next, world_after_next, MayEndNext, IsDrained, ServesPiece, ServesAndSends};
 
@@ -119,6 +119,7 @@ fn replay_from<In: Read, Out: Write>(
         → IfSome (In.remaining reader.old) (λ input.
         Writes Out.contents writer.old writer.new result (text_of w (items input))) }
     ensures end { OnOk result (IsAtEnd (In.remaining reader.new)) }
+    ensures reads { IsReadBy most_reads (In.remaining reader.old) (In.remaining reader.new) }
     ensures fault { EndsBy result held_world world.old
         (Ends (In.remaining reader.old) (In.remaining reader.new)
         (Out.contents writer.old) (Out.contents writer.new)) }
@@ -165,7 +166,8 @@ fn replay_from<In: Read, Out: Write>(
 /// Fails with `NoMemory` for want of memory, with `Read` where the reader fails or has more after the most reads, or a
 /// node can take no further change or begin no further life, and with `Write` where the writer fails.
 /// The contract says in which item the script ended, or that all that was read was answered. That the reader or the writer
-/// failed it can't say, since nothing in `Read` and `Write` tells that one has.
+/// failed it can't say, since nothing in `Read` and `Write` tells that one has. Nor does anything there count reads: so the
+/// contract says that no more bytes are read than so many reads give.
 pub fn replay<In: Read, Out: Write>(
     alloc: Global,
     reader: &mut In,
@@ -179,6 +181,7 @@ pub fn replay<In: Read, Out: Write>(
         Writes Out.contents writer.old writer.new result
         (script input account.now network.now nick.now)) }
     ensures end { OnOk result (IsAtEnd (In.remaining reader.new)) }
+    ensures reads { IsReadBy most_reads (In.remaining reader.old) (In.remaining reader.new) }
     ensures fault { IfErr result (Ends (In.remaining reader.old) (In.remaining reader.new)
         (Out.contents writer.old) (Out.contents writer.new)
         (start account.now network.now nick.now)) }

@@ -3,14 +3,14 @@
 //!     == title
 //!     script
 //!     --
-//!     what it is to come to
+//!     what is expected
 //!
 //! What stands before the first `: ` of a title is the case's setting. A case of `peer` may have no `--`: then the script
-//! itself is what it is to come to. A NUL may be spelled `␀`, and a CR `␍`. `client`, `upstream`, `peer` and `replays` say what
+//! itself is what is expected. A NUL may be spelled `␀`, and a CR `␍`. `client`, `upstream`, `peer` and `replays` say what
 //! else stands in theirs.
 use std::alloc::{AllocError, Global};
 
-/// How what is played stands at first, what is played, and what that is to come to, where it says so.
+/// How what is played stands at first, what is played, and what is expected, where it says so.
 #[derive(Clone, Copy)]
 pub struct Case<'a> {
     pub setting: &'a str,

@@ -134,7 +134,7 @@ fn tell_effect(alloc: Global, out: &mut Vec<u8>, effect: &Effect) -> Result<(), 
 }
 
 impl Player {
-    // What a line of the client comes to. None stands for one that was too long.
+    // What a line of the client does. None stands for one that was too long.
     fn step(&mut self, alloc: Global, line: Option<&[u8]>) -> Result<Vec<Effect>, StepFault> {
         let Some(line) = line else {
             return match self.session.too_long(alloc, &self.directory) {
@@ -172,7 +172,7 @@ impl Player {
         Ok(())
     }
 
-    // Tells what a line of the client comes to. A step that has no answer for want of memory fails the case.
+    // Prints what a line of the client does. A step that has no answer for want of memory fails the case.
     fn play(&mut self, alloc: Global, line: Option<&[u8]>, out: &mut Vec<u8>) -> Result<(), Error> {
         match self.step_again(alloc, line) {
             Ok(effects) => self.tell_all(alloc, effects, out),
@@ -229,7 +229,7 @@ impl Player {
     }
 }
 
-/// Tells what the lines of a script come to, one after the other.
+/// Prints what the lines of a script do, one after the other.
 pub fn play(alloc: Global, setting: &str, script: &str, out: &mut Vec<u8>) -> Result<(), Error> {
     let mut player = player_of(alloc, setting)?;
     player.play_lines(alloc, script, out)

@@ -1,4 +1,4 @@
-//! Plays files of cases and compares what each case comes to with what it is to come to: sessions of clients (`client`),
+//! Plays files of cases and compares what each case gives with what is expected: sessions of clients (`client`),
 //! sessions with servers (`upstream`), lines, links and connections between nodes (`peer`), and scripts over devices that fail
 //! (`replays`). The words name the files; the part of a file's name in front of the first `_` says how its cases are played
 //! ([`cases`] has the form).
@@ -20,7 +20,7 @@ use std::alloc::Global;
 use std::io::Write;
 use std::{env, fs, io};
 
-/// Tells what a case of that file comes to.
+/// Prints what a case of that file gives.
 fn play(alloc: Global, path: &str, case: Case<'_>, out: &mut Vec<u8>) -> Result<(), Error> {
     let (player, file) = path.split_once("_").unwrap_or((path, ""));
     let script = &spelled(alloc, case.script)?;
@@ -32,7 +32,7 @@ fn play(alloc: Global, path: &str, case: Case<'_>, out: &mut Vec<u8>) -> Result<
     }
 }
 
-/// Whether that was found which is expected. What else was found is told.
+/// Whether that was found which is expected. What else was found is printed.
 fn is_expected(rt: &HostRuntime, found: &[u8], expected: &[u8]) -> Result<bool, Error> {
     if found == expected {
         return Ok(true);
@@ -42,7 +42,7 @@ fn is_expected(rt: &HostRuntime, found: &[u8], expected: &[u8]) -> Result<bool, 
     Ok(false)
 }
 
-/// Whether a case comes to what it is to come to.
+/// Whether a case gives what is expected.
 fn is_right(rt: &HostRuntime, path: &str, case: Case<'_>) -> Result<bool, Error> {
     let expected = match case.expected {
         Some(expected) => expected,

@@ -12,7 +12,7 @@ use gathers::tell_rows;
 use node::tell_script;
 use std::alloc::Global;
 
-/// Tells what a script of such a file comes to.
+/// Prints what a script of such a file gives.
 pub fn play(alloc: Global, file: &str, script: &str, out: &mut Vec<u8>) -> Result<(), Error> {
     match file {
         "gathers" | "limits" | "spellings" => Ok(tell_rows(alloc, script, out)?),

@@ -32,7 +32,7 @@ fn ended(
     (answered, writer.bytes().len())
 }
 
-/// Tells what a script comes to with that device failing after each number of calls.
+/// Prints what a script gives with that device failing after each number of calls.
 pub fn play(alloc: Global, setting: &str, script: &str, out: &mut Vec<u8>) -> Result<(), Error> {
     let (device, most) = setting.split_once(" ").unwrap_or((setting, ""));
     let most = most.parse::<usize>()?;

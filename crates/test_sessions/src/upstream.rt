@@ -4,7 +4,7 @@
 //!     < line of the server
 //!     > line of a client
 //!     ? tells how the session stands
-//!     = line of the server, of which only the channel is told that the session itself joins by it
+//!     = line of the server, of which only the channel is printed that the session itself joins by it
 //!     * tells the words by which the server refused the session
 //!     ! starts the session
 //!     --
@@ -196,7 +196,7 @@ fn play_lines(
     Ok(())
 }
 
-/// Tells what the lines of a script come to, one after the other.
+/// Prints what the lines of a script do, one after the other.
 pub fn play(alloc: Global, setting: &str, script: &str, out: &mut Vec<u8>) -> Result<(), Error> {
     let mut session = begun(alloc, setting)?;
     play_lines(alloc, &mut session, setting, script, out)

@@ -14,7 +14,7 @@
 //!
 //! A message of the peer is `known`, `taken`, `taken in part` or `ignored`. A line that is sent stands behind `> `, and
 //! `close` is said where the connection is to be closed. The node is n1 in its incarnation 7, with the shared word `green`,
-//! and with the peers n2, at place 1, and n3, at place 2, which is told version 1.
+//! and with the peers n2, at place 1, and n3, at place 2, which hears version 1.
 use super::again::{carry, tell_packet};
 use crate::telling::{absorb, tell_row};
 use anyhow::Error;
@@ -26,7 +26,7 @@ use gossip_link::{
 use std::alloc::{AllocError, Global};
 use std::io::Write;
 
-/// The peers of the terms. n3 is told version 1.
+/// The peers of the terms. n3 hears version 1.
 const PEERS: [(&[u8], Version); 3] = [
     (b"n1", Version::OWN),
     (b"n2", Version::OWN),
@@ -95,7 +95,7 @@ pub fn link_word(link: &mut Link, line: &PeerLine) -> &'static [u8] {
     }
 }
 
-/// Tells each line that was sent, behind a sign, and what else is told.
+/// Tells each line that was sent, behind a sign, and what else is said.
 fn tell_sent(sent: &[u8], out: &mut Vec<u8>) -> Result<(), AllocError> {
     for line in sent.split(|b| *b == b'\n') {
         let told = match line {
@@ -200,7 +200,7 @@ impl Node {
         Ok(told.push(b'\n')?)
     }
 
-    // The link alone hears a hello or an acknowledgement: its answer is told, and the number that is acknowledged.
+    // The link alone hears a hello or an acknowledgement: its answer is printed, and the number that is acknowledged.
     fn ask_link(&mut self, alloc: Global, line: &str, told: &mut Vec<u8>) -> Result<(), Error> {
         let heard = read_peer(alloc, line.as_bytes())?;
         let word = link_word(&mut self.link, &heard);
@@ -292,7 +292,7 @@ impl Node {
     }
 }
 
-/// Tells what the lines of a script come to, one after the other.
+/// Prints what the lines of a script do, one after the other.
 pub fn tell_script(alloc: Global, script: &str, out: &mut Vec<u8>) -> Result<(), Error> {
     let mut node = Node::new(alloc)?;
     node.tell_turns(alloc, script, out)

@@ -1,6 +1,6 @@
-use Rattle.std.proofs.Common.{◌≡◌, rules}
+use Rattle.std.proofs.Common.{◌≡◌, ◌+◌, rules}
 use Rattle.bnc_server.specs.declared.fault.ReplayFault.TheVariants.{Read}
-use Rattle.bnc_server.proofs.ProgressLemmas.{err_is, begun, drained_at_first, all_read, between_text, between_ends, read_more, read_failed, fault_ends, fault_text, some_read, faulted}
+use Rattle.bnc_server.proofs.ProgressLemmas.{err_is, begun, drained_at_first, all_read, between_text, between_ends, read_more, read_failed, fault_ends, fault_text, some_read, faulted, none_read, read_once, read_kept, read_in_all}
 use Rattle.bnc_server.proofs.script.replay_from.Goals as goal
 use Rattle.bnc_server.proofs.script.replay_from.Goals.{in-Ok+in_ok-serve_piece-in-Ok, in-Err+else-ne}
 
@@ -8,6 +8,7 @@ pub reads-init : goal.reads-init
 reads-init g c = record {
   drained = drained_at_first _ c.requires;
   has_read = λ w is. begun _ _ w _ _ is c.requires;
+  reads = none_read _;
 }
 
 pub reads-preserved : goal.reads-preserved
@@ -19,12 +20,14 @@ reads-preserved g c =
             has_read = λ world is.
                 read_more _ _ _ _ world c.reads.world c.reads.feeder (c.reads.invariant.has_read world is) _ _ _ _ _ w.in-Ok.ensures.bytes.0
                 w.in_ok-serve_piece-in-Ok.ensures.serves w.in_ok-serve_piece-in-Ok.ensures.drained;
+            reads = read_once c.reads.counter _ _ _ _ _ c.reads.invariant.reads w.in-Ok.ensures.bytes.0 (search rules);
           })
       | in-Err+else-ne w ↦
           rw (w.writer-is, w.feeder-is, w.world-is) (record {
             drained = c.reads.invariant.drained;
             has_read = λ world is.
                 read_failed _ _ _ _ world c.reads.world c.reads.feeder (c.reads.invariant.has_read world is) _ w.in-Err.ensures.bytes;
+            reads = read_kept c.reads.counter _ _ _ c.reads.invariant.reads w.in-Err.ensures.bytes;
           })
     ]
 
@@ -62,3 +65,17 @@ returns-clause-script g c w is = between_text _ _ _ _ w c.reads.world c.reads.fe
 
 pub returns-clause-fault : goal.returns-clause-fault
 returns-clause-fault g c w is = between_ends _ _ _ _ w c.reads.world c.reads.feeder (c.reads.invariant.has_read w is) Read tt
+
+pub returns-in_err-serve_piece-in-Ok-clause-reads : goal.returns-in_err-serve_piece-in-Ok-clause-reads
+returns-in_err-serve_piece-in-Ok-clause-reads g c =
+    read_in_all (c.reads.counter + 1) _ _ (read_once c.reads.counter _ _ _ _ _ c.reads.invariant.reads c.in-Ok.ensures.bytes.0 (search rules)) (search rules)
+
+pub returns-in-Ok-eq0-clause-reads : goal.returns-in-Ok-eq0-clause-reads
+returns-in-Ok-eq0-clause-reads g c =
+    read_in_all (c.reads.counter + 1) _ _ (read_once c.reads.counter _ _ _ _ _ c.reads.invariant.reads c.in-Ok-eq0.ensures.bytes.0 (search rules)) (search rules)
+
+pub returns-then-ne-clause-reads : goal.returns-then-ne-clause-reads
+returns-then-ne-clause-reads g c = read_in_all (c.reads.counter + 1) _ _ (read_kept c.reads.counter _ _ _ c.reads.invariant.reads c.in-Err.ensures.bytes) (search rules)
+
+pub returns-clause-reads : goal.returns-clause-reads
+returns-clause-reads g c = read_in_all c.reads.counter _ _ c.reads.invariant.reads (search rules)

@@ -1,4 +1,5 @@
 use Rattle.std.proofs.Common.{◌≡◌}
+use Rattle.bnc_server.specs.Ending.{IsReadBy}
 use Rattle.bnc_server.specs.World.{World}
 use Rattle.bnc_server.specs.HeldNode.{held_world}
 use Rattle.bnc_server.specs.Progress.{IsDrained}
@@ -11,4 +12,5 @@ invariant-reads g l = record {
   has_read : (world : World) → l.fn.world ≡ held_world world
       → HasRead (g.In.Read.remaining l.fn.reader) (g.In.Read.remaining l.reader)
       (g.Out.Write.contents l.fn.writer) (g.Out.Write.contents l.writer) world l.world l.feeder;
+  reads : IsReadBy l.counter (g.In.Read.remaining l.fn.reader) (g.In.Read.remaining l.reader);
 }
