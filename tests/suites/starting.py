@@ -1,22 +1,57 @@
 """How `bnc serve` begins and ends (docs/OPERATING.md, "Start and stop" and "What it logs")."""
 
+import glob
+import os
 import re
 import signal
 import socket
+import subprocess
 
 from harness.connection import spelled
 from harness.failure import Failed, expect
 from harness.node import Node
 from harness.registry import test
+from harness.release import constants
+from harness.scripts import TESTS
 from harness.server import Server
 
+TOP = os.path.dirname(TESTS)
 FAILED = b"read or write failed\n"
 TIME = r"[0-9]{4}-[0-9]{2}-[0-9]{2}T[0-9]{2}:[0-9]{2}:[0-9]{2}\.[0-9]{3}Z"
 
 
 @test
+def the_first_line_says_which_program_begins(fixture):
+    """With its version, and with the logic of the kit that proves it. What no proof was made of says so first."""
+    node = Node(fixture).begin()
+    told = [line for line in node.log() if re.match(f"{TIME} ", line)]
+    said = constants()
+    expect("the first line with a time", f"starting: {said['PROGRAM']}, logic {said['LOGIC']}", told[0].partition(" ")[2])
+
+
+@test
+def the_logic_that_is_told_is_that_of_the_kit(fixture):
+    kit = subprocess.run(["rt", "version"], stdout=subprocess.PIPE, check=True, text=True).stdout
+    expect("the logic", constants()["LOGIC"], re.search(r"\blogic ([0-9a-f]+)", kit)[1])
+
+
+@test
+def the_package_has_the_version_of_the_program(fixture):
+    """And what isn't that program is no package."""
+    make = os.path.join(TOP, "packaging", "make")
+    keeper = fixture.write("keeper", constants()["PROGRAM"].replace("bnc ", "bnc-keep ", 1).encode())
+    os.chmod(keeper, 0o755)
+    subprocess.run([make, fixture.program, keeper, fixture.folder], stdout=subprocess.DEVNULL, check=True)
+    package, = glob.glob(fixture.path("bnc_*.deb"))
+    version = subprocess.run(["dpkg-deb", "--field", package, "Version"], stdout=subprocess.PIPE, check=True, text=True).stdout
+    expect("the program of that version", constants()["PROGRAM"], f"bnc {version.partition('+')[0]}")
+    other = subprocess.run([make, "/bin/true", keeper, fixture.folder], stdout=subprocess.DEVNULL, stderr=subprocess.PIPE, check=False)
+    expect("the status for another program", 1, other.returncode)
+
+
+@test
 def a_file_that_is_not_there_is_told(fixture):
-    fixture.run("serve", "no/such.toml").expect(4, b"", FAILED + b"can't read no/such.toml: entity not found\n")
+    fixture.run("serve", "no/such.toml").expect(4, b"", FAILED + b"can't read no/such.toml: no such file\n")
 
 
 @test
@@ -33,7 +68,7 @@ def can_not_listen(fixture, which, address, why):
     node = Node(fixture)
     setattr(node, which, address)
     path = fixture.write("bnc.toml", node.text().encode())
-    fixture.run("serve", path).expect(4, b"", FAILED + f"can't listen at {spelled(address)}: {why}\n".encode())
+    fixture.run("serve", path).expect_begun(4, FAILED + f"can't listen at {spelled(address)}: {why}\n".encode())
 
 
 def taken(fixture, which):
@@ -63,10 +98,10 @@ def an_address_that_the_machine_does_not_have_is_told(fixture):
 
 
 def fails(fixture, words, **how):
-    """A node that can't begin, which is told in these words, maybe after it has said that it listens."""
+    """A node that can't begin, which is told in these words, maybe after it has said which program it is and that it listens."""
     path = fixture.write("bnc.toml", Node(fixture).text().encode())
     ran = fixture.run("serve", path, **how)
-    said = re.sub(f"^{TIME} listening: .*\n".encode(), b"", ran.errors)
+    said = re.sub(f"^(({TIME} )?starting: .*\n)?({TIME} listening: .*\n)?".encode(), b"", ran.errors)
     if ran.status != 4 or ran.output or not re.fullmatch(FAILED + words.encode() + b"\n", said):
         raise Failed(f"expected status 4 and '{words}', came {ran.status} and {ran.errors!r}")
 
@@ -94,7 +129,7 @@ def without_a_worker(fixture, place):
     failure = fixture.path("failure")
     front = ["env", f"LD_PRELOAD={fixture.shims.path('waits')}", f"WAITS={place}", f"FAILS={failure}"]
     server = Server(fixture)
-    node = Node(fixture, servers=[server.address], front=front).begin()
+    node = Node(fixture, servers=[server.address], workers=2, front=front).begin()
     server.register()
     node.client().register()
     fixture.write("failure", b"")
@@ -152,3 +187,14 @@ def sigterm_ends_a_node(fixture):
 @test
 def sigint_ends_a_node(fixture):
     ended_by(fixture, signal.SIGINT)
+
+
+@test
+def sighup_ends_a_node(fixture):
+    """It reads no configuration anew."""
+    ended_by(fixture, signal.SIGHUP)
+
+
+@test
+def sigusr1_ends_a_node(fixture):
+    ended_by(fixture, signal.SIGUSR1)

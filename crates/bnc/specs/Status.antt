@@ -35,17 +35,17 @@ abbrev pub end_of_replay : ReplayFault → End
 end_of_replay replay_case.NoMemory = NoMemory
 end_of_replay _ = Device
 
--- where the file of the configuration can't be read: which file, and why, is told
+-- where the file of the configuration can't be read: the texts name the file and say why
 abbrev pub end_of_file : Bor (List ℕ) → ErrorKind → End
 end_of_file path kind_case.OutOfMemory = NoMemory
 end_of_file path kind = File path kind
 
--- where the configuration is refused: what is refused is told
+-- where the configuration is refused: the text names what is refused
 abbrev pub end_of_config : ConfigFault → End
 end_of_config config_case.NoMemory = NoMemory
 end_of_config fault = Config fault
 
--- where a node can't begin: why is told
+-- where a node can't begin: the text says why
 abbrev pub end_of_fault : ServeFault → End
 end_of_fault serve_case.NoMemory = NoMemory
 end_of_fault fault = Node fault

@@ -1,4 +1,4 @@
-//! How the program ends before its work is done: its status, and what standard error is told.
+//! How the program ends before its work is done: its status, and what it writes to standard error.
 ghost use Rattle.std.specs.Prelude.{◌≡◌};
 ghost use Rattle.bnc.specs.Status.{status_of, end_of_file, end_of_words};
 
@@ -43,7 +43,7 @@ impl End<'_> {
         }
     }
 
-    /// The first line that is told on standard error.
+    /// The first line on standard error.
     fn text(self) -> &'static str {
         match self {
             End::Usage => USAGE,
@@ -74,13 +74,14 @@ impl End<'_> {
     }
 }
 
-/// What is told on standard error: the first line, and where more is known a second one that says what failed, or what is
+/// What goes to standard error: the first line, and where more is known a second one that says what failed, or what is
 /// wrong in the configuration.
 impl fmt::Display for End<'_> {
     fn fmt<W: fmt::Write>(&self, f: &mut fmt::Formatter<W>) -> Result<(), fmt::Error> {
         f.write_str(self.text())?;
         match *self {
             End::Usage | End::NoMemory | End::Device => Ok(()),
+            End::File(path, ErrorKind::NotFound) => write!(f, "\ncan't read {path}: no such file"),
             End::File(path, kind) => write!(f, "\ncan't read {path}: {kind}"),
             End::Node(fault) => write!(f, "\n{fault}"),
             End::Worker => f.write_str("\na worker failed"),

@@ -9,10 +9,12 @@
 #![tactic(auto)]
 
 mod ending;
+mod logging;
 mod node;
 mod program;
 mod replaying;
 mod serving;
+mod version;
 mod words;
 
 ghost use Rattle.std.specs.Prelude.{◌≡◌, ◌↔◌, Ok, IfErr};
@@ -20,6 +22,7 @@ ghost use Rattle.std.specs.Process.{exit_status};
 ghost use Rattle.bnc.specs.Status.{status_of};
 
 use crate::ending::End;
+use crate::logging::{begin_log, tell_version};
 use crate::node::run_prepared;
 use crate::program::end_of_program;
 use bnc_work::WorkEnd;
@@ -28,6 +31,7 @@ use node_config::Config;
 use node_intake::{Prepared, ServeFault, prepare};
 use std::io::BufWriter;
 use std::process::ExitCode;
+use std::sync::atomic::{AtomicBool, Ordering};
 use std::{env, fs, io};
 
 /// The words behind the program's name.
@@ -43,15 +47,17 @@ fn given_words(rt: &HostRuntime) -> Result<Vec<String>, End<'static>> {
     }
 }
 
-/// Ends the program: with 0 exactly where its work is done. Else standard error is told why.
-fn exit(rt: &HostRuntime, done: Result<(), End<'_>>) -> ExitCode
+/// Ends the program: with 0 exactly where its work is done. Else it writes to standard error why, where that is read.
+fn exit(rt: &HostRuntime, done: Result<(), End<'_>>, is_read: bool) -> ExitCode
     ensures success { (exit_status result ≡ 0) ↔ (done.entry ≡ Ok tt) }
     ensures failure { IfErr done.entry (λ end. exit_status result ≡ status_of end) }
 {
     match done {
         Ok(()) => ExitCode::from(0),
         Err(end) => {
-            let _ = rt.eprintln(end);
+            if is_read {
+                let _ = rt.eprintln(end);
+            }
             ExitCode::from(end.status())
         }
     }
@@ -71,25 +77,32 @@ fn main(rt: HostRuntime) -> ExitCode {
     };
     let words = match given_words(&rt) {
         Ok(words) => words,
-        Err(end) => return exit(&rt, Err(end)),
+        Err(end) => return exit(&rt, Err(end), true),
     };
     let Ok(mut output) = BufWriter::new(alloc, rt.stdout()) else {
-        return exit(&rt, Err(End::NoMemory));
+        return exit(&rt, Err(End::NoMemory), true);
     };
-    let handle = &rt;
-    let read = move |path: &str| -> io::Result<Vec<u8>> { fs::read(handle, path) };
+    let handle = rt;
+    // Whether somebody reads standard error: what a node logged waits for that.
+    let is_log_read = AtomicBool::new(true);
+    let is_read = &is_log_read;
+    let read = move |path: &str| -> io::Result<Vec<u8>> { fs::read(&handle, path) };
     let serve = move |config: &Config| -> Result<Vec<WorkEnd>, ServeFault> {
-        match prepare(handle, config) {
+        let log = begin_log(&handle)?;
+        tell_version(&handle, &log);
+        let ends = match prepare(&handle, &log, config) {
             Ok(
                 Prepared {
                     intake,
                     beginnings,
                     floors,
                 },
-            ) => run_prepared(handle, intake, beginnings, floors, boxed),
+            ) => run_prepared(&handle, &log, intake, beginnings, floors, boxed),
             Err(fault) => Err(fault),
-        }
+        };
+        is_read.store(log.end(&handle), Ordering::SeqCst);
+        ends
     };
     let done = end_of_program(alloc, &words, &mut rt.stdin(), &mut output, read, serve);
-    exit(&rt, done)
+    exit(&rt, done, is_log_read.load(Ordering::SeqCst))
 }

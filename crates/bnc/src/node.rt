@@ -3,12 +3,12 @@
 ghost use Rattle.change_log.specs.Names.{IsNamed};
 
 use bnc_ports::{Carries, Gate};
+use bnc_sockets::Log;
 use bnc_work::{WorkEnd, WorkPort, WorkerConfig, work_all};
 use chat_change::Change;
 use client_places::{Attachment, RingClient};
 use node_intake::{Intake, ServeFault, begin_node};
 use shared_node::{Naming, Unnamed};
-use std::io::Eprint;
 use std::marker::Brand;
 use std::sync::Wait;
 use std::thread::Threads;
@@ -34,6 +34,7 @@ impl Gate for Open {
 /// `boxed` makes of a client the attachment that its worker keeps; none where there is no memory.
 fn run_node<J, R, X, P, F>(
     rt: &R,
+    log: &Log,
     intake: Intake<X>,
     beginnings: Vec<(WorkerConfig<X>, P)>,
     floors: Vec<Change>,
@@ -42,7 +43,7 @@ fn run_node<J, R, X, P, F>(
 ) -> Result<Vec<WorkEnd>, ServeFault>
 where
     J: Naming + Send + Sync,
-    R: Threads + Wait + Clock + Eprint + AllocGlobal + Copy + Send + Sync + Drop + 'static,
+    R: Threads + Wait + Clock + AllocGlobal + Copy + Send + Sync + Drop + 'static,
     X: Attachment + Send + 'static,
     P: WorkPort + Send,
     <P as Carries<ToClient>>::Connection: Send,
@@ -53,7 +54,7 @@ where
     requires callable { F.IsAlwaysCallable boxed }
 {
     let (node, jobs) = match begin_node::<J, _, _, _, _>(
-        rt, name, intake, beginnings, floors, boxed,
+        rt, log, name, intake, beginnings, floors, boxed,
     ) {
         Ok(begun) => begun,
         Err(fault) => return Err(fault),
@@ -64,13 +65,14 @@ where
 /// Runs a node as [`run_node`] does, under a name that no other node of the program has.
 pub(crate) fn run_prepared<R, X, P, F>(
     rt: &R,
+    log: &Log,
     intake: Intake<X>,
     beginnings: Vec<(WorkerConfig<X>, P)>,
     floors: Vec<Change>,
     boxed: F,
 ) -> Result<Vec<WorkEnd>, ServeFault>
 where
-    R: Threads + Wait + Clock + Eprint + AllocGlobal + Copy + Send + Sync + Drop + 'static,
+    R: Threads + Wait + Clock + AllocGlobal + Copy + Send + Sync + Drop + 'static,
     X: Attachment + Send + 'static,
     P: WorkPort + Send,
     <P as Carries<ToClient>>::Connection: Send,
@@ -80,5 +82,5 @@ where
     requires { F.IsAlwaysCallable boxed }
 {
     let name = Unnamed::new(beginnings.len());
-    run_node::<Brand, _, _, _, _>(rt, intake, beginnings, floors, name, boxed)
+    run_node::<Brand, _, _, _, _>(rt, log, intake, beginnings, floors, name, boxed)
 }
