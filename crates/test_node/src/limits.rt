@@ -59,7 +59,7 @@ fn pattern<R: Abort>(rt: &R, alloc: Global, count: usize) -> Vec<u8> {
     bytes
 }
 
-/// Whether a line that is offered comes to that, and so many bytes are owed then.
+/// Whether a line that is offered is answered so, and so many bytes are owed then.
 pub fn is_offered(
     client: &mut RingClient,
     line: &[u8],

@@ -1,6 +1,6 @@
 //! What is played on nodes.
 
-/// What a pass reads, and the number that it comes to.
+/// What a pass reads, and the number that it gives.
 #[derive(Clone, Copy)]
 pub enum Read {
     /// The moment of the marker of `#a`: 0 where there is none.
@@ -16,11 +16,11 @@ pub enum Read {
 /// A step, with moments in milliseconds.
 #[derive(Clone, Copy)]
 pub enum Step {
-    /// The pass of that place reads, and comes to this number.
+    /// The pass of that place reads, and gets this number.
     Read(usize, Read, u64),
-    /// The first pass puts a marker of `#a`, and the second one is told of it.
+    /// The first pass puts a marker of `#a`, and the second one learns of it.
     TellMark(u64),
-    /// The first pass puts the message m1, and the second one is told of it.
+    /// The first pass puts the message m1, and the second one learns of it.
     TellPost(u64),
     /// The last pass takes a marker of `#a` from a peer.
     Take(u64),

@@ -8,13 +8,13 @@ use std::alloc::Global;
 const DATA: &[u8] = b"+a=1;msgid=a\\:b;+a=2;c";
 
 // Whether the tags are written so.
-fn are_written(alloc: Global, tags: &Tags, wanted: &[u8]) -> bool {
+fn are_written(alloc: Global, tags: &Tags<'_>, wanted: &[u8]) -> bool {
     let mut out = Vec::new(alloc);
     write_tags(tags, &mut out).is_ok() && out.as_slice() == wanted
 }
 
 // Whether the last value of each key is found, without its escapes.
-fn are_found(tags: &Tags) -> bool {
+fn are_found(tags: &Tags<'_>) -> bool {
     tags.len() == 3
         && tags.get(b"+a") == Some(b"2".as_slice())
         && tags.get(b"msgid") == Some(b"a;b".as_slice())
@@ -39,9 +39,11 @@ fn one_key(alloc: Global, count: usize) -> Vec<u8> {
 
 #[test]
 fn tag_data_has_at_most_8189_bytes(rt: HostRuntime) {
-    let read = read_tags(rt.alloc(), &one_key(rt.alloc(), MAX_TAG_DATA));
+    let most = one_key(rt.alloc(), MAX_TAG_DATA);
+    let read = read_tags(rt.alloc(), &most);
     assert!(rt; matches!(&read, Ok(tags) if tags.len() == 1));
-    let read = read_tags(rt.alloc(), &one_key(rt.alloc(), MAX_TAG_DATA + 1));
+    let more = one_key(rt.alloc(), MAX_TAG_DATA + 1);
+    let read = read_tags(rt.alloc(), &more);
     assert!(rt; matches!(&read, Err(TagFault::TooLong)));
 }
 

@@ -7,7 +7,7 @@ use std::time::{Clock, Duration};
 /// A gate so often looks whether the other worker has come, a millisecond apart.
 const TURNS: u64 = 10_000;
 
-/// Lets every answer through, or none; or holds each until the other of two workers has come to the gate too.
+/// Lets every answer through, or none; or holds each until the other of two workers has reached the gate too.
 #[derive(Drop)]
 pub struct Latch<R> {
     rt: R,
@@ -30,7 +30,7 @@ impl<R: Clock> Latch<R> {
         }
     }
 
-    // Whether the other worker comes to the gate before long.
+    // Whether the other worker reaches the gate before long.
     fn both_come(&self, worker: usize) -> bool {
         let (mine, theirs) = if worker == 0 {
             (&self.first, &self.other)

@@ -36,7 +36,7 @@ pub struct Line {
     input: Pending,
     // what was sent since the last telling
     output: Pending,
-    // so many bytes the other end takes before the worker is told that it takes more
+    // so many bytes the other end takes before the worker learns that it takes more
     at_once: usize,
     // so many of these it still takes
     room: usize,
@@ -178,7 +178,7 @@ impl Line {
     }
 }
 
-/// Of a longer line so many bytes are told.
+/// Of a longer line so many bytes are printed.
 const TOLD: usize = 40;
 
 /// A line of more bytes is longer.

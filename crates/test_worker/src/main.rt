@@ -10,8 +10,8 @@
 //! The second line may be missing, and each of its parts. At first the node n1, in its incarnation 7, holds so many posts of
 //! `#a`, of the network `net` of the account `demo`: m0, m1 and so on, a second apart from the beginning of 1970. It has the
 //! first of the networks demo/net, demo/two and eve/net, the peer n0, four places for clients and an open gate, and the wall
-//! clock is 1,000 seconds after 1970 began. A peer of the name n9 is told version 1. With `shut` the gate lets nothing through,
-//! with `held` it holds each answer until the other worker has come to it too, and with `alone` no connection can be begun.
+//! clock is 1,000 seconds after 1970 began. A peer of the name n9 hears version 1. With `shut` the gate lets nothing through,
+//! with `held` it holds each answer until the other worker has reached it too, and with `alone` no connection can be begun.
 //!
 //! Acts begin a line:
 //!
@@ -42,7 +42,7 @@
 //! What comes of an act stands behind it, four spaces in. First comes, in its order, which place a client got, what the
 //! operator was told, which connections were begun, and what was told to the other worker; then, connection by connection,
 //! the lines that were sent, behind `>`, bytes that end no line, behind `.`, and whether it was closed. The last line of a
-//! case says how the work ended. A line of more than 200 bytes is told by the first 40 of them and their count.
+//! case says how the work ended. A line of more than 200 bytes is printed as the first 40 of them and their count.
 //!
 //! One worker plays a case, in a thread of its own. Where a case has a line `--`, two play at once: the first one what stands
 //! before it, and the other what stands behind it. What one tells the other doesn't reach it; the rows say what that was.
@@ -104,7 +104,7 @@ fn print_wrong<R: Print + AllocGlobal>(rt: &R, name: &str, told: &[u8]) -> io::R
     println!(rt; "{name} came to:\n{text}")
 }
 
-/// Plays a case, and says whether it came to what it is to come to.
+/// Plays a case, and says whether it gave what is expected.
 fn is_right<R>(rt: &R, case: Case<'_>) -> io::Result<bool>
 where
     R: Print + Threads + Wait + Clock + AllocGlobal + Copy + Send + Sync + Drop,

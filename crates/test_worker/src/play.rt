@@ -157,7 +157,7 @@ fn ports_of(alloc: Global, setting: Setting<'_>, script: &str) -> Option<Vec<Mem
     Some(ports)
 }
 
-/// What a script comes to: its acts, and what comes of each. None where it can't be played.
+/// What a script gives: its acts, and what follows each. None where it can't be played.
 pub fn played<R>(rt: &R, setting: Setting<'_>, script: &str) -> Option<Vec<u8>>
 where
     R: Threads + Wait + Clock + AllocGlobal + Copy + Send + Sync + Drop,

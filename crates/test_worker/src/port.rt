@@ -10,11 +10,13 @@ use crate::script::Script;
 use crate::setting::Setting;
 use crate::times::Times;
 use crate::turn::{Sign, Turn, play_turn};
-use bnc_ports::{Carries, Clocks, Connection, Dial, Event, Halt, Happening, Kind, Port, PortFault};
+use bnc_ports::{
+    Carries, Clocks, Connection, Dial, Event, Halt, Happening, Kind, Port, PortFault, Unreached,
+};
 use bnc_work::Mail;
 use std::alloc::{AllocError, Global};
 use std::io;
-use std::io::Write;
+use std::io::{ErrorKind, Write};
 use std::net::{Ipv4Addr, SocketAddr};
 
 /// A worker that asks more often than this what comes next does so for ever.
@@ -62,7 +64,11 @@ fn happening(number: usize, sign: Sign) -> Happening<Mail> {
             writable,
         },
         Sign::Opened(what) => Happening::Opened { number, what },
-        Sign::Refused(what) => Happening::Refused { number, what },
+        Sign::Refused(what) => Happening::Refused {
+            number,
+            what,
+            why: Unreached::System(ErrorKind::ConnectionRefused),
+        },
     }
 }
 
@@ -137,7 +143,7 @@ impl MemoryPort {
         }
     }
 
-    // Plays an act, which is told.
+    // Plays an act, and notes it.
     fn play(&mut self, text: &str) -> Option<Happening<Mail>> {
         tell_line(&mut self.told, "", text).ok()?;
         match act_in(text)? {
@@ -214,8 +220,8 @@ impl Port for &mut MemoryPort {
         }
     }
 
-    fn dial(&mut self, what: Dial) -> Result<usize, PortFault> {
-        (**self).begin(what).ok_or(PortFault)
+    fn dial(&mut self, what: Dial) -> Result<usize, Unreached> {
+        (**self).begin(what).ok_or(Unreached::TooManyFiles)
     }
 
     fn target(&self, what: Dial) -> Option<SocketAddr> {

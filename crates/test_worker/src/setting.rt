@@ -16,7 +16,7 @@ pub struct Setting<'a> {
     pub places: usize,
     /// Whether the gate lets answers through.
     pub is_open: bool,
-    /// Whether it holds each of them until the other worker has come to it too.
+    /// Whether it holds each of them until the other worker has reached it too.
     pub holds: bool,
     /// Whether connections can be begun.
     pub can_dial: bool,

@@ -24,7 +24,7 @@ pub enum Turn<'a> {
     Takes(usize, usize),
 }
 
-/// What the worker is told of a connection by a turn.
+/// What the worker learns of a connection by a turn.
 #[derive(Clone, Copy)]
 pub enum Sign {
     Nothing,

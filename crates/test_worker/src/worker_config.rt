@@ -84,7 +84,7 @@ fn names_in(alloc: Global, names: &str) -> Option<Vec<NodeName>> {
     Some(all)
 }
 
-// The terms with the peer of that name. Each but n9 is told the own version.
+// The terms with the peer of that name. Each but n9 hears the own version.
 fn peer_of(alloc: Global, name: &str) -> Option<PeerTerms> {
     let version = if name == "n9" {
         Version::One
