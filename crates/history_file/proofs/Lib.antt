@@ -1,0 +1,6 @@
+pub mod CallerLemmas
+mod CutLemmas
+mod EntryLemmas
+mod LifeLemmas
+mod Moments
+mod ReadLemmas
