@@ -1,0 +1,73 @@
+//! What is told of a file that is damaged.
+ghost use Rattle.std.specs.Prelude.{◌≡◌, ◌≤◌, ◌+◌, length, take, min};
+ghost use Rattle.bnc_keep.specs.Damage as spec;
+
+use std::fmt;
+
+/// What is wrong with a file that is damaged.
+#[derive(Clone, Copy, PartialEq, Eq)]
+pub(crate) enum Fault {
+    /// A whole block is neither changes nor a life.
+    NoEntry,
+    /// What stands behind the last whole block isn't the end of an append that was cut short.
+    NoEnd,
+}
+
+/// Where a file is damaged.
+#[derive(Clone, Copy, PartialEq, Eq)]
+pub(crate) struct Damage {
+    fault: Fault,
+    // the first byte that isn't read, counted from 0, and its line, counted from 1
+    at: usize,
+    line: usize,
+    // how many lines of changes stand from there on
+    changes: usize,
+}
+
+// How many lines end in these bytes.
+fn lines_in(bytes: &[u8]) -> usize
+    ensures count { result ≡ spec.lines_in bytes.now }
+    ensures bound { result ≤ length bytes.now }
+{
+    bytes.iter().filter(|byte| **byte == b'\n').count()
+}
+
+// How many lines of changes these bytes have.
+fn changes_in(bytes: &[u8]) -> usize {
+    bytes
+        .split(|byte| *byte == b'\n')
+        .filter(|line| line.starts_with(b"C "))
+        .count()
+}
+
+impl Damage {
+    /// The damage of a file that has these bytes, of which those from that place on aren't read.
+    pub(crate) fn of(fault: Fault, bytes: &[u8], at: usize) -> Damage
+        ensures fault { result.fault ≡ fault }
+        ensures at { result.at ≡ min at (length bytes.now) }
+        ensures line { result.line ≡ spec.lines_in (take result.at bytes.now) + 1 }
+    {
+        let at = at.min(bytes.len());
+        let (read, unread) = bytes.split_at(at);
+        Damage {
+            fault,
+            at,
+            line: lines_in(read) + 1,
+            changes: changes_in(unread),
+        }
+    }
+}
+
+impl fmt::Display for Damage {
+    fn fmt<W: fmt::Write>(&self, f: &mut fmt::Formatter<W>) -> fmt::Result {
+        let fault = match self.fault {
+            Fault::NoEntry => "a block that has neither changes nor a life",
+            Fault::NoEnd => "bytes that no append leaves",
+        };
+        write!(
+            f,
+            "damaged at byte {}, line {}: {fault}; {} lines `C ..` stand there and behind it; the file is as it was",
+            self.at, self.line, self.changes
+        )
+    }
+}

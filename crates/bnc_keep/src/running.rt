@@ -1,0 +1,90 @@
+//! The run of a keeper: the file is opened, and threads keep up a connection with each peer, and look after the file.
+use crate::clocks::{monotonic_ms, wall_ms};
+use crate::event::KeeperEvent;
+use crate::fault::KeepFault;
+use crate::log::Log;
+use crate::opening::open_file;
+use crate::peer::keep_in_touch;
+use crate::shared::{Common, Shared};
+use crate::survey::Survey;
+use crate::version::{LOGIC, PROGRAM};
+use crate::watch::watch;
+use bnc_ports::Event;
+use node_config::KeeperConfig;
+use std::io::Eprint;
+use std::sync::atomic::{AtomicBool, Ordering};
+use std::sync::{Mutex, Wait};
+use std::thread::Threads;
+use std::time::Clock;
+use std::{str, thread};
+
+// What the threads share: the file is open, and its life is begun. The operator is told what was read.
+fn begin<R: Wait + Clock + Eprint + AllocGlobal>(
+    rt: &R,
+    host: &HostRuntime,
+    config: &KeeperConfig,
+    path: &str,
+    log: &Log,
+) -> Result<Shared, KeepFault> {
+    let began = monotonic_ms(rt);
+    let opened = open_file(host, config, path, wall_ms(rt))?;
+    let took = monotonic_ms(rt).saturating_sub(began);
+    let found = Survey::of(rt.alloc(), opened.begun.keeper.state())?;
+    log.report(
+        rt,
+        &KeeperEvent::Read {
+            changes: opened.count.changes,
+            conversations: found.conversations,
+            took,
+        },
+    );
+    if opened.cut > 0 {
+        log.report(rt, &KeeperEvent::Cut { bytes: opened.cut });
+    }
+    Ok(Shared::new(opened, found, monotonic_ms(rt)))
+}
+
+// A thread for each peer, and this one for the file.
+fn keep_up<R>(rt: &R, host: &HostRuntime, common: &Common<'_>) -> Result<(), KeepFault>
+where
+    R: Threads + Wait + Clock + Eprint + AllocGlobal + Sync,
+{
+    thread::scope(thread::scope_env(), rt, |scope| -> Result<(), KeepFault> {
+        for (place, peer) in common.config.peers.iter().enumerate() {
+            let run = move || keep_in_touch(rt, host, common, place, peer);
+            if scope.spawn(run).is_err() {
+                common.is_ending.store(true, Ordering::SeqCst);
+                return Err(KeepFault::NoThread);
+            }
+        }
+        watch(rt, host, common);
+        Ok(())
+    })
+}
+
+/// Keeps the history by a configuration. It answers where that can't begin.
+pub(crate) fn keep<R>(rt: &R, host: &HostRuntime, config: &KeeperConfig) -> Result<(), KeepFault>
+where
+    R: Threads + Wait + Clock + Eprint + AllocGlobal + Sync,
+{
+    let log = Log::new(rt.alloc())?;
+    log.report(
+        rt,
+        &KeeperEvent::Node(Event::Starting {
+            program: PROGRAM,
+            logic: LOGIC,
+        }),
+    );
+    let Ok(path) = str::from_utf8(config.file.as_bytes()) else {
+        return Err(KeepFault::Changed);
+    };
+    let shared = begin(rt, host, config, path, &log)?;
+    let common = Common {
+        config,
+        path,
+        log: &log,
+        shared: Mutex::new(shared),
+        is_ending: AtomicBool::new(false),
+    };
+    keep_up(rt, host, &common)
+}
