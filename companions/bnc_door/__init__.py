@@ -1,0 +1,1 @@
+"""One session with a network for all nodes of a cluster."""

@@ -1,0 +1,1 @@
+"""Lets clients in that can't log in as a node wants it."""
