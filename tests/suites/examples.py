@@ -1,5 +1,5 @@
 """The examples are started as they stand, but for their ports; and what `./bnc` and `./build` do before the program runs
-(README.md; docs/OPERATING.md, "Logins that people try")."""
+(README.md; docs/CLIENTS.md, "Logins that people try")."""
 
 import os
 import re
@@ -10,9 +10,9 @@ from harness import processes
 from harness.client import Client
 from harness.connection import free_addresses, spelled
 from harness.failure import Failed, expect
+from harness.keeper import Keeper, kept_in
 from harness.registry import add, test
 from harness.server import Server
-from harness.weechat import WeeChat
 
 TOP = os.path.dirname(os.path.dirname(os.path.dirname(os.path.abspath(__file__))))
 
@@ -85,6 +85,33 @@ def the_configuration_of_the_package_serves(fixture):
     client.hear(":bnc.example 001 al :Welcome to net")
 
 
+@test
+def a_node_and_a_keeper_of_one_machine(fixture):
+    """examples/keeper, but for the ports and the file: a restart of both loses nothing."""
+    server = Server(fixture)
+    clients, peers = free_addresses(2)
+    known = {"127.0.0.1:6670": clients, "127.0.0.1:7000": peers, "127.0.0.1:6667": server.address}
+    node, keeper = (Example(fixture, f"examples/keeper/{name}.toml", known) for name in ("bnc", "bnc-keep"))
+    with open(keeper.file, "r+", encoding="utf-8") as file:
+        text = file.read().replace('"/var/lib/bnc-keep/history"', f'"{fixture.path("history")}"')
+        file.seek(0)
+        file.write(text)
+    for start in (1, 2):
+        node.serve()
+        session = server.register(channels=("#a",))
+        running = fixture.start(keeper.file, program=Keeper.program, stdin=None, stderr=subprocess.DEVNULL)
+        node.wait_for("peer greeted: 0keep at ")
+        if start == 1:
+            session.say("@msgid=m1;time=2026-01-02T03:04:05.678Z :bob!b@h PRIVMSG #a :hi")
+            fixture.until("it is on the disk", lambda: any(it.endswith(" :hi") for it in kept_in(fixture.path("history"))))
+            for it in (node.process, running):
+                processes.end(it)
+            os.remove(fixture.path("log"))
+    client = Client(fixture, clients, "a client").register("batch draft/chathistory", channels=("#a",))
+    fixture.until("the message is there", lambda: [it.partition(" ")[2] for it in client.ask("CHATHISTORY LATEST #a * 50")]
+                  == [":bob!b@h PRIVMSG #a :hi"])
+
+
 def tree(fixture, files):
     """Copies of files of the repository, where they stand below the test's folder."""
     for path in files:
@@ -97,6 +124,11 @@ def script(fixture, path, text):
     os.makedirs(os.path.dirname(fixture.path(path)), exist_ok=True)
     fixture.write(path, b"#!/bin/sh\n" + text.encode())
     os.chmod(fixture.path(path), 0o755)
+
+
+def listens(address):
+    """How /proc/net/tcp has a port of this machine where somebody listens (proc(5)): the address backwards, the port, and state 0A."""
+    return f"'0100007F:{address[1]:04X} 00000000:0000 0A'"
 
 
 @test
@@ -112,9 +144,10 @@ def three_nodes_run(fixture):
     for name in names:
         example = Example(fixture, f"examples/three-nodes/{name}.toml", known)
         os.replace(example.file, fixture.path(f"examples/three-nodes/{name}.toml"))
-    # The script calls ./bnc of its repository. The node with the greatest name begins first, so none waits a minute for it.
+    # The script calls ./bnc of its repository. The nodes with greater names listen first, so none waits a minute for one.
     script(fixture, "build", "exit 0\n")
-    script(fixture, "bnc", f'case "$2" in *n1.toml) sleep 1 ;; *n2.toml) sleep 0.5 ;; esac\nexec "{fixture.program}" "$@"\n')
+    script(fixture, "bnc", f'case "$2" in *n1.toml) later={listens(addresses[4])} ;; *n2.toml) later={listens(addresses[5])} ;; '
+           f'*) later= ;; esac\nuntil grep -q "$later" /proc/net/tcp; do sleep 0.02; done\nexec "{fixture.program}" "$@"\n')
     run = processes.start([fixture.path("examples/three-nodes/run")], cwd=fixture.folder, stdin=subprocess.DEVNULL,
                           stdout=subprocess.PIPE, stderr=subprocess.PIPE)
     fixture.at_end(lambda: processes.end(run))
@@ -215,64 +248,27 @@ def a_client_made_for_soju_asks_for_what_it_missed(fixture):
         client.hear(":bnc.example MARKREAD #a timestamp=2026-01-02T03:04:05.678Z")
 
 
-def messages(lines):
-    """The messages among lines, without their tags."""
-    return [it.partition(" ")[2] for it in lines if " PRIVMSG " in it]
-
-
-@test
-def the_script_for_weechat_asks_for_what_was_missed(fixture):
-    """examples/clients/bnc_history.py: it asks as it connects, and the next time for what came since; and it sets markers."""
-    _node, server, clients = one_node(fixture)
-    session = server.register(channels=("#a",))
-    said = lambda number, target, body: (f"@msgid=m{number};time=2026-01-02T03:04:0{number}.000Z "
-                                         f":bob!b@h PRIVMSG {target} :{body}")
-    script = os.path.join(TOP, "examples/clients/bnc_history.py")
-
-    def attached(name):
-        """WeeChat, once it was shown what it missed."""
-        client = Client(fixture, clients, name)
-        client.say("CAP REQ :message-tags server-time", "PASS s3cret", "NICK al", "USER demo/net 0 * :al", "CAP END")
-        weechat = WeeChat(script, fixture.folder, client)
-        weechat.hear_until(":al JOIN #a")
-        # (each PING is answered behind what the script asked before it)
-        for word in ("asked", "read", "heard"):
-            client.say(f"PING {word}")
-            weechat.hear_until(f":bnc.example PONG bnc.example :{word}")
-        return weechat
-
-    session.say(said(1, "#a", "hi"), said(2, "al", "psst"))
-    server.settled(session)
-    first = attached("WeeChat")
-    expect("what is shown at first", [":bob!b@h PRIVMSG al :psst"], messages(first.shown))
-    first.hear(":al JOIN #a")
-    first.client.say("PING more")
-    first.hear_until(":bnc.example PONG bnc.example :more")
-    expect("with the channel", [":bob!b@h PRIVMSG al :psst", ":bob!b@h PRIVMSG #a :hi"], messages(first.shown))
-    other = Client(fixture, clients, "a phone").register("draft/read-marker message-tags", channels=("#a",))
-    first.switch("#a")
-    first.switch("bob")
-    other.hear(":bnc.example MARKREAD #a timestamp=2026-01-02T03:04:01.000Z")
-    first.disconnected()
-    first.client.close()
-    session.say(said(3, "#a", "lunch?"), said(4, "al", "did you see it?"))
-    server.settled(session)
-    second = attached("WeeChat again")
-    second.hear(":al JOIN #a")
-    second.client.say("PING more")
-    second.hear_until(":bnc.example PONG bnc.example :more")
-    expect("what is shown then", [":bob!b@h PRIVMSG al :did you see it?", ":bob!b@h PRIVMSG #a :lunch?"],
-           messages(second.shown))
-    taken = [it for it in second.shown if re.match(r":\S+ (CHATHISTORY|MARKREAD) ", it)]
-    expect("what the script takes and yet is shown", [], taken)
-
-
 @test
 def the_picture_of_the_layers_is_true(fixture):
-    """docs/ARCHITECTURE.md is as `./layers` makes it of crates.txt."""
-    ran = subprocess.run([os.path.join(TOP, "layers"), "--check"], capture_output=True, text=True, check=False,
+    """docs/ARCHITECTURE.md is as `tools/layers` makes it of crates.txt."""
+    ran = subprocess.run([os.path.join(TOP, "tools", "layers"), "--check"], capture_output=True, text=True, check=False,
                          timeout=fixture.patience())
-    expect("./layers --check", (0, "", ""), (ran.returncode, ran.stdout, ran.stderr))
+    expect("tools/layers --check", (0, "", ""), (ran.returncode, ran.stdout, ran.stderr))
+
+
+@test
+def the_documents_have_at_most_25_000_words(fixture):
+    """README, CONTRIBUTING, docs and the READMEs of tests, examples and companions together."""
+    ran = subprocess.run([os.path.join(TOP, "tools", "words"), "--check"], capture_output=True, text=True, check=False,
+                         timeout=fixture.patience())
+    expect("tools/words --check", 0, ran.returncode)
+
+
+@test
+def three_scripts_stand_at_the_root(fixture):
+    """`bnc`, `build` and `test`; all others are in folders."""
+    found = [it for it in os.listdir(TOP) if os.path.isfile(os.path.join(TOP, it)) and os.access(os.path.join(TOP, it), os.X_OK)]
+    expect("the scripts", ["bnc", "build", "test"], sorted(found))
 
 
 @test
@@ -289,6 +285,14 @@ def run_bnc(fixture, *words):
     ran = subprocess.run([fixture.path("bnc"), *words], stdin=subprocess.DEVNULL, capture_output=True, check=False,
                          timeout=fixture.patience())
     return ran.returncode, ran.stdout.decode(), ran.stderr.decode()
+
+
+def built(fixture, *words):
+    """What `./build` says where the kit's command isn't on the path."""
+    tree(fixture, ["build", "crates.txt", "HANDLES"])
+    ran = subprocess.run(["python3", fixture.path("build"), *words], env={**os.environ, "PATH": "/usr/bin:/bin"},
+                         capture_output=True, check=False, timeout=fixture.patience())
+    return ran.returncode, ran.stdout, ran.stderr
 
 
 UNPROVED = "bnc: this program is NOT PROVED: it was built without a proof, with the sanitizer, and is slow\n"
@@ -323,43 +327,28 @@ def nothing_is_built_for_wrong_words(fixture):
 @test
 def the_command_of_the_kit_is_needed_to_build(fixture):
     """Without `rt` on the path nothing is built, which is told."""
-    tree(fixture, ["build", "crates.txt", "HANDLES", "docs/GATE.md"])
-    ran = subprocess.run(["python3", fixture.path("build")], env={**os.environ, "PATH": "/usr/bin:/bin"}, capture_output=True,
-                         check=False, timeout=fixture.patience())
     if shutil.which("rt", path="/usr/bin:/bin"):
         return
-    wanted = b"bnc: the program isn't built, and the kit's command rt, which builds it, isn't on the path\n"
-    expect("the run", (70, b"", wanted), (ran.returncode, ran.stdout, ran.stderr))
+    wanted = b"bnc: the program isn't built: the kit's command rt, which builds it, isn't on the path\n"
+    for words in ((), ("keep",), ("--unproved",), ("keep", "--unproved")):
+        expect(f"./build {' '.join(words)}", (70, b"", wanted), built(fixture, *words))
+    expect("./build with other words", 1, built(fixture, "keeper")[0])
 
 
 @test
-def the_plan_proves_each_crate_after_those_below(fixture):
-    """`./build --plan`: each crate that the program stands on, and no crate of tests, begins once those that it names have
-    ended; and never are there more proofs at once than processors, nor has one more processes than these."""
-    ran = subprocess.run([os.path.join(TOP, "build"), "--plan"], capture_output=True, text=True, check=True,
-                         timeout=fixture.patience())
-    *rows, last = ran.stdout.splitlines()
-    runs = [re.fullmatch(r" *([0-9.]+) to +([0-9.]+)  by ([0-9]+)  (\w+)", row).groups() for row in rows]
-    named = dict(re.findall(r"^(\w+)(?: may_wait=\d+)?: *(.*)$", text_of_file("crates.txt"), re.M))
-    ends = {name: float(end) for _, end, _, name in runs}
-    reached = set()
+def the_keeper_is_built_before_it_runs(fixture):
+    """tools/bnc-keep, as ./bnc does it; for other words nothing is built."""
+    tree(fixture, ["tools/bnc-keep"])
+    made = "mkdir -p crates/bnc_keep/out\nprintf '#!/bin/sh\\necho it runs: \"$@\"\\n' >crates/bnc_keep/out/bnc_keep\n"
+    script(fixture, "build", f'cd "$(dirname "$0")"\necho "build: $*" >&2\n{made}chmod +x crates/bnc_keep/out/bnc_keep\n')
 
-    def reach(name):
-        if name in named and name not in reached:
-            reached.add(name)
-            for below in named[name].split():
-                reach(below)
+    def run(*words):
+        ran = subprocess.run([fixture.path("tools/bnc-keep"), *words], stdin=subprocess.DEVNULL, capture_output=True, check=False,
+                             timeout=fixture.patience())
+        return ran.returncode, ran.stdout, ran.stderr
 
-    reach("bnc")
-    expect("the crates", sorted(reached), sorted(ends))
-    for begin, _, _, name in runs:
-        for below in named[name].split():
-            if ends.get(below, 0) > float(begin) + 0.1:
-                raise Failed(f"{name} begins at {begin}, and {below} ends at {ends[below]}")
-    lanes = int(re.fullmatch(r"[0-9]+ minutes on ([0-9]+) processors of the table's machine", last)[1])
-    for at, _, processes, name in runs:
-        most = sum(float(begin) <= float(at) < float(end) for begin, end, _, _ in runs)
-        if most > lanes:
-            raise Failed(f"at {at} there are {most} proofs on {lanes} processors")
-        if int(processes) > lanes:
-            raise Failed(f"{name} has {processes} processes on {lanes} processors")
+    for words in ([], ["--help"], ["one.toml", "two.toml"]):
+        expect(f"tools/bnc-keep {' '.join(words)}", (2, b"", b"usage: bnc-keep <config>\n"), run(*words))
+    expect("the run", (0, b"it runs: bnc-keep.toml\n", b"build: keep\n"), run("bnc-keep.toml"))
+    script(fixture, "build", "exit 1\n")
+    expect("a build that fails", (70, b"", b""), run("bnc-keep.toml"))
