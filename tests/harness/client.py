@@ -2,12 +2,18 @@
 
 from harness.connection import Connection, connect
 from harness.failure import Failed
+from harness.identities import SECRETS, identity_of
 
-LOGIN = ("NICK al", "USER demo/net 0 * :Al")
+
+def login(network="net", account="demo"):
+    """What a client says to be let in. Any nick may be given."""
+    return f"PASS {SECRETS[account]}", "NICK al", f"USER {account}/{network} 0 * :Al"
 
 
-def greeting(nick="al", network="net", maximum=100):
-    """What a session is told once it is registered, by a node whose pages have so many messages at most."""
+def greeting(nick=None, network="net", maximum=100, account="demo"):
+    """What a session is told once it is registered, by a node whose pages have so many messages at most. The nick is the one that
+    the network has."""
+    nick = nick or identity_of(account, network).nick
     return (
         f":bnc.example 001 {nick} :Welcome to {network}",
         f":bnc.example 005 {nick} CASEMAPPING=ascii CHATHISTORY={maximum} MSGREFTYPES=msgid,timestamp "
@@ -32,12 +38,15 @@ class Client(Connection):
         super().__init__(fixture, connect(fixture, address, room), name)
         self.address = self.socket.getsockname()
 
-    def register(self, capabilities="", nick="al", channels=(), network="net", maximum=100):
-        """Registers, and hears the whole greeting and nothing else. The nick is the one that the network has."""
+    def register(self, capabilities="", nick=None, channels=None, network="net", maximum=100, account="demo"):
+        """Registers, and hears the whole greeting and nothing else. The nick and the channels are those that the network has, by
+        harness/identities.py where none are given."""
+        who = identity_of(account, network)
+        nick, channels = nick or who.nick, who.channels if channels is None else channels
         if capabilities:
             self.say(f"CAP REQ :{capabilities}")
             self.hear(f":bnc.example CAP * ACK :{capabilities}")
-        self.say("PASS s3cret", "NICK al", f"USER demo/{network} 0 * :Al", *(["CAP END"] if capabilities else []))
+        self.say(*login(network, account), *(["CAP END"] if capabilities else []))
         self.hear(*greeting(nick, network, maximum))
         for channel in channels:
             self.hear(f":{nick} JOIN {channel}")

@@ -1,8 +1,14 @@
 """A connection, as its other end hears and speaks."""
 
+import itertools
+import random
 import socket
+import threading
 
 from harness.failure import Failed, expect, shortened
+
+# Programs of tests listen from this port on.
+FIRST = 10240
 
 
 class Connection:
@@ -105,15 +111,41 @@ class Listener:
         return Connection(self.fixture, it, name)
 
 
+class Ports:
+    """Ports for programs that tests start. They lie below those that the system gives to whoever asks for any, so no connection
+    takes one before its program listens there, or while that starts again. Each is given once before one is given twice."""
+
+    def __init__(self):
+        with open("/proc/sys/net/ipv4/ip_local_port_range", encoding="ascii") as file:
+            end = int(file.read().split()[0])
+        # (where the system gives nearly all, there are none that it doesn't)
+        ports = range(FIRST, end if end >= 2 * FIRST else 1 << 16)
+        # (in another order in each run, since two may go on at once)
+        self.ports, self.lock = itertools.cycle(random.sample(ports, len(ports))), threading.Lock()
+
+    def free(self):
+        """The next one that nobody has just now."""
+        with self.lock:
+            return next(port for port in self.ports if is_free(port))
+
+
+def is_free(port):
+    it = socket.socket()
+    try:
+        it.bind(("127.0.0.1", port))
+    except OSError:
+        return False
+    finally:
+        it.close()
+    return True
+
+
+_ports = Ports()
+
+
 def free_addresses(count):
     """Addresses of this machine at which nobody listens just now."""
-    sockets = [socket.socket() for _ in range(count)]
-    for it in sockets:
-        it.bind(("127.0.0.1", 0))
-    addresses = [it.getsockname() for it in sockets]
-    for it in sockets:
-        it.close()
-    return addresses
+    return [("127.0.0.1", _ports.free()) for _ in range(count)]
 
 
 def spelled(address):

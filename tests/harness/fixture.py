@@ -1,6 +1,8 @@
 """What a test is given."""
 
+import itertools
 import os
+import re
 import shutil
 import subprocess
 import tempfile
@@ -27,6 +29,11 @@ class Ended:
         expect_lines("standard output", output, self.output)
         expect_lines("standard error", errors, self.errors)
 
+    def expect_begun(self, status, errors):
+        """The same of a node that had begun to log: its first line, which says which program it is, isn't looked at."""
+        log = re.match(rb"(\S+Z )?starting: .*\n|", self.errors)[0]
+        Ended(self.status, self.output, self.errors.removeprefix(log)).expect(status, b"", errors)
+
 
 class Fixture:
     """The program, a folder and a deadline for one test. What it began is ended when the test is over."""
@@ -38,6 +45,8 @@ class Fixture:
         self.folder = tempfile.mkdtemp(prefix="bnc-test-")
         self.deadline = min(time.monotonic() + LIMIT, end)
         self.notes, self.logs, self._ends = [], [], []
+        # who comes to the server at an address, and the names of the test's nodes
+        self.identities, self._names = {}, set()
 
     def patience(self, most=PATIENCE):
         """How many seconds may be waited for the next thing."""
@@ -54,6 +63,14 @@ class Fixture:
         with open(self.path(name), "wb") as file:
             file.write(data)
         return self.path(name)
+
+    def name_of_node(self, name=None):
+        """The name of a node, or the next one that no other has. No two nodes of a test have one name."""
+        name = name or next(it for it in map("n{}".format, itertools.count(1)) if it not in self._names)
+        if name in self._names:
+            raise ValueError(f"two nodes of a test are called {name}")
+        self._names.add(name)
+        return name
 
     def at_end(self, call):
         """Has something done when the test is over, last things first."""

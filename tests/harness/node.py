@@ -7,12 +7,12 @@ import signal
 from harness import processes
 from harness.client import Client
 from harness.connection import free_addresses, spelled
-from harness.failure import Failed, text_of
+from harness.failure import Failed
+from harness.identities import SECRETS, WORD, Identity, identity_of
+from harness.told import Told
 
 # How often other ports are tried where somebody else took one.
 TRIES = 5
-# The accounts of a node that has two, with their secrets.
-ACCOUNTS = (("demo", "s3cret"), ("eve", "s3cret"))
 
 
 def configuration(top, peers=(), accounts=(), networks=()):
@@ -27,25 +27,29 @@ def configuration(top, peers=(), accounts=(), networks=()):
     return text
 
 
-class Node:
-    """A node of a test. Its account is demo with the secret s3cret, and its network net is at the servers' addresses."""
+class Node(Told):
+    """A node of a test. Its account is demo with the secret s3cret, and its networks net and two are at the servers' addresses.
+    The nick and the channels are those of the first one; the second one has its own. Where no name is given, it is n1, or the next
+    one that no other node of the test has."""
 
+    # how many workers a node has where a test doesn't say (tests/run --workers)
+    workers = 2
     # (a test may have nodes of other names)
-    cluster, account, secret, networks = "bnc.example", "demo", "s3cret", ("net", "two")
+    cluster, account, secret, networks = "bnc.example", "demo", SECRETS["demo"], ("net", "two")
 
-    def __init__(self, fixture, name="n1", servers=(), peers=(), nick="al", channels=(), front=(), **limits):
-        self.fixture, self.name, self.front = fixture, name, list(front)
+    def __init__(self, fixture, name=None, servers=(), peers=(), nick="al", channels=(), front=(), **limits):
+        self.fixture, self.name, self.front = fixture, fixture.name_of_node(name), list(front)
         self.clients, self.peers = free_addresses(2)
         self.servers, self.known, self.nick, self.channels = servers, peers, nick, channels
         # (nothing is let go, so a message may have any moment)
-        self.limits = {"workers": 2, "places": 16, "bound": 65536, "retain_days": 0, **limits}
+        self.limits = {"workers": self.workers, "places": 16, "bound": 65536, "retain_days": 0, **limits}
         self.process = None
-        fixture.logs.append((name, self.log))
+        fixture.logs.append((self.name, self.log))
 
     def text(self):
         top = {
             "name": self.cluster, "node": self.name, "listen": spelled(self.clients),
-            "peer_listen": spelled(self.peers), "peer_word": "green", **self.limits,
+            "peer_listen": spelled(self.peers), "peer_word": WORD, **self.limits,
         }
         peers = [{"name": name, "address": spelled(address), **dict(more)} for name, address, *more in self.known]
         return configuration(top, peers, self.accounts(), self.sessions())
@@ -59,15 +63,18 @@ class Node:
         return [self.session(self.account, name, address) for name, address in zip(self.networks, self.servers)]
 
     def session(self, account, name, address):
-        """The table of a network."""
-        return {"account": account, "name": name, "address": spelled(address), "nick": self.nick, "user": self.nick,
-                "channels": list(self.channels)}
+        """The table of a network. Its server is told who is to come."""
+        is_first = (account, name) == (self.account, self.networks[0])
+        who = Identity(self.nick, self.channels) if is_first else identity_of(account, name)
+        self.fixture.identities[address] = who
+        return {"account": account, "name": name, "address": spelled(address), "nick": who.nick, "user": who.user,
+                "channels": list(who.channels)}
 
     def begin(self):
         """Starts the program, and waits until it says that it listens. Where a port was taken meanwhile, others are tried."""
         for _ in range(TRIES):
             self.start()
-            self.fixture.until(f"{self.name} listens", lambda: self.log() or self.process.poll() is not None)
+            self.fixture.until(f"{self.name} listens", lambda: self.told("listening: ") or self.process.poll() is not None)
             if self.process.poll() is None:
                 self.wait_for(f"listening: clients on {spelled(self.clients)}, peers on {spelled(self.peers)}")
                 return self
@@ -79,33 +86,27 @@ class Node:
     def start(self):
         """Starts the program."""
         path = self.fixture.write(f"{self.name}.toml", self.text().encode())
-        with open(self.fixture.path(f"{self.name}.log"), "ab") as log, open(self.fixture.path(f"{self.name}.out"), "ab") as out:
-            self.process = self.fixture.start("serve", path, stdin=None, stdout=out, stderr=log, front=self.front)
+        with self.errors() as errors, open(self.fixture.path(f"{self.name}.out"), "ab") as out:
+            self.process = self.fixture.start("serve", path, stdin=None, stdout=out, stderr=errors, front=self.front)
 
-    def log(self):
-        """The lines that the node has told the operator."""
-        try:
-            with open(self.fixture.path(f"{self.name}.log"), "rb") as log:
-                return text_of(log.read()).splitlines()
-        except FileNotFoundError:
-            return []
+    def errors(self):
+        """What becomes the program's standard error."""
+        return open(self.fixture.path(f"{self.name}.log"), "ab")
 
-    def forget_log(self):
-        """Forgets what was told so far, as before another start."""
-        self.fixture.write(f"{self.name}.log", b"")
+    def sockets(self):
+        """How many of its descriptors are sockets."""
+        folder, count = f"/proc/{self.process.pid}/fd", 0
+        for name in os.listdir(folder):
+            try:
+                count += os.readlink(f"{folder}/{name}").startswith("socket:")
+            except FileNotFoundError:
+                # (it was closed meanwhile)
+                pass
+        return count
 
-    def told(self, text):
-        """Whether the operator was told an event that begins with this text. Before it a line has the time."""
-        return any(line.partition(" ")[2].startswith(text) for line in self.log())
-
-    def wait_for(self, text):
-        """Waits until the operator is told of this."""
-        self.fixture.until(f"{self.name} tells '{text}'", lambda: self.told(text) or self.is_over())
-
-    def is_over(self):
-        if self.process.poll() is not None:
-            raise Failed(f"{self.name} ended with status {self.process.returncode}")
-        return False
+    def threads(self):
+        """How many threads the node has."""
+        return len(os.listdir(f"/proc/{self.process.pid}/task"))
 
     def processor_seconds(self):
         """The processor time that the threads which the node has now have taken."""
@@ -129,7 +130,7 @@ class TwoAccounts(Node):
     """A node with two accounts, each with a network of its own."""
 
     def accounts(self):
-        return [{"name": name, "secret": secret} for name, secret in ACCOUNTS]
+        return [{"name": name, "secret": secret} for name, secret in SECRETS.items()]
 
     def sessions(self):
-        return [self.session(name, "net", address) for (name, _), address in zip(ACCOUNTS, self.servers)]
+        return [self.session(name, "net", address) for name, address in zip(SECRETS, self.servers)]

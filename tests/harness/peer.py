@@ -4,15 +4,17 @@ import re
 
 from harness.connection import Connection, connect
 from harness.failure import Failed
+from harness.identities import WORD
 
 
 class Peer(Connection):
     """A node of the cluster, by its name and its incarnation."""
 
-    def __init__(self, fixture, it, name, incarnation=5, version=3, told=3):
-        """It says hello in that version, and is told the version that the node's configuration has for it."""
+    def __init__(self, fixture, it, name, incarnation=5, version=3, told=3, word=WORD):
+        """It says hello in that version, and is told the version that the node's configuration has for it. The word is that of
+        its cluster."""
         super().__init__(fixture, it, f"the peer {name}")
-        self.life = f"{name} {incarnation}"
+        self.life, self.word = f"{name} {incarnation}", word
         self.version, self.told = version, told
         self.other = None
 
@@ -23,8 +25,8 @@ class Peer(Connection):
 
     def greet(self):
         """Says the word and the hello first, and hears those of the node, whose life is known then."""
-        self.say("W green", self.hello())
-        self.hear("W green")
+        self.say(f"W {self.word}", self.hello())
+        self.hear(f"W {self.word}")
         return self.hear_hello()
 
     def hello(self):

@@ -3,20 +3,29 @@
 import time
 
 from harness.connection import Listener
+from harness.identities import EXAMPLE, user_of
 
 
 class Server(Listener):
     """Where nodes find a network."""
 
-    def greeted(self, nick="al"):
+    def identity(self):
+        """Who is to come, by the configuration of the node that finds this server."""
+        return self.fixture.identities.get(self.address, EXAMPLE)
+
+    def greeted(self, nick=None):
         """The next session, of which the first three lines were heard."""
-        session = self.accept("the server")
-        session.hear("CAP LS 302", f"NICK {nick}", f"USER {nick} 0 * :{nick}")
+        who, session = self.identity(), self.accept("the server")
+        nick = nick or who.nick
+        user = who.user if nick == who.nick else user_of(nick)
+        session.hear("CAP LS 302", f"NICK {nick}", f"USER {user} 0 * :{user}")
         return session
 
-    def register(self, offers="", nick="al", channels=()):
+    def register(self, offers="", nick=None, channels=None):
         """Takes in the next session, which asks for what the server offers. The network is up then, since the node has
-        answered what came after the welcome."""
+        answered what came after the welcome. The nick and the channels are those of the configuration, where none are given."""
+        who = self.identity()
+        nick, channels = nick or who.nick, who.channels if channels is None else channels
         session = self.greeted(nick)
         session.say(f":irc.example CAP * LS :{offers}")
         if offers:

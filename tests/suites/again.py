@@ -206,7 +206,7 @@ def a_line_of_a_server_is_read_again_where_memory_was_short(fixture):
     counts = {}
     for kind in ("TOPIC", "PRIVMSG"):
         for passed in range(REQUESTS):
-            came = told(fixture, f"x{passed}", passed, f":bob!b@h {kind} #a :hi", 9)
+            came = told(fixture, f"{kind.lower()}{passed}", passed, f":bob!b@h {kind} #a :hi", 9)
             if came is None:
                 break
             what = "told" if came else "closed"

@@ -56,7 +56,7 @@ def file_is_right(program, file, told, rows=ROWS):
 
 
 file_is_right("test_sessions", "client_refused", "2 cases of 49 rows, 0 wrong")
-file_is_right("test_sessions", "upstream_refused", "2 cases of 41 rows, 0 wrong")
+file_is_right("test_sessions", "upstream_refused", "2 cases of 43 rows, 0 wrong")
 # (these have rows that say what stands after a refusal)
 file_is_right("test_state", "states_refused", "4 cases of 172 rows, 0 rows wrong")
 file_is_right("test_state", "delta_refused", "1 cases of 266 rows, 0 rows wrong", rows=SAMPLED)
@@ -98,7 +98,7 @@ def workers_end(fixture):
     shutil.copy(os.path.join(CALLS, "workers_refused"), fixture.folder)
     # (of what it tells, the program itself may have had no memory for a part)
     told = rb"workers_refused: 1 cases, [01] wrong|two ports that end at once came to:|10(?: dials(?: network(?: 0)?)?)?|" \
-        rb"told upstream down: demo/net: it could not be reached|ended|--|\s"
+        rb"told upstream down: demo/net: it could not be reached at 10\.0\.0\.1:6667: too many open files|ended|--|\s"
 
     def run(number, environment):
         ran = fixture.play("test_worker", "workers_refused", env=environment)

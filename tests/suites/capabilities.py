@@ -2,7 +2,6 @@
 and "A session with a server"; the IRCv3 specifications batch, message-tags, server-time, draft/chathistory, draft/read-marker,
 echo-message and draft/message-redaction)."""
 
-from harness.client import greeting
 from harness.node import Node, TwoAccounts
 from harness.registry import add, test
 from harness.server import Server
@@ -88,8 +87,7 @@ def answered(first):
         server.settled(session)
         sessions = [Session(node, held) for held in range(first, first + AT_ONCE)]
         stranger = node.client("a client of another account")
-        stranger.say("CAP REQ :" + " ".join(NAMES), "PASS s3cret", "NICK al", "USER eve/net 0 * :Al", "CAP END")
-        stranger.hear(":bnc.example CAP * ACK :" + " ".join(NAMES), *greeting())
+        stranger.register(" ".join(NAMES), account="eve")
         for it in sessions:
             it.ask(one, [one])
         two, own, bare, other = Message(2, tags="+x=1"), Message(3, "al!a@h"), Message(4, "AL"), Message(5, "alan!a@h")

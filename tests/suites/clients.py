@@ -1,4 +1,4 @@
-"""Clients of a node (docs/PROTOCOL.md, "Capability negotiation" and "A client's session"; docs/OPERATING.md, "Clients")."""
+"""Clients of a node (docs/PROTOCOL.md, "Capability negotiation" and "A client's session"; docs/CLIENTS.md)."""
 
 import signal
 import time
@@ -7,7 +7,8 @@ from harness.client import greeting
 from harness.clocks import Clocks
 from harness.connection import spelled
 from harness.failure import expect
-from harness.node import Node
+from harness.identities import SECRETS
+from harness.node import Node, TwoAccounts
 from harness.registry import test
 from harness.server import Server
 
@@ -167,6 +168,48 @@ def a_long_secret_is_compared_to_its_end(fixture):
 def no_secret_lets_nobody_in(fixture):
     """The secret is the empty one where no PASS came before the last of NICK and USER."""
     refused(fixture, "NICK al", "USER demo/net 0 * :Al", "PASS s3cret")
+
+
+def lets_in_the_right_secret_alone(fixture, wrong):
+    """A node with two accounts. Of the second, and of the first, none of the secrets that `wrong` answers for an account opens it,
+    and its own does. (The refusals come at once, since each is told after a second.)"""
+    node = TwoAccounts(fixture, servers=[NOBODY, NOBODY], places=64).begin()
+    strangers = []
+    for account in reversed(SECRETS):
+        for lines in wrong(account):
+            strangers.append(node.client(f"a client of {account} that says {lines}"))
+            strangers[-1].say(*lines, "NICK al", f"USER {account}/net 0 * :Al")
+    for stranger in strangers:
+        stranger.hear(":bnc.example 464 * :Password incorrect", "ERROR :Closing link")
+        stranger.hear_end()
+    for account in SECRETS:
+        node.client(f"a client of {account} with its own secret").register(account=account, channels=())
+
+
+@test
+def the_secret_of_another_account_lets_nobody_in(fixture):
+    """Whichever of the two comes first in the configuration."""
+    lets_in_the_right_secret_alone(
+        fixture, lambda account: [[f"PASS {secret}"] for other, secret in SECRETS.items() if other != account])
+
+
+@test
+def an_empty_secret_lets_nobody_in(fixture):
+    """Nor does no PASS at all, or one that is taken back by an empty one."""
+    lets_in_the_right_secret_alone(
+        fixture, lambda account: [[], ["PASS :"], [f"PASS {SECRETS[account]}", "PASS :"]])
+
+
+@test
+def no_part_of_the_right_secret_lets_anybody_in(fixture):
+    """Neither one of its beginnings nor one of its ends, and not both secrets one behind the other."""
+
+    def wrong(account):
+        secret = SECRETS[account]
+        parts = [part for at in range(1, len(secret)) for part in (secret[:at], secret[at:])]
+        return [[f"PASS {part}"] for part in (*parts, secret + secret, "".join(SECRETS.values()))]
+
+    lets_in_the_right_secret_alone(fixture, wrong)
 
 
 @test

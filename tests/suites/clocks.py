@@ -68,8 +68,8 @@ def sixty_seconds_are_those_of_the_monotonic_clock(fixture):
         clocks.go(59)
         stranger.hear_end()
         took = time.monotonic() - begun
-        # (a millisecond is cut off)
-        if not 0.999 <= took < 3:
+        # (a millisecond is cut off, and on a busy machine the node is late)
+        if not 0.999 <= took < 10:
             raise Failed(f"stranger {number} had 59 seconds and {took:.4f} more")
 
 
@@ -124,8 +124,10 @@ def who_is_not_there_is_tried_again_each_60_seconds(fixture):
     addresses = [it.getsockname() for it in late]
     node = Node(fixture, servers=[server.address, addresses[0]], peers=[("n2", peer.address), ("n3", addresses[1])],
                 front=clocks.front).begin()
-    at_once = ["upstream down: demo/net: it could not be reached", f"peer unreachable: n2 at {spelled(peer.address)}"]
-    others = ["upstream down: demo/two: it could not be reached", f"peer unreachable: n3 at {spelled(addresses[1])}"]
+    at_once = [f"upstream down: demo/net: it could not be reached at {spelled(server.address)}: connection refused",
+               f"peer unreachable: n2 at {spelled(peer.address)}: connection refused"]
+    others = [f"upstream down: demo/two: it could not be reached at {spelled(addresses[0])}: connection refused",
+              f"peer unreachable: n3 at {spelled(addresses[1])}: connection refused"]
 
     def are_told(lines, times):
         fixture.until(f"{lines} are told {times} times", lambda: [count_of(node, it) for it in lines] == len(lines) * [times])
@@ -156,7 +158,8 @@ def who_is_not_there_is_tried_again_each_60_seconds(fixture):
 
 @test
 def a_server_is_given_up_once_it_was_silent_for_5_minutes(fixture):
-    """A wall clock that is set six minutes ahead, or back, gives none up that lives."""
+    """A wall clock that is set six minutes ahead, or back, gives none up that lives. One that is given up is dialed again a minute
+    later."""
     clocks, server = Clocks(fixture), Server(fixture)
     node = Node(fixture, servers=[server.address], front=clocks.front).begin()
     session = server.register()
@@ -169,6 +172,10 @@ def a_server_is_given_up_once_it_was_silent_for_5_minutes(fixture):
     clocks.skip(5 * MINUTES)
     node.wait_for("upstream down: demo/net: it was silent for too long")
     session.hear_end()
+    clocks.skip(MINUTES - 5)
+    expect("whether it is dialed before", False, has_come(server))
+    clocks.skip(5)
+    server.register()
 
 
 @test

@@ -29,7 +29,7 @@ def accepted(text):
     def call(fixture):
         path = fixture.write("bnc.toml", text.replace(LISTEN, NOWHERE))
         words = b"read or write failed\ncan't listen at %s: address not available\n" % NOWHERE
-        fixture.run("serve", path).expect(4, b"", words)
+        fixture.run("serve", path).expect_begun(4, words)
 
     return call
 

@@ -1,9 +1,8 @@
 """Floors of accounts (docs/OPERATING.md, "From when on an account is kept"; docs/PROTOCOL.md, "Changes"): where one node has
 `keep_from` for an account, no node of the cluster keeps anything older of it."""
 
-from harness.client import greeting
 from harness.failure import expect
-from harness.node import Node
+from harness.node import TwoAccounts
 from harness.peer import Peer
 from harness.registry import add, test
 from harness.server import Server
@@ -31,16 +30,13 @@ def post(id, ms):
     return f"C POST demo net #a {id} {ms} P #a old!o@h :{id}"
 
 
-class Home(Node):
-    """A node with the accounts demo and other, each with a session on a network net. A test sets from when on they are kept."""
+class Home(TwoAccounts):
+    """A node with the accounts demo and eve, each with a session on a network net. A test sets from when on they are kept."""
 
     kept = {}
 
     def accounts(self):
-        return [{"name": name, "secret": self.secret, **self.kept.get(name, {})} for name in ("demo", "other")]
-
-    def sessions(self):
-        return [self.session(name, "net", address) for name, address in zip(("demo", "other"), self.servers)]
+        return [{**account, **self.kept.get(account["name"], {})} for account in super().accounts()]
 
     def keeping(self, **kept):
         """From now on these accounts are kept from those times on."""
@@ -64,7 +60,7 @@ class Place:
 
     def begin(self):
         self.node.begin()
-        self.up = [server.register(OFFERED, self.nick) for server in self.servers]
+        self.up = [server.register(OFFERED) for server in self.servers]
 
     def say(self, *lines, account=0):
         """A server says this, and the node has taken it."""
@@ -79,10 +75,8 @@ class Place:
             session.close()
 
     def client(self, account="demo"):
-        client = self.node.client(f"a client of {account} at {self.name}")
-        client.say(f"CAP REQ :{PAST}", "PASS s3cret", f"NICK {self.nick}", f"USER {account}/net 0 * :Al", "CAP END")
-        client.hear(f":bnc.example CAP * ACK :{PAST}", *greeting(self.nick))
-        return client
+        client, nick = self.node.client(f"a client of {account} at {self.name}"), self.nick if account == "demo" else None
+        return client.register(PAST, nick, account=account)
 
     def shows(self, wanted, target="#a", account="demo"):
         """Comes to show that page, and then shows just that."""
@@ -106,14 +100,14 @@ def what_is_older_goes_from_each_node(fixture):
     second.say(OLD, FIRST, NEW, said("m4", BEFORE, "#b"), said("m5", "2001-01-01T00:00:00.000Z", "#c"), said("m6", FROM, "#c"))
     second.say(OLD, NEW, account=1)
     second.shows([OLD, FIRST, NEW])
-    second.shows([OLD, NEW], account="other")
+    second.shows([OLD, NEW], account="eve")
     first = Place(fixture, "n1", [("n2", second.node.peers)], demo=FROM)
     first.node.wait_for("peer greeted: n2")
     for place in (first, second):
         place.shows([FIRST, NEW])
         place.shows([], "#b")
         place.shows([said("m6", FROM, "#c")], "#c")
-        place.shows([OLD, NEW], account="other")
+        place.shows([OLD, NEW], account="eve")
         targets = [f":bnc.example CHATHISTORY TARGETS #c {FROM}", f":bnc.example CHATHISTORY TARGETS #a {LATER}"]
         expect("the buffers", targets, [line.partition(" ")[2] for line in place.client().ask(TARGETS)])
     expect("what n1 told", [f"floor put: demo keeps nothing before {FROM}"], first.node.floors())
@@ -166,12 +160,12 @@ def a_floor_outlives_the_node_that_put_it(fixture):
 def of_two_times_the_later_counts(fixture):
     """Each node has its own for the one account, and one of them one for the other account."""
     second = Place(fixture, "n2", [("n1", NOBODY)], demo=LATER)
-    first = Place(fixture, "n1", [("n2", second.node.peers)], demo=FROM, other=FROM)
+    first = Place(fixture, "n1", [("n2", second.node.peers)], demo=FROM, eve=FROM)
     first.say(OLD, FIRST, NEW)
     second.say(OLD, FIRST, account=1)
     for place in (first, second):
         place.shows([NEW])
-        place.shows([FIRST], account="other")
+        place.shows([FIRST], account="eve")
 
 
 @test
@@ -211,9 +205,9 @@ def nodes_of_older_versions_beside_a_floor(fixture):
 def a_peer_is_sent_the_floors_of_accounts(fixture):
     """As a piece like any other: in the order of the accounts, and first of all, since they are put as the node starts. A peer
     puts a higher one, and a lower one changes nothing."""
-    node = Home(fixture, "n1", peers=[("n0", NOBODY)], servers=[NOBODY, NOBODY]).keeping(demo=FROM, other=LATER).begin()
+    node = Home(fixture, "n1", peers=[("n0", NOBODY)], servers=[NOBODY, NOBODY]).keeping(demo=FROM, eve=LATER).begin()
     peer = Peer.dial(node).greet()
-    peer.hear_packet(0, 2, FLOOR, f"C AFLOOR other {LATER_MS}")
+    peer.hear_packet(0, 2, FLOOR, f"C AFLOOR eve {LATER_MS}")
     peer.acknowledge(2)
     higher = f"C AFLOOR demo {FROM_MS + 60000}"
     peer.give(0, f"C AFLOOR demo {BEFORE_MS}", post("m1", LATER_MS), f"C FLOOR demo net #a {LATER_MS}", higher)
@@ -222,7 +216,7 @@ def a_peer_is_sent_the_floors_of_accounts(fixture):
     peer.hear_packet(2, 5, higher)
     peer.close()
     node.wait_for("peer down: n0")
-    Peer.dial(node, incarnation=6).greet().hear_packet(0, 5, f"C AFLOOR other {LATER_MS}", higher)
+    Peer.dial(node, incarnation=6).greet().hear_packet(0, 5, f"C AFLOOR eve {LATER_MS}", higher)
 
 
 REFUSED = (
@@ -255,15 +249,16 @@ for number, line in enumerate(REFUSED):
 @test
 def the_operator_is_told_of_each_floor(fixture):
     """In the order of the accounts, with the time as the node understood it, and whether that lies ahead."""
+    node = Home(fixture, "n1", servers=[NOBODY, NOBODY])
     for kept, told in [
         ({}, []),
-        ({"other": FROM}, [f"other keeps nothing before {FROM}"]),
-        ({"demo": AHEAD, "other": FROM},
-         [f"demo keeps nothing before {AHEAD}, which lies ahead", f"other keeps nothing before {FROM}"]),
+        ({"eve": FROM}, [f"eve keeps nothing before {FROM}"]),
+        ({"demo": AHEAD, "eve": FROM},
+         [f"demo keeps nothing before {AHEAD}, which lies ahead", f"eve keeps nothing before {FROM}"]),
         ({"demo": "2016-12-31T23:59:60.000Z"}, ["demo keeps nothing before 2016-12-31T23:59:59.999Z"]),
         ({"demo": "1970-01-01T00:00:00.000Z"}, ["demo keeps nothing before 1970-01-01T00:00:00.000Z"]),
     ]:
-        node = Home(fixture, "n1", servers=[NOBODY, NOBODY]).keeping(**kept).begin()
+        node.keeping(**kept).begin()
         node.wait_for("upstream down")
         expect(f"what is told of {kept}", [f"floor put: {line}" for line in told], node.floors())
         node.kill()
@@ -280,7 +275,7 @@ def a_floor_that_lies_ahead_hides_what_is_said(fixture):
     place.say(NEW, account=1)
     client.hear(NEW)
     place.shows([])
-    place.shows([NEW], account="other")
+    place.shows([NEW], account="eve")
 
 
 @test

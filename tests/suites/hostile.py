@@ -1,10 +1,10 @@
 """Lines of the worked examples with one byte replaced, left out or doubled, and each beginning of them: what comes is an answer
 of docs/PROTOCOL.md or a refusal by name, and the next line is served. What is expected are the forms of the tables there."""
 
-import os
 import re
 import socket
 import subprocess
+import time
 
 from harness.connection import connect
 from harness.failure import Failed, expect, shortened
@@ -14,7 +14,6 @@ from harness.peer import Peer
 from harness.peer_lines import LINES as PEER_LINES
 from harness.peer_lines import arrivals, probe
 from harness.registry import add, test
-from harness.scripts import TESTS
 
 PLACE = rb"[^ \0\r\n]+"
 TAGS = rb"(@" + PLACE + rb" )?"
@@ -228,15 +227,22 @@ def configurations_are_read_or_refused_by_name(fixture):
 
 def begun_with(fixture, path):
     """What a node comes to that begins with this configuration."""
-    process = fixture.start("serve", path, stdin=None, stdout=subprocess.DEVNULL, stderr=subprocess.PIPE)
-    try:
-        _, errors = process.communicate(timeout=3)
-    except subprocess.TimeoutExpired:
-        # (it read another address)
-        process.kill()
-        _, errors = process.communicate()
-        return "listens" if b" listening: " in errors else f"neither ended nor listened: {errors!r}"
-    return f"status {process.returncode}, {b''.join(errors.splitlines()[:1]).decode()}"
+    process, end = fixture.start("serve", path, stdin=None, stdout=subprocess.DEVNULL, stderr=subprocess.PIPE), time.monotonic() + 30
+    errors = None
+    while errors is None:
+        try:
+            _, errors = process.communicate(timeout=1)
+        except subprocess.TimeoutExpired as so_far:
+            if b" listening: " in (so_far.stderr or b""):
+                # (it read another address)
+                process.kill()
+                process.communicate()
+                return "listens"
+            if time.monotonic() > end:
+                raise Failed(f"a node neither ended nor listened: {so_far.stderr!r}") from None
+    # (the log has a thread of its own, so its first line may come before the end, or not)
+    words = re.sub(rb"^(\S+Z )?starting: .*\n", b"", errors)
+    return f"status {process.returncode}, {b''.join(words.splitlines()[:1]).decode()}"
 
 
 PACKET = (b"D n0 5 %s 0 4 4", b"C MARK demo net #a 5000", b"C TPOST demo net #a m1 1000 P +x=1 #a bob!b@h :hi",

@@ -4,6 +4,7 @@
 import re
 
 from harness.client import Client, greeting, page
+from harness.connection import spelled
 from harness.failure import Failed, expect
 from harness.node import Node
 from harness.peer import Peer
@@ -312,6 +313,48 @@ def the_most_workers_and_places(fixture):
     for client in clients:
         client.hear(":bob!b@h PRIVMSG #a :hi", ":bob!b@h TOPIC #a :new")
         client.ping()
+
+
+# The longest line that a client is told: 8,191 bytes of tags, and 512 with its CR LF.
+LONGEST_LINE = TAGS + LINE + 2
+
+
+def told_the_longest_line(fixture, bound):
+    """A node of that `bound` whose server has said the longest typing notice, a client of each worker that reads all, and the
+    notice."""
+    node, server, session = begun(fixture, bound=bound, workers=2)
+    clients = [node.client(f"client {number}").register("message-tags") for number in range(2)]
+    tag = "+x=" + "x" * (TAGS - len("@+x= "))
+    notice = f"@{tag} {filled(':bob!b@h TAGMSG #a :')}"
+    expect("the bytes of the longest line", LONGEST_LINE, len(notice) + 2)
+    session.say(notice)
+    return node, session, clients, notice
+
+
+@test
+def a_bound_as_long_as_the_longest_line_takes_it(fixture):
+    """Over and over, and also where several such lines come at once."""
+    _, session, clients, notice = told_the_longest_line(fixture, LONGEST_LINE)
+    for client in clients:
+        client.hear(notice)
+    for count in (1, 5):
+        session.say(*count * [notice])
+        for client in clients:
+            client.hear(*count * [notice])
+            client.ping()
+
+
+@test
+def a_bound_of_one_byte_less_takes_all_but_the_longest_line(fixture):
+    """Who is told it is closed, even if it reads all the time; and a line of a byte less is told."""
+    node, session, clients, notice = told_the_longest_line(fixture, LONGEST_LINE - 1)
+    for client in clients:
+        client.hear_end()
+        node.wait_for(f"client out: demo/net from {spelled(client.address)}: it did not read what was owed to it")
+    later = node.client("a client that comes later").register("message-tags")
+    session.say(notice[:-1])
+    later.hear(notice[:-1])
+    later.ping()
 
 
 # Names at their limits

@@ -5,16 +5,18 @@ import re
 import subprocess
 import time
 
+from harness.client import login
 from harness.failure import Failed
 from harness.node import TwoAccounts
 from harness.registry import test
 from harness.server import Server
 
-# The bytes of address space that the node may have, and what the unit has in its environment.
-LIMIT = 200 << 20
-ENVIRONMENT = ("MALLOC_ARENA_MAX=1", "MALLOC_MMAP_THRESHOLD_=131072")
+# The bytes of address space that the node may have, of which the heaps of three threads take 192 MB; and what the unit has in its
+# environment.
+LIMIT = 400 << 20
+ENVIRONMENT = ("MALLOC_ARENA_MAX=16", "MALLOC_MMAP_THRESHOLD_=131072")
 # The seconds in which the node comes to its limit, and those in which each question is answered then.
-REACHED, ANSWERED = 40, 5
+REACHED, ANSWERED = 90, 5
 # How often the client comes at the limit, and the seconds before it comes again.
 ROUNDS = 10
 AWAY = 0.1
@@ -50,7 +52,7 @@ class Eve:
 
     def comes(self):
         self.client = self.node.client("a client of the other account")
-        self.client.say(f"CAP REQ :{HOLDS}", "PASS s3cret", "NICK al", "USER eve/net 0 * :Al", "CAP END")
+        self.client.say(f"CAP REQ :{HOLDS}", *login(account="eve"), "CAP END")
         self.came += 1
 
     def goes(self):

@@ -1,9 +1,10 @@
-"""Clients that read slowly, late or never (docs/OPERATING.md, "Clients" and "Size"; docs/PROTOCOL.md, "CHATHISTORY")."""
+"""Clients that read slowly, late or never (docs/CLIENTS.md, "Clients that are slow, or gone"; docs/OPERATING.md, "Size";
+docs/PROTOCOL.md, "CHATHISTORY")."""
 
 import resource
 import time
 
-from harness.client import page
+from harness.client import login, page
 from harness.connection import connect, spelled
 from harness.failure import Failed
 from harness.node import Node, TwoAccounts
@@ -161,7 +162,7 @@ def register_silent(fixture, node):
     """A client of the other account that is registered, and says and reads nothing more."""
     it = connect(fixture, node.clients)
     fixture.at_end(it.close)
-    it.sendall(b"PASS s3cret\r\nNICK al\r\nUSER eve/net 0 * :Al\r\nPING here\r\n")
+    it.sendall("".join(f"{line}\r\n" for line in (*login(account="eve"), "PING here")).encode())
     held = b""
     while b"PONG" not in held:
         more = it.recv(4096)

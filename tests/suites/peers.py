@@ -1,10 +1,9 @@
 """Connections between nodes, line by line (docs/PROTOCOL.md, "Between nodes")."""
 
-import time
-
 from harness.client import page
-from harness.connection import Listener, connect
+from harness.connection import Listener, connect, spelled
 from harness.failure import Failed, expect
+from harness.identities import OTHER_WORD, WORD
 from harness.node import Node
 from harness.peer import Peer
 from harness.registry import add, test
@@ -31,14 +30,15 @@ def stranger(node):
 def a_peer_is_greeted(fixture):
     """The side that opened the connection says its word and its hello first."""
     node = begun(fixture)
-    Peer.dial(node).greet()
-    node.wait_for("peer greeted: n0")
+    peer = Peer.dial(node).greet()
+    node.wait_for(f"peer greeted: n0 at {spelled(peer.socket.getsockname())} (incarnation 5)")
 
 
 # What closes a connection before the hello of a peer. By then the node has said nothing.
 CLOSING = (
     ("a wrong word", ["W red"]),
     ("a wrong word and then the right one", ["W red", "W green"]),
+    ("the word of another cluster", [f"W {OTHER_WORD}", "H 3 n0 5"]),
     ("a part of the word", ["W gree"]),
     ("a word that goes on", ["W greens"]),
     ("the word in capitals", ["W GREEN"]),
@@ -111,6 +111,53 @@ def closes_later(lines):
 
 for name, lines in CLOSING_LATER:
     add(f"peers: closed after the hello by {name}", closes_later(lines))
+
+
+@test
+def who_answers_by_the_word_of_another_cluster_is_closed(fixture):
+    """The node opened the connection. What comes behind the word isn't taken."""
+    listener = Listener(fixture)
+    node = Node(fixture, name="n1", peers=[("n2", listener.address)], servers=[NOBODY]).begin()
+    peer = Peer(fixture, listener.accept("the peer n2").socket, "n2", word=OTHER_WORD)
+    peer.hear(f"W {WORD}")
+    peer.hear_hello()
+    peer.say(f"W {peer.word}", peer.hello())
+    peer.give(0, POST_ONE)
+    node.wait_for(f"peer refused: n2 at 127.0.0.1:{listener.address[1]}: it sent another word than the shared one")
+    client = node.client().register(PAST)
+    client.say("CHATHISTORY LATEST #a * 10")
+    client.hear(*page(1, "#a"))
+
+
+@test
+def two_clusters_of_two_words_stay_apart(fixture):
+    """Two nodes of each cluster, of the same accounts and networks. The first node of each has the second of the other one as a
+    peer too, as after a slip in its configuration. Each cluster shows what was said to it, and no node knows one of the other."""
+    words, clusters = (WORD, OTHER_WORD), []
+    seconds = [Node(fixture, f"n{3 + at}", peers=[("n1", NOBODY), ("n2", NOBODY)], servers=[NOBODY], peer_word=word).begin()
+               for at, word in enumerate(words)]
+    for at, word in enumerate(words):
+        known = [(second.name, second.peers) for second in seconds]
+        clusters.append((Node(fixture, f"n{1 + at}", peers=known, servers=[NOBODY], peer_word=word).begin(), seconds[at]))
+    for at, (first, second) in enumerate(clusters):
+        other = seconds[1 - at]
+        first.wait_for(f"peer greeted: {second.name}")
+        first.wait_for(f"peer refused: {other.name} at {spelled(other.peers)}")
+        second.wait_for(f"peer greeted: {first.name}")
+        fixture.until("the other cluster's node refuses it", lambda other=other: any(
+            line.endswith("it sent another word than the shared one") for line in other.log()))
+    knowing = [[node.client(node.name).register("draft/read-marker") for node in cluster] for cluster in clusters]
+    for at, clients in enumerate(knowing):
+        clients[0].say(f"MARKREAD #a {moment(5 + at)}")
+        for client in clients:
+            client.hear(f":bnc.example MARKREAD #a {moment(5 + at)}")
+    for clients in knowing:
+        for client in clients:
+            client.ping()
+    for cluster, others in (clusters, clusters[::-1]):
+        for node in cluster:
+            expect(f"what {node.name} was told of the others", [], [
+                line for line in node.log() for other in others if f"peer greeted: {other.name}" in line])
 
 
 @test
@@ -302,19 +349,24 @@ def a_node_and_its_peer_are_level_once(fixture):
 
 @test
 def a_peer_with_more_to_give_is_not_level(fixture):
-    """Its packet of 256 changes may be followed by another."""
-    node = begun(fixture)
+    """Its packet of 256 changes may be followed by another. Nor is one that hasn't acknowledged all."""
+    node, marker = begun(fixture), "C MARK demo net #c 7000"
     changes = [f"C MARK demo net #m{number} {number + 1}" for number in range(300)]
-    peer = Peer.dial(node).greet()
+    client, peer = node.client().register("draft/read-marker"), Peer.dial(node).greet()
     peer.give(0, *changes[:256])
     peer.hear_acknowledged(256)
     peer.hear_packet(0, 256, *changes[:256])
     peer.acknowledge(256)
+    client.say(f"MARKREAD #c {moment(7)}")
+    # (a packet is made once the one before it is acknowledged)
+    peer.hear_packet(256, 257, marker)
+    expect("how often it was told of a peer with more to give", 0, level(node))
     peer.give(256, *changes[256:])
     peer.hear_acknowledged(300)
-    peer.hear_packet(256, 300, *changes[256:])
     expect("how often it was told before the acknowledgement", 0, level(node))
-    peer.acknowledge(300)
+    peer.acknowledge(257)
+    peer.hear_packet(257, 301, *changes[256:])
+    peer.acknowledge(301)
     node.wait_for("peer level: n0: each has what the other had")
 
 
@@ -322,7 +374,34 @@ def a_peer_with_more_to_give_is_not_level(fixture):
 def who_can_not_be_reached_is_told(fixture):
     """With the name and the address of the peer."""
     node = Node(fixture, name="n1", peers=[("n2", NOBODY)], servers=[NOBODY]).begin()
-    node.wait_for("peer unreachable: n2 at 127.0.0.1:1")
+    node.wait_for("peer unreachable: n2 at 127.0.0.1:1: connection refused")
+
+
+OWN_NAME = "it said hello by this node's own name: give each node a name of its own"
+
+
+@test
+def two_nodes_of_one_name_that_meet_are_told_so(fixture):
+    """The one that is dialed, and the one that dials."""
+    listener = Listener(fixture)
+    node = Node(fixture, name="n1", peers=[("n2", listener.address)], servers=[NOBODY]).begin()
+    caller = Peer.dial(node, "n1")
+    caller.say("W green", caller.hello())
+    node.wait_for(f"peer refused: {spelled(caller.socket.getsockname())}: {OWN_NAME}")
+    called = Peer(fixture, listener.accept("the peer n2").socket, "n1")
+    called.say("W green", called.hello())
+    node.wait_for(f"peer refused: n2 at {spelled(listener.address)}: {OWN_NAME}")
+
+
+@test
+def a_node_whose_name_another_bears_is_told_by_a_third(fixture):
+    """Which knows a life of that name that began later, and by now: no clock is wrong."""
+    node = begun(fixture)
+    peer = Peer.dial(node).greet()
+    later = int(peer.other.split(" ")[1]) + 1
+    peer.say(f"A n0 5 n1 {later} 0")
+    node.wait_for(f"node behind: n0 knows a later life of this node (incarnation {later}): another node has its name, "
+                  "or its clock was behind as it started: give each node a name of its own, or start it again")
 
 
 @test
@@ -461,7 +540,7 @@ def each_new_marker_of_a_packet_is_told_once(fixture):
         client.ping()
 
 
-# So many messages, and how long a packet's marker may take beside them, in seconds.
+# So many messages, and how long a packet's marker may take beside them, in seconds of the node's processor time.
 MANY, SOON = 20000, 1
 
 
@@ -478,13 +557,13 @@ def markers_are_told_at_once_however_much_is_held(fixture):
     clients = [node.client(f"client {number}").register("draft/read-marker") for number in range(2)]
     others = [node.client(f"client {number} without markers").register() for number in range(2)]
     for first in range(2):
-        begun_at = time.monotonic()
+        before = node.processor_seconds()
         peer.give(MANY + first, f"C MARK demo net #a {first + 5}000")
         for client in others:
             client.ping()
         for client in clients:
             client.hear(f":bnc.example MARKREAD #a {moment(first + 5)}")
-        took = time.monotonic() - begun_at
+        took = node.processor_seconds() - before
         if took > SOON:
             raise Failed(f"marker {first + 1} took {took:.1f} seconds, with {MANY} messages held")
 

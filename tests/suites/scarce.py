@@ -10,10 +10,10 @@ import struct
 import threading
 import time
 
-from harness.client import greeting
-from harness.connection import spelled
+from harness.client import greeting, login
 from harness.failure import Failed, shortened
-from harness.node import ACCOUNTS, TwoAccounts
+from harness.identities import SECRETS, identity_of
+from harness.node import TwoAccounts
 from harness.registry import add
 from harness.server import Server
 
@@ -25,8 +25,7 @@ RATES = (1000, 60, 4)
 PACE, AWAY = 0.02, 0.1
 # So many messages are there, which are said again and again.
 MESSAGES = 100
-LOGIN = "CAP REQ :batch draft/chathistory draft/read-marker message-tags server-time\r\nPASS s3cret\r\nNICK al\r\n" \
-    "USER {}/net 0 * :Al\r\nCAP END\r\n"
+HELD = "batch draft/chathistory draft/read-marker message-tags server-time"
 ASK = "CHATHISTORY LATEST #a * 10\r\nMARKREAD #a\r\nPING here\r\n"
 
 
@@ -122,10 +121,15 @@ def said(letter, number):
     return f"@msgid={letter}{at:02};time=2026-11-23T00:00:{at % 60:02}.{at:03}Z :{letter}!b@h PRIVMSG #a :{letter} {number:08}"
 
 
+def entry_of(account):
+    """What a client of the account says to be let in."""
+    return "".join(f"{line}\r\n" for line in (f"CAP REQ :{HELD}", *login(account=account), "CAP END"))
+
+
 def server(work, listener, letter):
     """Lets the node in whenever it comes, and says one message after another."""
     listener.socket.settimeout(0.2)
-    number = 0
+    nick, number = listener.identity().nick, 0
     while not work.is_over:
         try:
             it = Lines(listener.socket.accept()[0], PACE)
@@ -133,7 +137,7 @@ def server(work, listener, letter):
             continue
         work.count(f"sessions of {letter}")
         it.say(f":irc.example CAP * LS :message-tags server-time\r\n:irc.example CAP * ACK :message-tags server-time\r\n"
-               f":irc.example 001 al :Welcome\r\n:al JOIN #a\r\n")
+               f":irc.example 001 {nick} :Welcome\r\n:{nick} JOIN #{letter}\r\n")
         while it.is_open and not work.is_over:
             it.say(said(letter, number) + "\r\n")
             number += 1
@@ -143,10 +147,17 @@ def server(work, listener, letter):
         it.close()
 
 
-GREETING = {*greeting(), ":al JOIN #a", ":bnc.example PONG bnc.example :here",
-            ":bnc.example CAP * ACK :batch draft/chathistory draft/read-marker message-tags server-time"}
-FORMS = re.compile(r":bnc\.example (BATCH [+-]r\d+( chathistory #a)?|MARKREAD #a (\*|timestamp=[0-9TZ:.-]{24})|"
-                   r"NOTICE al :Not connected to net)|ERROR :Closing link")
+def greetings(account):
+    """The lines that a client of the account hears as it comes, and its PONG. Its channel has the account's first letter."""
+    nick, letter = identity_of(account, "net").nick, account[0]
+    return {*greeting(account=account), f":{nick} JOIN #{letter}", f":bnc.example MARKREAD #{letter} *",
+            f":bnc.example NOTICE {nick} :Not connected to net", ":bnc.example PONG bnc.example :here",
+            f":bnc.example CAP * ACK :{HELD}"}
+
+
+GREETINGS = {account[0]: greetings(account) for account in SECRETS}
+FORMS = re.compile(r":bnc\.example (BATCH [+-]r\d+( chathistory #a)?|MARKREAD #a (\*|timestamp=[0-9TZ:.-]{24}))|"
+                   r"ERROR :Closing link")
 MESSAGE = re.compile(r"@(?:batch=(r\d+);)?(msgid=(\w)\d\d;time=2026-11-23T00:00:\d\d\.\d{3}Z) "
                      r":(\w)!b@h PRIVMSG #a :(\w) (\d{8})")
 
@@ -160,7 +171,7 @@ class Heard:
     def hear(self, line):
         found = MESSAGE.fullmatch(line)
         if not found:
-            if line not in GREETING and not FORMS.fullmatch(line):
+            if line not in GREETINGS[self.letter] and not FORMS.fullmatch(line):
                 raise Failed(f"{self.letter}: a line that nobody said: {shortened(line)}")
             return
         batch, place, *letters, number = found.groups()
@@ -186,7 +197,7 @@ def client(work, account, letter, stays):
             time.sleep(AWAY)
             continue
         heard, end = Heard(letter), time.monotonic() + stays
-        it.say(LOGIN.format(account) + ASK)
+        it.say(entry_of(account) + ASK)
         while it.is_open and not work.is_over and time.monotonic() < end:
             for line in it.come():
                 heard.hear(line)
@@ -235,7 +246,7 @@ def used(process):
 def served(fixture, node, account, letter):
     """A new client is let in, and its questions are answered with its own past."""
     it, heard, lines = Lines(node.clients), Heard(letter), []
-    it.say(LOGIN.format(account) + ASK)
+    it.say(entry_of(account) + ASK)
     end = time.monotonic() + SERVED
     while ":bnc.example PONG bnc.example :here" not in lines:
         for line in it.come():
@@ -255,9 +266,9 @@ def scarce(one_of):
                            front=rate.front, places=64).begin()
         work = Work(fixture, node)
         fixture.at_end(work.end)
-        for listener, (account, _) in zip(servers, ACCOUNTS):
+        for listener, account in zip(servers, SECRETS):
             work.begin(server, listener, account[0])
-        for account, _ in ACCOUNTS:
+        for account in SECRETS:
             for stays in (1.5, 4, 3600):
                 work.begin(client, account, account[0], stays)
         work.begin(peer)
@@ -271,7 +282,7 @@ def scarce(one_of):
             time.sleep(0.1)
         rate.set(0)
         packets = work.counts.get("packets", 0)
-        for account, _ in ACCOUNTS:
+        for account in SECRETS:
             served(fixture, node, account, account[0])
         fixture.until("the peer is served", lambda: work.why or work.counts.get("packets", 0) > packets, SERVED)
         work.check()

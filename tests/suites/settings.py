@@ -16,34 +16,17 @@ CHANNELS = ["#a", "#b"]
 
 
 class Configured(Node):
-    """A node with two workers, two channels, a peer, and a user of another name than the nick."""
+    """A node with two workers, two channels and a peer."""
 
     def __init__(self, fixture, server, **limits):
         super().__init__(fixture, servers=[server.address], channels=CHANNELS, peers=[("n0", NOBODY)], workers=2, **limits)
-
-    def session(self, account, name, address):
-        return {**super().session(account, name, address), "user": "alan"}
-
-
-def welcomed(server):
-    """The next session, which is let in, and has said and joined what it is to."""
-    session = server.accept("the server")
-    session.hear("CAP LS 302", "NICK al", "USER alan 0 * :alan")
-    session.say(":irc.example CAP * LS :")
-    session.hear("CAP END")
-    session.say(":irc.example 001 al :Welcome")
-    session.hear(*(f"JOIN {channel}" for channel in CHANNELS))
-    for channel in CHANNELS:
-        session.say(f":al!alan@host JOIN {channel}")
-    server.settled(session)
-    return session
 
 
 @test
 def the_user_and_both_channels_reach_the_server(fixture):
     server = Server(fixture)
     node = Configured(fixture, server).begin()
-    welcomed(server)
+    server.register(channels=CHANNELS)
     for number in range(2):
         node.client(f"client {number}").register("draft/read-marker", channels=CHANNELS)
 
@@ -96,7 +79,7 @@ def clients_go_to_the_workers_in_turn(fixture):
     """A client of each hears what is said, and what it says reaches the server."""
     server = Server(fixture)
     node = Configured(fixture, server).begin()
-    session = welcomed(server)
+    session = server.register(channels=CHANNELS)
     clients = [node.client(f"client {number}").register(channels=CHANNELS) for number in range(4)]
     workers = [worker_of(node, client) for client in clients]
     expect("how many workers there are", 2, len({*workers}))
@@ -164,6 +147,34 @@ def so_much_may_be_owed_to_a_client_as_bound_says(fixture):
     fixture.notes.append(f"{least} bytes, and {most - least} more for a bound that is {MOST - LEAST} greater")
     if not (MOST - LEAST) // 2 < most - least < 2 * (MOST - LEAST):
         raise Failed(f"with a bound of {LEAST} it is closed behind {least} bytes, and with one of {MOST} behind {most}")
+
+
+# The bytes of the longest line, with its ending: 8,191 of tags (IRCv3 message-tags) and 512 of the rest (RFC 2812).
+LONGEST = 8703
+
+
+def tag_line(size):
+    """A line of so many bytes with its ending, which a client that holds message-tags hears as it is."""
+    rest = ":bob!b@h TAGMSG #a :" + "x" * 490
+    return f"@+x={'x' * (size - len(f'@+x= {rest}') - 2)} {rest}"
+
+
+@test
+def a_line_that_is_longer_than_bound_closes_a_client_that_reads(fixture):
+    """With 8,703 it hears the longest line. Where it is closed the operator reads both causes."""
+    for bound, size in ((LEAST, LEAST), (4096, 4096), (LONGEST, LONGEST)):
+        server = Server(fixture)
+        node = Node(fixture, name=f"n{bound}", servers=[server.address], bound=bound).begin()
+        session = server.register("message-tags")
+        client = node.client().register("message-tags")
+        session.say(tag_line(size))
+        client.hear(tag_line(size))
+        if size == LONGEST:
+            continue
+        session.say(tag_line(size + 1))
+        client.hear_end()
+        node.wait_for(f"client out: demo/net from {spelled(client.address)}: it did not read what was owed to it, "
+                      "or a line was longer than its bound")
 
 
 @test

@@ -58,7 +58,7 @@ class Reader(Node):
         found = re.fullmatch(rf"H {version} (\w+) [0-9]+", peer.line("a hello"))
         if not found:
             raise Failed(f"the peer {name} was told another hello")
-        self.is_told(f"peer greeted: {name} (incarnation 5)")
+        self.is_told(f"peer greeted: {name} at {spelled(peer.address)} (incarnation 5)")
         return found[1]
 
     def register(self, account, network, secret):
@@ -148,7 +148,7 @@ def peer_is(reader, words):
     name, address = words.split(" ")
     # (so that it is greater, and that nobody else is asked)
     reader.words = reader.words.replace('node = "n1"', 'node = "0"').replace("10.0.0.1:", "127.0.0.9:")
-    reader.begin().is_told(f"peer unreachable: {name} at {address.replace('10.0.0.1:', '127.0.0.9:')}")
+    reader.begin().is_told(f"peer unreachable: {name} at {address.replace('10.0.0.1:', '127.0.0.9:')}: connection refused")
     reader.greet(name, "[123]")
 
 

@@ -7,10 +7,10 @@ import sys
 import time
 
 from harness import processes
-from harness.client import greeting
 from harness.clocks import Clocks
 from harness.connection import connect
 from harness.failure import Failed, expect
+from harness.identities import identity_of
 from harness.node import Node
 from harness.peer import Peer
 from harness.registry import test
@@ -28,14 +28,15 @@ def three_workers_pass_on_each_line_once(fixture):
     node = Node(fixture, servers=[it.address for it in servers], workers=3).begin()
     sessions = [it.register("draft/message-redaction message-tags") for it in servers]
     for network, server, session in zip(node.networks, servers, sessions):
+        nick = server.identity().nick
         clients = [node.client(f"client {number} of {network}") for number in range(6)]
         for client in clients:
             client.register("draft/message-redaction message-tags", network=network)
         lines = []
         for number in range(50):
             lines += [f":bob!b@h TOPIC #a :{number}", f"@msgid=m{number} :bob!b@h PRIVMSG #a :{number}",
-                      f":irc.example 372 al :- {number}", f":bob!b@h REDACT #a m{number}"]
-        lines += [":al!a@h JOIN #c", ":al!a@h NICK bo", ":bo!a@h NICK al", ":al!a@h PART #c"]
+                      f":irc.example 372 {nick} :- {number}", f":bob!b@h REDACT #a m{number}"]
+        lines += [f":{nick}!a@h JOIN #c", f":{nick}!a@h NICK bo", f":bo!a@h NICK {nick}", f":{nick}!a@h PART #c"]
         session.say(*lines)
         for number, client in enumerate(clients):
             client.hear(*lines)
@@ -76,6 +77,7 @@ class Two:
         self.servers = [Server(fixture), Server(fixture)]
         self.node = Node(fixture, servers=[it.address for it in self.servers], peers=peers, workers=2).begin()
         self.network = self.node.networks[serving]
+        self.nick = self.servers[serving].identity().nick
         self.came = 0
 
     def client(self, worker, capabilities="", **how):
@@ -84,16 +86,19 @@ class Two:
             at, self.came = self.came % 2, self.came + 1
             client = self.node.client(f"client {self.came} at worker {at}")
             if at == worker:
-                return client.register(capabilities, **{"network": self.network, **how})
+                return client.register(capabilities, **{"network": self.network, "channels": (), **how})
 
-    def welcome(self, nick="al"):
-        """The network's server offers its capabilities, and gives that nick. Answers the session."""
-        session = self.servers[self.serving].greeted()
+    def welcome(self, nick=None):
+        """The network's server offers its capabilities, and gives that nick, or the one that was asked for. No channel is joined.
+        Answers the session."""
+        server = self.servers[self.serving]
+        session = server.greeted()
         session.say(f":irc.example CAP * LS :{OFFERED}")
         session.hear(f"CAP REQ :{OFFERED}")
         session.say(f":irc.example CAP * ACK :{OFFERED}")
         session.hear("CAP END")
-        session.say(f":irc.example 001 {nick} :Welcome")
+        session.say(f":irc.example 001 {nick or self.nick} :Welcome")
+        session.hear(*(f"JOIN {channel}" for channel in server.identity().channels))
         return session
 
 
@@ -131,9 +136,9 @@ class Across(Two):
         """The network is up under another nick, which no line of the server tells."""
         for client in self.everybody:
             client.say("JOIN #a")
-            client.hear(f":bnc.example NOTICE al :Not connected to {self.network}")
+            client.hear(f":bnc.example NOTICE {self.nick} :Not connected to {self.network}")
         self.session = self.welcome("bo")
-        self.hear(":al NICK bo")
+        self.hear(f":{self.nick} NICK bo")
         self.nothing_more()
         for client in self.everybody:
             self.says(client, "JOIN #a")
@@ -177,9 +182,10 @@ class Across(Two):
         for client in self.everybody:
             answer = f":bnc.example NOTICE cy :Not connected to {self.network}"
             self.fixture.until(f"{client.name} is told {answer}", lambda client=client: is_told(client, "JOIN #a", answer))
+        other = self.node.networks[1 - self.serving]
         for client in self.strangers:
             client.say("JOIN #a")
-            client.hear(f":bnc.example NOTICE al :Not connected to {self.node.networks[1 - self.serving]}")
+            client.hear(f":bnc.example NOTICE {identity_of('demo', other).nick} :Not connected to {other}")
             client.ping()
 
 
@@ -278,9 +284,7 @@ def answered(fixture, which):
             client.ping()
             pings.append(time.monotonic() - began)
         began = time.monotonic()
-        newcomer = node.client("a newcomer")
-        newcomer.say("PASS s3cret", "NICK al", f"USER demo/{node.networks[1 - which]} 0 * :Al")
-        newcomer.hear(*greeting(network=node.networks[1 - which]))
+        newcomer = node.client("a newcomer").register(network=node.networks[1 - which])
         entries.append(time.monotonic() - began)
         newcomer.close()
         began = time.monotonic()
