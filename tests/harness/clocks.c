@@ -1,6 +1,6 @@
 /* Laid before the C library: the wall clock and the monotonic clock go ahead by what a file tells. CLOCKS names it, and it has
-   two numbers of eight bytes: so many nanoseconds are added to the one, and to the other. Waits end after 20 milliseconds, so
-   that the clocks are looked at soon. */
+   two numbers of eight bytes: so many nanoseconds are added to the one, and to the other. Waits and pauses end after 20
+   milliseconds, so that the clocks are looked at soon. */
 #define _GNU_SOURCE
 #include <fcntl.h>
 #include <stdint.h>
@@ -35,4 +35,10 @@ int clock_gettime(clockid_t clock, struct timespec *to) {
 int epoll_wait(int fd, struct epoll_event *to, int most, int patience) {
     if (added && (patience < 0 || patience > 20)) patience = 20;
     return syscall(SYS_epoll_wait, fd, to, most, patience);
+}
+
+int nanosleep(const struct timespec *pause, struct timespec *left) {
+    struct timespec most = {0, 20000000};
+    int is_long = added && (pause->tv_sec > 0 || pause->tv_nsec > most.tv_nsec);
+    return syscall(SYS_nanosleep, is_long ? &most : pause, is_long ? NULL : left);
 }
