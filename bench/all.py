@@ -1,11 +1,11 @@
 #!/usr/bin/env python3
-"""Makes all tables of docs/PERFORMANCE.md anew, one script after another, but for the soak's, which takes an hour.
+"""Makes all tables of docs/PERFORMANCE.md anew, one script after another, but for the soaks'.
 
-    bench/all.py PROGRAM TEST_STATE
+    bench/all.py PROGRAM TEST_STATE KEEPER
 
-PROGRAM is crates/bnc/out/bnc, and TEST_STATE is crates/test_state/out/test_state. The machine should have nothing else to do.
-The scripts that play clients are run at real-time priority where root runs this. A script that fails is told, and the others go
-on; the status is 1 then.
+PROGRAM is crates/bnc/out/bnc, TEST_STATE crates/test_state/out/test_state, and KEEPER crates/bnc_keep/out/bnc_keep. The machine
+should have nothing else to do. The scripts that play clients are run at real-time priority where root runs this. A script that
+fails is told, and the others go on; the status is 1 then.
 """
 import os
 import subprocess
@@ -14,7 +14,7 @@ import sys
 HERE = os.path.dirname(os.path.realpath(__file__))
 
 
-def calls(program, test_state):
+def calls(program, test_state, keeper):
     """The scripts with their words, and whether time that they wait for a processor would count."""
     return (
         (("beside_plain.py", test_state, "5"), False),
@@ -24,13 +24,16 @@ def calls(program, test_state):
         (("latency.py", program, "9"), True),
         (("beside_c.py", program, "9"), True),
         (("memory.py", program), True),
+        (("heaps.py", program, "5"), True),
         (("put.py", program), False),
         (("joining.py", program), True),
+        (("keeping.py", program, keeper), True),
+        (("keeping.py", "--full", program, keeper), False),
     )
 
 
 def main():
-    if len(sys.argv) != 3:
+    if len(sys.argv) != 4:
         sys.exit(__doc__)
     failed = False
     for (script, *words), waits in calls(*map(os.path.abspath, sys.argv[1:])):

@@ -112,16 +112,17 @@ class Bouncer:
     """The bouncer under measure, as a process."""
 
     def __init__(self, kind, program, workers=1, environment=(), before=()):
-        """The words before are those of a command that runs it."""
+        """The words before are those of a command that runs it. What the environment is to have goes before what the unit
+        gives."""
         self.kind = kind
         self.server_port = SERVER_PORTS[kind]
         self.port = BOUNCER_PORTS[kind]
         # what was measured: figures by their names
         self.figures = {}
         self.home = tempfile.mkdtemp(prefix="bench-")
-        environment = {**os.environ, **dict(environment)}
+        unit = unit_environment() if kind == "bnc" else {}
+        environment = {**os.environ, **unit, **dict(environment)}
         if kind == "bnc":
-            environment.update(unit_environment())
             path = os.path.join(self.home, "one.toml")
             text = BNC.format(bouncer=self.port, server=self.server_port, secret=SECRET, workers=workers)
             command = [program, "serve", path]

@@ -70,7 +70,7 @@ def end(sockets):
 
 
 class Node:
-    """A node as a process, in the environment of the unit."""
+    """A node as a process, in the environment of the unit, but for what is set already."""
 
     def __init__(self, home, program, number, server, peers):
         self.name, self.nick, self.program = f"n{number}", f"al{number}", program
@@ -88,7 +88,7 @@ class Node:
     def start(self):
         with open(self.told, "ab") as log:
             self.process = subprocess.Popen([self.program, "serve", self.path], stdin=subprocess.DEVNULL, stdout=log, stderr=log,
-                                            env={**os.environ, **unit_environment()}, cwd=os.path.dirname(self.path))
+                                            env={**unit_environment(), **os.environ}, cwd=os.path.dirname(self.path))
 
     def kill(self):
         self.process.send_signal(signal.SIGKILL)
@@ -117,6 +117,8 @@ class Link:
         self.to, self.passes, self.lock = to, threading.Event(), threading.Lock()
         # (connections, each with those of its two directions that still carry something)
         self.pairs = {}
+        # (how many bytes went over it)
+        self.carried = 0
         self.passes.set()
         self.listener = socket.create_server(("127.0.0.1", 0))
         self.port = self.listener.getsockname()[1]
@@ -145,6 +147,8 @@ class Link:
                 if not data:
                     break
                 target.sendall(data)
+                with self.lock:
+                    self.carried += len(data)
             target.shutdown(socket.SHUT_WR)
         except OSError:
             end(pair)

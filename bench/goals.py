@@ -1,5 +1,6 @@
 #!/usr/bin/env python3
-"""Makes the table of goals at the head of docs/PERFORMANCE.md from the tables below it, as the other scripts print them.
+"""Makes the table of goals that aren't reached, at the head of docs/PERFORMANCE.md, from the tables below it, as the other scripts
+print them.
 
     bench/goals.py            writes it anew
     bench/goals.py --check    says whether it is as it would be written, by the status
@@ -16,23 +17,29 @@ BEGIN, END = "<!-- bench/goals.py makes what follows -->\n", "<!-- to here -->\n
 # is a greatest figure, but for those that begin with `at least`.
 GOALS = (
     ("relay to 1 client by turns, lines for a processor second : ZNC's", "clients", "ZNC : bnc", "1", "at least 6"),
-    (".. to 10 clients", "clients", "ZNC : bnc", "10", "at least 10"),
-    (".. to 100 clients", "clients", "ZNC : bnc", "100", "at least 20"),
+    ("relay to 10 clients : ZNC's", "clients", "ZNC : bnc", "10", "at least 10"),
+    ("relay to 100 clients : ZNC's", "clients", "ZNC : bnc", "100", "at least 20"),
     ("a line beside 1,500 silent clients of another account : beside none", "a line", "ratio", ".*1,500.*", "1.1"),
     ("playback, lines for a processor second : ZNC's", "what", "ratio of the medians", "playback.*", "at least 14"),
     ("99 of 100 lines to 10 clients take at most : ZNC's", "a line to one of 10 clients", "99 of 100 : ZNC's", "bnc", "0.5"),
     ("a line that comes alone : a loop in C", "lines at once", "ratio, and its range", "1", "4"),
-    (".. 20 lines at once", "lines at once", "ratio, and its range", "20", "4"),
-    (".. 200 lines at once", "lines at once", "ratio, and its range", "200", "4"),
+    ("20 lines at once : a loop in C", "lines at once", "ratio, and its range", "20", "4"),
+    ("200 lines at once : a loop in C", "lines at once", "ratio, and its range", "200", "4"),
     ("a message that a running node holds", "messages that are held", "each", "100,000", "450 bytes"),
     ("an idle client that was sent more than its ring, 20 lines at once", "lines at once", "all in all", "20", "2.5 kB"),
-    (".. 200 lines at once", "lines at once", "all in all", "200", "2.5 kB"),
+    ("the same, 200 lines at once", "lines at once", "all in all", "200", "2.5 kB"),
     ("a put into a shared node : a change of one state", "put into a shared node", "ratio", ".*", "1.6"),
     ("a change of a packet that brings nothing new", "what", "figure", "a change of a packet.*", "1 us"),
     ("a node that joins 1,000,000 messages is level", "what", "figure", "a second node.*", "10 s"),
-    (".. the longest wait for a PONG meanwhile", "what", "figure", "the longest wait.*", "50 ms"),
+    ("the longest wait for a PONG while a node joins", "what", "figure", "the longest wait.*", "50 ms"),
     ("`CHATHISTORY TARGETS` of 10,000 buffers : plain Rust", "a question", "ratio", "TARGETS.*", "1.3"),
     ("`CHATHISTORY LATEST` of one of them : plain Rust", "a question", "ratio", "LATEST.*", "1.3"),
+    ("a server's line with five tags : one without", "line", "to the line before it", ".*with five", "1.4"),
+    ("a keeper appends 1,000,000 messages", "what", "figure", "1,000,000 messages of 40.*", "60 s"),
+    ("a keeper reads them at its start", "what", "figure", "read at the start", "5 s"),
+    ("in its file, a message", "what", "figure", "in the file.*", "200 bytes"),
+    ("its memory : that of one state", "what", "figure", "memory : .*", "1.2"),
+    ("a node with a keeper, restarted alone, is level", "what", "figure", "a node restarted alone.*", "5 s"),
 )
 
 
@@ -67,6 +74,7 @@ def number_in(text):
 
 
 def row_of(tables, goal):
+    """The row of a goal that isn't reached."""
     name, first, column, pattern, wanted = goal
     found = sorted(figures(tables, first, column, pattern), key=number_in)
     if not found:
@@ -75,7 +83,7 @@ def row_of(tables, goal):
     told = found[0] if len(found) == 1 else f"{found[0]} to {found[-1]}"
     least = wanted.startswith("at least")
     is_reached = number_in(found[0]) >= number_in(wanted) if least else number_in(found[-1]) <= number_in(wanted)
-    return f"| {name} | {told} | {wanted} | {'yes' if is_reached else 'no'} |"
+    return None if is_reached else f"| {name} | {told} | {wanted} |"
 
 
 def main(words):
@@ -84,7 +92,8 @@ def main(words):
     before, _, rest = text.partition(BEGIN)
     _, _, behind = rest.partition(END)
     tables = tables_of(behind)
-    rows = ["", "| what | figure | goal | reached |", "|---|---|---|---|", *(row_of(tables, it) for it in GOALS), ""]
+    missed = filter(None, (row_of(tables, it) for it in GOALS))
+    rows = ["", "| what | figure | goal |", "|---|---|---|", *missed, ""]
     made = before + BEGIN + "\n".join([*rows, ""]) + END + behind
     if words == ["--check"]:
         sys.exit(made != text)

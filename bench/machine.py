@@ -22,10 +22,10 @@ def name_of_run(program):
         commit += " with changes"
     with open("/proc/cpuinfo", encoding="utf-8", errors="replace") as it:
         model = re.search(r"model name\s*: (.*)", it.read())
-    processor = " ".join(model[1].split()) if model else "unknown"
+    processor = re.sub(r"\(R\)|\(TM\)|\b(Processor|CPU)\b", "", model[1]) if model else "unknown"
     busy, processors = os.getloadavg()[0], len(os.sched_getaffinity(0))
-    return (f"Run: {time.strftime('%Y-%m-%d')}, {commit}, {os.path.basename(program)}, {processors} processors ({processor}), "
-            f"of which {busy:.1f} were at work before.")
+    return (f"Run: {time.strftime('%Y-%m-%d')}, {commit}, {os.path.basename(program)}, {processors} processors "
+            f"({' '.join(processor.split())}), {busy:.1f} busy before.")
 
 
 def table(heads, rows):

@@ -16,7 +16,7 @@ its resident memory. In the end the pages and markers of all nodes are equal and
 while heard each message that the server said to the first node, once and in order.
 
 It prints the table of docs/PERFORMANCE.md. The status is 1 where something is otherwise. PROGRAM has the environment that
-examples/bnc.service gives it.
+examples/bnc.service gives it, but for what is set already: MALLOC_ARENA_MAX=1 measures with one heap.
 """
 import collections
 import random
