@@ -30,34 +30,12 @@ import tempfile
 import time
 
 from machine import name_of_run, table
+from nodes import SECRET, configuration, unit_environment
 
-SECRET = "s3cret"
 # where the network's server listens for each bouncer, and where the bouncer does
 SERVER_PORTS = {"bnc": 16700, "znc": 16710}
 BOUNCER_PORTS = {"bnc": 16667, "znc": 16677}
-
-BNC = """name = "bnc.example"
-node = "n1"
-listen = "127.0.0.1:{bouncer}"
-peer_listen = "127.0.0.1:17000"
-peer_word = "green"
-workers = {workers}
-places = 4096
-bound = 1048576
-retain_days = 0
-
-[[account]]
-name = "demo"
-secret = "{secret}"
-
-[[network]]
-account = "demo"
-name = "net"
-address = "127.0.0.1:{server}"
-nick = "al"
-user = "al"
-channels = ["#a"]
-"""
+PEER_PORT = 17000
 
 ZNC = """Version = 1.8.2
 AnonIPLimit = 5000
@@ -100,14 +78,6 @@ ProtectWebSessions = true
 """
 
 
-def unit_environment():
-    """The environment that the unit of systemd gives `bnc`."""
-    unit = os.path.join(os.path.dirname(os.path.realpath(__file__)), "..", "examples", "bnc.service")
-    with open(unit) as file:
-        words = [line.strip().removeprefix("Environment=") for line in file if line.startswith("Environment=")]
-    return dict(word.split("=", 1) for word in words)
-
-
 class Bouncer:
     """The bouncer under measure, as a process."""
 
@@ -124,7 +94,7 @@ class Bouncer:
         environment = {**os.environ, **unit, **dict(environment)}
         if kind == "bnc":
             path = os.path.join(self.home, "one.toml")
-            text = BNC.format(bouncer=self.port, server=self.server_port, secret=SECRET, workers=workers)
+            text = configuration("n1", "al", self.port, PEER_PORT, f"127.0.0.1:{self.server_port}", workers)
             command = [program, "serve", path]
         else:
             path = os.path.join(self.home, "configs", "znc.conf")

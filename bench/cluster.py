@@ -11,36 +11,9 @@ import tempfile
 import threading
 import time
 
-from beside_znc import unit_environment
+from nodes import SECRET, WORD, configuration, unit_environment
 
-SECRET, WORD, BODY = "s3cret", "green", "x" * 40
-CONFIGURATION = """name = "bnc.example"
-node = "{name}"
-listen = "127.0.0.1:{clients}"
-peer_listen = "127.0.0.1:{peers}"
-peer_word = "{word}"
-workers = 2
-places = 4096
-bound = 1048576
-retain_days = 0
-
-[[account]]
-name = "demo"
-secret = "{secret}"
-
-[[network]]
-account = "demo"
-name = "net"
-address = "127.0.0.1:{server}"
-nick = "{nick}"
-user = "al"
-channels = ["#a"]
-"""
-PEER = """
-[[peer]]
-name = "{name}"
-address = "127.0.0.1:{port}"
-"""
+BODY = "x" * 40
 LOGIN = "CAP REQ :batch server-time message-tags draft/chathistory draft/read-marker\r\nPASS {}\r\nNICK al\r\n" \
     "USER demo/net 0 * :al\r\nCAP END\r\n"
 
@@ -80,10 +53,9 @@ class Node:
 
     def write(self):
         """Writes the configuration. The peers are known by then, with the ports at which they are reached."""
-        text = CONFIGURATION.format(name=self.name, nick=self.nick, clients=self.clients, peers=self.peers, word=WORD,
-                                    secret=SECRET, server=self.server)
+        text = configuration(self.name, self.nick, self.clients, self.peers, f"127.0.0.1:{self.server}", known=self.known)
         with open(self.path, "w", encoding="utf-8") as file:
-            file.write(text + "".join(PEER.format(name=name, port=port) for name, port in self.known))
+            file.write(text)
 
     def start(self):
         with open(self.told, "ab") as log:

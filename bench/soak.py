@@ -19,6 +19,7 @@ It prints the table of docs/PERFORMANCE.md. The status is 1 where something is o
 examples/bnc.service gives it, but for what is set already: MALLOC_ARENA_MAX=1 measures with one heap.
 """
 import collections
+import os
 import random
 import re
 import socket
@@ -26,7 +27,10 @@ import sys
 import threading
 import time
 
+sys.path.insert(1, os.path.join(os.path.dirname(os.path.dirname(os.path.realpath(__file__))), "tests"))
+
 from cluster import BODY, SECRET, WORD, Cluster, Session, connected, waits
+from harness.beside import Beside
 from machine import name_of_run, table
 
 # How many messages are said in a second, and how many strangers come to each port of a node.
@@ -44,36 +48,16 @@ GIVEN_UP = 330
 WRONG = "wr0ng"
 
 
-class Run:
+class Run(Beside):
     """What goes on until it is over, and what came of it."""
 
     def __init__(self, cluster, seconds, clients):
+        super().__init__()
         self.cluster, self.clients, self.seconds = cluster, clients, seconds
-        self.count = min(MOST, max(200, seconds * PACE // 5))
-        self.until = time.monotonic() + seconds
-        self.works, self.lock = threading.Event(), threading.Lock()
+        self.messages = min(MOST, max(200, seconds * PACE // 5))
+        self.until, self.said = time.monotonic() + seconds, 0
+        self.works = threading.Event()
         self.works.set()
-        self.is_over, self.counts, self.why, self.said = False, collections.Counter(), [], 0
-        self.threads = []
-
-    def begin(self, call, *given):
-        thread = threading.Thread(target=self.guarded, args=(call, *given), daemon=True)
-        self.threads.append(thread)
-        thread.start()
-
-    def guarded(self, call, *given):
-        try:
-            call(self, *given)
-        except Exception as failure:
-            self.fail(f"{call.__name__}: {type(failure).__name__}: {failure}")
-
-    def add(self, *what):
-        with self.lock:
-            self.counts[what] += 1
-
-    def fail(self, why):
-        with self.lock:
-            self.why.append(why)
 
     def goes_on(self):
         return not self.is_over and time.monotonic() < self.until
@@ -105,7 +89,7 @@ def message(number, count):
 def speak(run):
     """The server says one message after another, while the first node hears it."""
     while run.goes_on():
-        if run.cluster.network.say(message(run.said, run.count), run.cluster.nodes[0].nick):
+        if run.cluster.network.say(message(run.said, run.messages), run.cluster.nodes[0].nick):
             run.said += 1
         time.sleep(1 / PACE)
 
@@ -139,7 +123,7 @@ class Listener:
             for line in lines:
                 found = re.match(r"@msgid=(\w+);time=\S+ :bob!bob@host PRIVMSG #a :(\d+) x+$", line)
                 if found:
-                    wanted = id_of(self.heard, run.count)
+                    wanted = id_of(self.heard, run.messages)
                     if found[1] != wanted or found[1] != f"m{found[2]}":
                         raise ValueError(f"heard {line[:60]}, and not {wanted}")
                     self.heard += 1
@@ -198,7 +182,7 @@ def visitor(run):
             end = visit(run, node, kind)
         except OSError:
             end = "not let in"
-        run.add("visits", kind, end, node.name)
+        run.count(("visits", kind, end, node.name))
         run.pause(random.random())
 
 
@@ -211,9 +195,9 @@ def strangers(run, port):
                 kept.append(connected(port))
                 if random.random() < 0.2:
                     kept[-1].sendall(random.randbytes(100))
-                run.add("strangers")
+                run.count(("strangers",))
             except OSError:
-                run.add("strangers that weren't let in")
+                run.count(("strangers that weren't let in",))
         while len(kept) > (KEPT if run.works.is_set() else 0):
             kept.popleft().close()
         time.sleep(1 / RATE)
@@ -229,7 +213,7 @@ def restarts(run):
         node.kill()
         run.pause(random.uniform(1, min(20, run.seconds / 20)))
         node.start()
-        run.add("restarts")
+        run.count(("restarts",))
 
 
 def cuts(run):
@@ -241,12 +225,12 @@ def cuts(run):
             link.hold_up()
             run.pause(min(20, run.seconds / 10))
         link.go_on() if kind == "held up" else link.cut()
-        run.add("links", kind)
+        run.count(("links", kind))
         if turn == 10 and run.until - time.monotonic() > 2 * GIVEN_UP:
             link.hold_up()
             run.pause(GIVEN_UP)
             link.cut()
-            run.add("links", "held up until they were given up")
+            run.count(("links", "held up until they were given up"))
 
 
 def closes(run):
@@ -255,7 +239,7 @@ def closes(run):
         run.cluster.network.close()
         run.pause(random.uniform(1, min(20, run.seconds / 20)))
         run.cluster.network.open()
-        run.add("times that the server went away")
+        run.count(("times that the server went away",))
 
 
 def at_rest(run):
@@ -287,7 +271,7 @@ def whole_past(node):
 
 def whole_pasts(run):
     """Whether all nodes have each message once and the same marker."""
-    wanted, pasts = [id_of(number, run.count) for number in range(min(run.count, run.said))], []
+    wanted, pasts = [id_of(number, run.messages) for number in range(min(run.messages, run.said))], []
     for node in run.cluster.nodes:
         try:
             pasts.append(whole_past(node))
@@ -341,7 +325,7 @@ def tell(head, run, rows):
         ("seconds, clients at once", f"{run.seconds:,}, {run.clients:,}"),
         ("visits", f"{sum(visits.values()):,}: " + ", ".join(f"{count:,} {end}" for end, count in ends.items())),
         *((name, f"{count:,}") for name, count in sorted(others.items())),
-        ("messages that the server said, and different ones", f"{run.said:,}, {min(run.count, run.said):,}"),
+        ("messages that the server said, and different ones", f"{run.said:,}, {min(run.messages, run.said):,}"),
         *rows,
     )
     print(f"{head}\n\n{table(('', ''), rows)}")

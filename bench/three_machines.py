@@ -19,43 +19,17 @@ import tempfile
 import time
 
 from machine import name_of_run, table
+from nodes import SECRET, configuration
 
 HERE = os.path.dirname(os.path.dirname(os.path.abspath(__file__)))
 PROGRAM = os.path.join(HERE, "crates", "bnc", "out", "bnc")
 NAMES, NETWORK, PHONE = ("n1", "n2", "n3"), "network", "phone"
 ADDRESSES = {"n1": "10.99.0.1", "n2": "10.99.0.2", "n3": "10.99.0.3", NETWORK: "10.99.0.10", PHONE: "10.99.0.20"}
 CLIENTS = ("WeeChat", "irssi")
-SECRET, WORD, BRIDGE = "a-secret-of-this-trial", "a-word-of-this-trial", "bnctrial"
+BRIDGE = "bnctrial"
 # So long somebody speaks after the client has moved (the scripts ask once a minute), and at such a pace.
 AFTERWARDS, PAUSE = 75, 0.5
 
-CONFIGURATION = """name = "bnc.example"
-node = "{name}"
-listen = "127.0.0.1:6670"
-peer_listen = "127.0.0.1:7000"
-peer_word = "{word}"
-workers = 2
-places = 64
-bound = 65536
-retain_days = 0
-{peers}
-[[account]]
-name = "demo"
-secret = "{secret}"
-
-[[network]]
-account = "demo"
-name = "net"
-address = "{server}"
-nick = "{nick}"
-user = "al"
-channels = ["#a"]
-"""
-PEER = """
-[[peer]]
-name = "{name}"
-address = "127.0.0.1:710{number}"
-"""
 WAY = """
 [{name}]
 client = yes
@@ -297,10 +271,9 @@ class Trial:
         self.machines.start(name, self.path(name), "door.log", sys.executable, "-B", f"{self.top}/companions/bnc-door", "door.toml")
 
     def begin_node(self, name):
-        peers = "".join(PEER.format(name=it, number=it[1:]) for it in NAMES if it != name)
+        peers = [(it, 7100 + int(it[1:])) for it in NAMES if it != name]
         server, nick = ("127.0.0.1:6700", "al") if self.has_doors else ("10.99.0.10:6667", f"al{name[1:]}")
-        write(self.path(name, "bnc.toml"), CONFIGURATION.format(name=name, word=WORD, secret=SECRET, peers=peers, server=server,
-                                                                nick=nick))
+        write(self.path(name, "bnc.toml"), configuration(name, nick, 6670, 7000, server, places=64, bound=65536, known=peers))
         self.nodes[name] = self.machines.start(name, self.path(name), "log", self.program, "serve", "bnc.toml")
         wait(f"{name} listens", lambda: " listening: " in self.log(name))
 

@@ -7,9 +7,9 @@ import os
 import re
 import socket
 import struct
-import threading
 import time
 
+from harness.beside import Beside
 from harness.client import greeting, login
 from harness.failure import Failed, shortened
 from harness.identities import SECRETS, identity_of
@@ -46,29 +46,12 @@ class Rate:
         return struct.unpack("=QQ", self.map[8:])
 
 
-class Work:
-    """What goes on beside the node until it is over. Why one of them failed is kept."""
+class Work(Beside):
+    """What goes on beside the node until it is over."""
 
     def __init__(self, fixture, node):
+        super().__init__()
         self.fixture, self.node = fixture, node
-        self.is_over, self.why, self.lock = False, [], threading.Lock()
-        self.counts = {}
-        self.threads = []
-
-    def begin(self, call, *given):
-        thread = threading.Thread(target=self.guarded, args=(call, *given), daemon=True)
-        self.threads.append(thread)
-        thread.start()
-
-    def guarded(self, call, *given):
-        try:
-            call(self, *given)
-        except Exception as failure:
-            self.why.append(f"{call.__name__}: {type(failure).__name__}: {failure}")
-
-    def count(self, what):
-        with self.lock:
-            self.counts[what] = self.counts.get(what, 0) + 1
 
     def end(self):
         self.is_over = True
