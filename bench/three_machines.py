@@ -318,8 +318,9 @@ class Trial:
         moved = time.monotonic() - begun
         wait("it shows what is said", lambda: max(self.shown()) > last + 1)
         shows = time.monotonic() - begun
+        spoken = int(text_of(self.path("spoken")).split()[-1])
+        # (a node whose own session is still down shows what others hear once a minute)
         time.sleep(AFTERWARDS)
-        spoken = int(text_of(self.path("spoken")).split()[-1]) - int(5 / PAUSE)
         shown = self.shown()
         missing = [it for it in range(min(shown), spoken) if it not in shown]
         return moved, shows, len(missing), len(shown) - len(set(shown))

@@ -10,12 +10,13 @@ class Told:
     fixture = name = process = None
 
     def log(self):
-        """The lines that it has told the operator."""
+        """The lines that it has told the operator. What has no end yet is none."""
         try:
             with open(self.fixture.path(f"{self.name}.log"), "rb") as log:
-                return text_of(log.read()).splitlines()
+                data = log.read()
         except FileNotFoundError:
             return []
+        return text_of(data[:data.rfind(b"\n") + 1]).splitlines()
 
     def forget_log(self):
         """Forgets what was told so far, as before another start."""

@@ -277,6 +277,7 @@ def a_redaction_before_the_start_is_not_forgotten(fixture):
     keeper.write(["L 0keep 5"], posts(1, 2), [REDACTION.format(2)])
     keeper.begin()
     played = node.meet()
+    keeper.wait_for("peer greeted: ")
     file_is_rewritten(clocks, keeper, MINUTE - 2)
     expect("where the text is", [], keeper.holds(":hi 2"))
     expect("where the other is", ["history"], keeper.holds(":hi 1"))
@@ -450,8 +451,9 @@ def a_peer_of_another_cluster(fixture):
 def a_hello_each_minute(fixture):
     """To a peer to which nothing else was said."""
     clocks, node = Clocks(fixture), PlayedNode(fixture)
-    Keeper(fixture, [node.peer], front=clocks.front).begin()
+    keeper = Keeper(fixture, [node.peer], front=clocks.front).begin()
     played = node.meet()
+    keeper.wait_for("peer greeted: ")
     for _ in range(2):
         clocks.skip(MINUTE)
         played.hear(f"H 3 {played.other}")

@@ -271,6 +271,7 @@ class Kept:
         self.acknowledged, self.life, self.disk = [], 0, Disk(self.fixture, clocks, **variables)
         self.keeper.front = self.disk.front
         self.keeper.forget_log()
+        self.node.forget()
         self.keeper.start()
 
     def is_over(self, event):
@@ -383,6 +384,7 @@ def each_call_by_which_it_is_written_anew_is_refused_in_turn(fixture):
         it.begin(clocks, FAILS=number)
         it.keeper.wait_for("read: ")
         played = it.node.meet()
+        it.keeper.wait_for("peer greeted: ")
         clocks.skip(SOON)
         it.fixture.until("it is told", lambda: any(map(it.keeper.told, ("rewritten: ", "not rewritten: ", "not kept: "))))
         is_let_go, is_through = it.keeper.told("not kept: "), it.keeper.told("rewritten: ")
@@ -390,8 +392,6 @@ def each_call_by_which_it_is_written_anew_is_refused_in_turn(fixture):
             it.keeper.kill()
             expect("whether calls were looked at", True, number > begun + 5)
             return
-        # (a node that says nothing for two minutes is hung up on)
-        played.say(played.hello())
         clocks.skip(SOON + 3)
         if is_let_go:
             it.keeper.wait_for("file open again: ")
