@@ -94,7 +94,7 @@ def a_server_that_is_not_there_said_nothing(fixture):
 @test
 def a_server_to_which_the_system_makes_no_connection(fixture):
     """Since no descriptor is left: a node with two workers takes ten, with the three standard ones, before it dials."""
-    node = Node(fixture, servers=[NOBODY], front=["sh", "-c", 'ulimit -n 10; exec "$@"', "sh"]).begin()
+    node = Node(fixture, servers=[NOBODY], workers=2, front=["sh", "-c", 'ulimit -n 10; exec "$@"', "sh"]).begin()
     is_told(fixture, node, f"upstream down: demo/net: it could not be reached at {spelled(NOBODY)}: too many open files")
 
 
