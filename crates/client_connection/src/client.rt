@@ -42,13 +42,13 @@ impl<X: Attachment, C: Connection> Client<X, C> {
         let Ok(told) = Text::new(view.alloc, b"*") else {
             return Err(connection);
         };
-        let Ok(session) = Session::new(view.alloc, view.cluster.as_bytes(), view.maximum) else {
+        let Ok(cluster) = view.cluster.try_clone(view.alloc) else {
             return Err(connection);
         };
         Ok(Client {
             connection: AttachedConnection::new(view.alloc, connection, attachment),
             input: Input::new(view.alloc),
-            session,
+            session: Session::new(view.alloc, cluster, view.maximum),
             effects: Vec::new(view.alloc),
             done: 0,
             told,

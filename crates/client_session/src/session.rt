@@ -71,23 +71,21 @@ impl Session {
     ghost use Rattle.client_session.specs.declared.stage.Stage.TheVariants.{Registered};
 
     /// A session that waits for its registration, at the cluster of that name, which answers with so many messages at
-    /// most.
-    pub fn new(alloc: Global, cluster: &[u8], maximum: u32) -> Result<Session, NoMemory>
-        ensures { IfOk result (λ session. session ≡ spec.new cluster.now maximum) }
+    /// most. It takes no memory.
+    pub fn new(alloc: Global, cluster: Text, maximum: u32) -> Session
+        ensures { result ≡ spec.new cluster maximum }
     {
-        let cluster = Text::new(alloc, cluster)?;
-        let password = Text::new(alloc, b"")?;
-        Ok(Session {
+        Session {
             stage: Stage::Waiting(Waiting {
                 cluster,
                 maximum,
                 negotiation: Negotiation::new(),
-                password,
+                password: Text::of(Vec::new(alloc)),
                 has_nick: false,
                 user: None,
             }),
             scratch: Scratch::none(),
-        })
+        }
     }
 
     /// A session that is registered, with these facts.

@@ -90,13 +90,19 @@ fn directory_of(alloc: Global, word: &str) -> Result<Directory, Error> {
     Ok(directory)
 }
 
+// A session that hasn't registered yet, of a node that answers with so many messages at most.
+fn newcomer(alloc: Global, maximum: u32) -> Result<Session, NoMemory> {
+    let cluster = Text::new(alloc, b"~")?;
+    Ok(Session::new(alloc, cluster, maximum))
+}
+
 fn session_of(alloc: Global, word: &str) -> Result<Session, NoMemory> {
     let (caps, reference) = match word {
         "member" => (CapSet::all(), 1),
         "last" => (CapSet::all(), u32::MAX),
         "bare" => (CapSet::none(), 1),
-        "wide" => return Session::new(alloc, b"~", 1000),
-        _ => return Session::new(alloc, b"~", 100),
+        "wide" => return newcomer(alloc, 1000),
+        _ => return newcomer(alloc, 100),
     };
     let mut facts = Facts::new(alloc, b"demo", b"net", b"al", caps, b"~", 100)?;
     facts.reference = reference;
