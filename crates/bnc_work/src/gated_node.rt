@@ -9,14 +9,14 @@ use byte_text::NoMemory;
 use chat_change::{Buffer, Change, Moment};
 use chat_history::DeltaFault;
 use gossip_link::Outcome;
-use shared_node::{Naming, NodeTaker, Pass, PutFault};
+use shared_node::{Ends, Naming, NodeTaker, Pass, PutFault};
 use std::sync::Wait;
 use work_peers::Peers;
 use worker_io::{Context, NodeView};
 
 /// A node that many workers share, and the gate that is asked before each of their answers.
 #[derive(Drop)]
-pub(crate) struct GatedNode<'a, J: Naming, R: Wait + Drop, W: Wait, G: Gate> {
+pub(crate) struct GatedNode<'a, J: Naming, R: Ends, W: Wait, G: Gate> {
     pub(crate) taker: NodeTaker<'a, J, R, W>,
     pub(crate) gate: &'a G,
 }
@@ -32,9 +32,9 @@ fn count_of(fault: PutFault, all: usize) -> usize
     }
 }
 
-impl<'a, J: Naming, R: Wait + Drop, W: Wait, G: Gate> Wait for GatedNode<'a, J, R, W, G> {}
+impl<'a, J: Naming, R: Ends, W: Wait, G: Gate> Wait for GatedNode<'a, J, R, W, G> {}
 
-impl<'a, J: Naming, R: Wait + Drop, W: Wait, G: Gate> Node for GatedNode<'a, J, R, W, G> {
+impl<'a, J: Naming, R: Ends, W: Wait, G: Gate> Node for GatedNode<'a, J, R, W, G> {
     ghost holds = { λ n start list. (start ≡ 0) × (list ≡ changes_in n.taker.pass.list) };
 
     ghost may_add = { λ _ _. Unit {0} };

@@ -3,7 +3,7 @@ use crate::work_port::WorkPort;
 use crate::worker::try_work;
 use bnc_ports::{Carries, Gate, StartFault, each_in_a_thread};
 use client_places::Attachment;
-use shared_node::{Naming, Pass, SharedNode};
+use shared_node::{Ends, Naming, Pass, SharedNode};
 use std::sync::Wait;
 use std::thread::Threads;
 use work_clients::ToClient;
@@ -21,7 +21,7 @@ pub fn work_all<J, R, W, X, P, G>(
 ) -> Result<Vec<WorkEnd>, StartFault>
 where
     J: Naming + Send + Sync,
-    R: Wait + Drop + Send + Sync,
+    R: Ends + Send + Sync,
     W: Threads + Wait + AllocGlobal + Sync,
     X: Attachment + Send,
     P: WorkPort + Send,

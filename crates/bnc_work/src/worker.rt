@@ -15,7 +15,7 @@ use client_places::Attachment;
 use cluster_directory::NodeName;
 use network_session::{is_another_behind, keep_entry};
 use passed_lines::Mail;
-use shared_node::{Naming, NodeTaker, Pass, SharedNode};
+use shared_node::{Ends, Naming, NodeTaker, Pass, SharedNode};
 use std::sync::Wait;
 use work_clients::Clients;
 use work_peers::Peers;
@@ -40,7 +40,7 @@ const PAUSE: u64 = 1;
 /// It serves clients that connect, in sessions of their own; the servers of its networks, to which it connects; worker 0,
 /// the node's peers; and what other workers tell it. Only what `pass` is asked, the sessions' lines and the messages of
 /// servers are written to clients.
-pub fn work<J: Naming, R: Wait + Drop, W: Wait + AllocGlobal, X: Attachment, P: WorkPort, G: Gate>(
+pub fn work<J: Naming, R: Ends, W: Wait + AllocGlobal, X: Attachment, P: WorkPort, G: Gate>(
     rt: &W,
     worker: usize,
     node: &SharedNode<J, R>,
@@ -58,7 +58,7 @@ pub fn work<J: Naming, R: Wait + Drop, W: Wait + AllocGlobal, X: Attachment, P: 
 /// Serves as [`work`] does, and tells where there is no memory to begin.
 pub(crate) fn try_work<
     J: Naming,
-    R: Wait + Drop,
+    R: Ends,
     W: Wait + AllocGlobal,
     X: Attachment,
     P: WorkPort,

@@ -8,7 +8,7 @@ use bnc_sockets::{Log, now_ms};
 use byte_text::NoMemory;
 use chat_change::{Account, Change, Moment};
 use node_config::AccountConfig;
-use shared_node::{Naming, Pass, SharedNode};
+use shared_node::{Ends, Naming, Pass, SharedNode};
 use std::alloc::Global;
 use std::sync::Wait;
 use std::time::Clock;
@@ -51,7 +51,7 @@ pub(crate) fn floors_of(alloc: Global, accounts: &[AccountConfig]) -> Result<Vec
 }
 
 /// Puts floors of accounts through a pass, and tells the operator of each.
-pub(crate) fn put_floors<J: Naming, R: Wait + Drop, W: Wait + Clock>(
+pub(crate) fn put_floors<J: Naming, R: Ends, W: Wait + Clock>(
     rt: &W,
     log: &Log,
     node: &SharedNode<J, R>,

@@ -13,8 +13,38 @@ use std::marker::Model;
 use std::sync::Wait;
 use std::sync::ledger::{Book, Share};
 
+/// What is ended by a handle that waits.
+pub trait Ending {
+    /// Ends it.
+    fn end_by<W: Wait>(self, rt: &W);
+}
+
+/// A handle by which a node ends. Its end takes back what was published, and so waits until no reader is there.
+pub trait Ends: Drop {
+    /// Ends the last part of the node.
+    fn end<E: Ending>(&self, last: E);
+}
+
+impl<'a, R: Wait> Ends for &'a R {
+    fn end<E: Ending>(&self, last: E) {
+        last.end_by(*self);
+    }
+}
+
+// The log of a node that ends. An impl whose method named the log itself would get no proof.
+struct LastLog<J: Naming> {
+    log: LogWriter<J>,
+}
+
+impl<J: Naming> Ending for LastLog<J> {
+    fn end_by<W: Wait>(self, rt: &W) {
+        let LastLog { log } = self;
+        log.end(rt);
+    }
+}
+
 /// What stands under the lock of a node. Contracts see it as the published list, and the list of what waits behind it.
-pub struct WritingHalf<J: Naming, R: Wait + Drop> {
+pub struct WritingHalf<J: Naming, R: Ends> {
     pub(crate) log: LogWriter<J>,
     rt: R,
     pub(crate) tally: Book<J>,
@@ -23,7 +53,7 @@ pub struct WritingHalf<J: Naming, R: Wait + Drop> {
     passes: usize,
 }
 
-impl<J: Naming, R: Wait + Drop> Model for WritingHalf<J, R> {
+impl<J: Naming, R: Ends> Model for WritingHalf<J, R> {
     ghost use Rattle.std.specs.Prelude.{◌≡◌};
     ghost use Rattle.change_log.specs.Log.{LogValue, total};
 
@@ -35,7 +65,7 @@ impl<J: Naming, R: Wait + Drop> Model for WritingHalf<J, R> {
         × (h.passes ≡ J.parts) };
 }
 
-impl<J: Naming, R: Wait + Drop> Drop for WritingHalf<J, R> {
+impl<J: Naming, R: Ends> Drop for WritingHalf<J, R> {
     fn drop(self) {
         let Self {
             log,
@@ -44,7 +74,7 @@ impl<J: Naming, R: Wait + Drop> Drop for WritingHalf<J, R> {
             spare: _spare,
             passes: _,
         } = self;
-        log.end(&rt);
+        rt.end(LastLog { log });
     }
 }
 
@@ -61,7 +91,27 @@ fn count_put<J: Naming>(tally: &mut Book<J>, pass: &mut Pass<J>, more: u64)
     pass.count += more;
 }
 
-impl<J: Naming, R: Wait + Drop> WritingHalf<J, R> {
+impl<J: Naming, R: Ends> WritingHalf<J, R> {
+    pub(crate) fn new(
+        log: LogWriter<J>,
+        rt: R,
+        tally: Book<J>,
+        spare: Share<J>,
+        passes: usize,
+    ) -> WritingHalf<J, R>
+        requires nothing { (log ≡ log_value [] []) × (tally.total ≡ 0) }
+        requires parts { (spare.parts ≡ 0) × (passes ≡ J.parts) }
+        ensures { result ≡ log_value [] [] }
+    {
+        WritingHalf {
+            log,
+            rt,
+            tally,
+            spare,
+            passes,
+        }
+    }
+
     /// How many changes were put: the length of the published list and of what waits.
     pub fn total(&self) -> u64
         ensures { result ≡ total self.now }
@@ -75,13 +125,14 @@ impl<J: Naming, R: Wait + Drop> WritingHalf<J, R> {
         self.passes
     }
 
-    /// Puts the changes behind all that waits, and publishes.
+    /// Puts the changes behind all that waits, and publishes. The handle waits for readers.
     ///
     /// Fails with [`PutFault::Exhausted`], checked first, where the count of all changes put would pass
     /// 18446744073709551615; with [`PutFault::NoMemory`] where the first `appended` changes wait, and the published list
     /// is as it was; with [`PutFault::Waiting`] where all changes wait.
-    pub fn put_now(
+    pub fn put_now<W: Wait>(
         &mut self,
+        rt: &W,
         pass: &mut Pass<J>,
         changes: &[Change],
     ) -> Result<Receipt<J>, PutFault>
@@ -110,32 +161,12 @@ impl<J: Naming, R: Wait + Drop> WritingHalf<J, R> {
         if appended < changes.len() {
             return Err(PutFault::NoMemory { appended });
         }
-        if !self.log.publish(&self.rt) {
+        if !self.log.publish(rt) {
             return Err(PutFault::Waiting);
         }
         pass.list = self.log.list().again();
         Ok(Receipt {
             list: self.log.list().again(),
         })
-    }
-
-    pub(crate) fn new(
-        log: LogWriter<J>,
-        rt: R,
-        tally: Book<J>,
-        spare: Share<J>,
-        passes: usize,
-    ) -> WritingHalf<J, R>
-        requires nothing { (log ≡ log_value [] []) × (tally.total ≡ 0) }
-        requires parts { (spare.parts ≡ 0) × (passes ≡ J.parts) }
-        ensures { result ≡ log_value [] [] }
-    {
-        WritingHalf {
-            log,
-            rt,
-            tally,
-            spare,
-            passes,
-        }
     }
 }

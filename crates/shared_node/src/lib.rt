@@ -23,6 +23,7 @@ mod seats;
 pub use change_log::{LogEntry, Naming, Unnamed};
 pub use chat_batch::AskFault;
 pub use faults::{NodeFault, PutFault};
+pub use half::{Ending, Ends};
 pub use node::{MOST_PASSES, SharedNode};
 pub use node_taker::NodeTaker;
 pub use pass::{Pass, Receipt};

@@ -8,7 +8,7 @@ ghost use Rattle.shared_node.specs.Passes.{FollowsAll, IsBadCount, newcomers};
 ghost use Rattle.shared_node.specs.Puts.{appended_of};
 
 use crate::faults::{NodeFault, PutFault};
-use crate::half::WritingHalf;
+use crate::half::{Ends, WritingHalf};
 use crate::pass::{Pass, Receipt};
 use change_log::{LogWriter, Naming, Unnamed};
 use chat_change::Change;
@@ -20,13 +20,13 @@ pub const MOST_PASSES: usize = 64;
 
 /// A node that many threads share: what is under its lock puts, and its passes read without the lock.
 #[derive(Drop)]
-pub struct SharedNode<J: Naming, R: Wait + Drop> {
+pub struct SharedNode<J: Naming, R: Ends> {
     half: Mutex<WritingHalf<J, R>>,
 }
 
-impl<J: Naming, R: Wait + Drop> SharedNode<J, R> {
+impl<J: Naming, R: Ends> SharedNode<J, R> {
     /// A node of the name, with the passes that it was made for, 1 to [`MOST_PASSES`]. Nothing was put, and no pass has
-    /// seen or was told of anything. The handle waits for readers where a put publishes.
+    /// seen or was told of anything. By the handle the node ends ([`Ends`]).
     pub fn new(
         alloc: Global,
         rt: R,
@@ -70,7 +70,7 @@ impl<J: Naming, R: Wait + Drop> SharedNode<J, R> {
         ensures refused { OnErr result (pass.new.list ≡ pass.old.list) }
         ensures same { (pass.new.number ≡ pass.old.number) × (pass.new.told ≡ pass.old.told) }
     {
-        self.half.lock(rt).put_now(pass, changes)
+        self.half.lock(rt).put_now(rt, pass, changes)
     }
 
     /// Takes the writing half out of the lock, where all passes of the node are there. Node and passes come back where one

@@ -5,6 +5,7 @@ ghost use Rattle.shared_node.specs.Passes.{FollowsAll};
 ghost use Rattle.shared_node.specs.Puts.{appended_of};
 
 use crate::faults::PutFault;
+use crate::half::Ends;
 use crate::node::SharedNode;
 use crate::pass::{Pass, Receipt};
 use change_log::Naming;
@@ -15,19 +16,28 @@ use std::sync::Wait;
 
 /// A node, and the pass by which it takes changes.
 #[derive(Drop)]
-pub struct NodeTaker<'a, J: Naming, R: Wait + Drop, W: Wait> {
+pub struct NodeTaker<'a, J: Naming, R: Ends, W> {
     node: &'a SharedNode<J, R>,
     pub pass: Pass<J>,
     rt: &'a W,
 }
 
-impl<'a, J: Naming, R: Wait + Drop, W: Wait> NodeTaker<'a, J, R, W> {
+impl<'a, J: Naming, R: Ends, W> NodeTaker<'a, J, R, W> {
     pub fn new(node: &'a SharedNode<J, R>, pass: Pass<J>, rt: &'a W) -> NodeTaker<'a, J, R, W>
         ensures { result.pass ≡ pass }
     {
         NodeTaker { node, pass, rt }
     }
 
+    /// The pass, with what it has seen and put.
+    pub fn into_pass(self) -> Pass<J>
+        ensures { result ≡ self.entry.pass }
+    {
+        self.pass
+    }
+}
+
+impl<'a, J: Naming, R: Ends, W: Wait> NodeTaker<'a, J, R, W> {
     /// Puts the changes by the pass ([`SharedNode::put`]).
     pub fn put(&mut self, changes: &[Change]) -> Result<Receipt<J>, PutFault>
         ensures receipt { IfOk result (λ r. (before : _) × FollowsAll self.old.pass before
@@ -42,16 +52,9 @@ impl<'a, J: Naming, R: Wait + Drop, W: Wait> NodeTaker<'a, J, R, W> {
     {
         self.node.put(self.rt, &mut self.pass, changes)
     }
-
-    /// The pass, with what it has seen and put.
-    pub fn into_pass(self) -> Pass<J>
-        ensures { result ≡ self.entry.pass }
-    {
-        self.pass
-    }
 }
 
-impl<'a, J: Naming, R: Wait + Drop, W: Wait> Taker for NodeTaker<'a, J, R, W> {
+impl<'a, J: Naming, R: Ends, W: Wait> Taker for NodeTaker<'a, J, R, W> {
     ghost holds = { λ t start list. (start ≡ 0) × (list ≡ changes_in t.pass.list) };
 
     ghost may_add = { λ _ _. Unit {0} };

@@ -5,14 +5,13 @@ ghost use Rattle.shared_node.specs.Passes.{pass_value, newcomers};
 ghost use Rattle.change_log.specs.Log.{total};
 
 use crate::faults::NodeFault;
-use crate::half::WritingHalf;
+use crate::half::{Ends, WritingHalf};
 use crate::pass::Pass;
 use change_log::{Naming, Prefix};
 use std::alloc::Global;
-use std::sync::Wait;
 use std::sync::ledger::{Book, Share};
 
-impl<J: Naming, R: Wait + Drop> WritingHalf<J, R> {
+impl<J: Naming, R: Ends> WritingHalf<J, R> {
     // A pass that has seen this list and put nothing, with a part of the count.
     fn seat(&self, number: u64, list: &Prefix<J>, share: Share<J>) -> Result<Pass<J>, NodeFault>
         requires { (share.parts ≡ 1) × (share.amount ≡ 0) }

@@ -5,7 +5,7 @@ use crate::fault::Fault;
 use chat_batch::Facts;
 use chat_change::Change;
 use shared_node::laws::WritingHalf;
-use shared_node::{Naming, Pass, PutFault, SharedNode};
+use shared_node::{Ends, Naming, Pass, PutFault, SharedNode};
 use std::alloc::Global;
 use std::sync::Wait;
 
@@ -19,20 +19,27 @@ pub trait Target<J: Naming> {
 
 /// A node, with the handle by which a put waits for its lock.
 #[derive(Drop)]
-struct Locked<'a, J: Naming, H: Wait + Drop, W: Wait> {
+struct Locked<'a, J: Naming, H: Ends, W: Wait> {
     node: &'a SharedNode<J, H>,
     rt: &'a W,
 }
 
-impl<J: Naming, H: Wait + Drop, W: Wait> Target<J> for Locked<'_, J, H, W> {
+impl<J: Naming, H: Ends, W: Wait> Target<J> for Locked<'_, J, H, W> {
     fn put(&mut self, pass: &mut Pass<J>, changes: &[Change]) -> Result<(), PutFault> {
         self.node.put(self.rt, pass, changes).map(drop)
     }
 }
 
-impl<J: Naming, H: Wait + Drop> Target<J> for WritingHalf<J, H> {
+/// What stood under the lock of a node, with the handle by which a put waits for readers.
+#[derive(Drop)]
+struct Unlocked<'a, J: Naming, H: Ends, W: Wait> {
+    half: &'a mut WritingHalf<J, H>,
+    rt: &'a W,
+}
+
+impl<J: Naming, H: Ends, W: Wait> Target<J> for Unlocked<'_, J, H, W> {
     fn put(&mut self, pass: &mut Pass<J>, changes: &[Change]) -> Result<(), PutFault> {
-        self.put_now(pass, changes).map(drop)
+        self.half.put_now(self.rt, pass, changes).map(drop)
     }
 }
 
@@ -157,9 +164,9 @@ fn put_all<J: Naming, T: Target<J>>(
     Ok(waited)
 }
 
-/// Puts markers of the first of [`THREE`], so many, at 1, 2 and 3, and sees them. Where the put is refused, the rest is put
-/// afterwards, and it is answered how many waited by then.
-pub fn put_markers<J: Naming, T: Target<J>>(
+// Puts markers of the first of [`THREE`], so many, at 1, 2 and 3, and sees them. Where the put is refused, the rest is put
+// afterwards, and it is answered how many waited by then.
+fn put_markers<J: Naming, T: Target<J>>(
     alloc: Global,
     facts: &Facts,
     target: &mut T,
@@ -170,8 +177,9 @@ pub fn put_markers<J: Naming, T: Target<J>>(
     put_all(alloc, facts, target, pass, &changes)
 }
 
-/// The same on a node.
-pub fn put_markers_on<J: Naming, H: Wait + Drop, W: Wait>(
+/// Puts markers of the first of [`THREE`] on a node, so many, at 1, 2 and 3, and sees them. Where the put is refused, the rest
+/// is put afterwards, and it is answered how many waited by then.
+pub fn put_markers_on<J: Naming, H: Ends, W: Wait>(
     rt: &W,
     node: &SharedNode<J, H>,
     alloc: Global,
@@ -180,6 +188,18 @@ pub fn put_markers_on<J: Naming, H: Wait + Drop, W: Wait>(
     count: usize,
 ) -> Result<Option<usize>, Fault> {
     put_markers(alloc, facts, &mut Locked { node, rt }, pass, count)
+}
+
+/// The same on what stood under the lock of a node.
+pub fn put_markers_on_half<J: Naming, H: Ends, W: Wait>(
+    rt: &W,
+    half: &mut WritingHalf<J, H>,
+    alloc: Global,
+    facts: &Facts,
+    pass: &mut Pass<J>,
+    count: usize,
+) -> Result<Option<usize>, Fault> {
+    put_markers(alloc, facts, &mut Unlocked { half, rt }, pass, count)
 }
 
 // The first markers, so many of them.

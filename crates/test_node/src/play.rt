@@ -3,13 +3,13 @@ ghost use Rattle.change_log.specs.Names.{IsNamed};
 
 use crate::asks::facts;
 use crate::fault::Fault;
-use crate::growth::{REFUSALS, put_markers};
+use crate::growth::{REFUSALS, put_markers_on_half};
 use crate::rows::{LONG, Play, SHORT};
 use crate::steps::Cluster;
 use crate::threads::puts_beside_asks;
 use chat_batch::Facts;
 use shared_node::laws::WritingHalf;
-use shared_node::{Naming, Pass, SharedNode, Unnamed};
+use shared_node::{Ends, Naming, Pass, SharedNode, Unnamed};
 use std::alloc::Global;
 use std::marker::Brand;
 use std::sync::Wait;
@@ -49,7 +49,8 @@ fn close<J: Naming, R: Wait>(node: Node<'_, J, R>, mut passes: Vec<Pass<J>>) -> 
 }
 
 // The first pass puts three markers on what stood under the lock of a node, and it is counted what was put.
-fn put_on_half<J: Naming, H: Wait + Drop>(
+fn put_on_half<J: Naming, H: Ends, W: Wait>(
+    rt: &W,
     alloc: Global,
     facts: &Facts,
     half: &mut WritingHalf<J, H>,
@@ -58,11 +59,12 @@ fn put_on_half<J: Naming, H: Wait + Drop>(
     let Some(pass) = passes.first_mut() else {
         return Err(Fault::NoPass);
     };
-    let _ = put_markers(alloc, facts, half, pass, 3)?;
+    let _ = put_markers_on_half(rt, half, alloc, facts, pass, 3)?;
     Ok(half.total())
 }
 
 fn play_half<J: Naming, R: Wait>(
+    rt: &R,
     alloc: Global,
     facts: &Facts,
     node: Node<'_, J, R>,
@@ -70,7 +72,7 @@ fn play_half<J: Naming, R: Wait>(
 ) -> Result<u64, Fault> {
     match node.close(passes) {
         Ok((mut half, mut passes)) => {
-            put_on_half(alloc, facts, &mut half, passes.as_mut_slice())
+            put_on_half(rt, alloc, facts, &mut half, passes.as_mut_slice())
         }
         Err(_) => Err(Fault::NotClosed),
     }
@@ -94,14 +96,14 @@ fn play_on<J: Naming + Send + Sync, R: Threads + Wait + Sync>(
 ) -> Result<u64, Fault> {
     play_open(&mut cluster, play)?;
     let Cluster {
+        rt,
         alloc,
         facts,
         node,
         passes,
-        ..
     } = cluster;
     match play {
-        Play::Half => play_half(alloc, facts, node, passes),
+        Play::Half => play_half(rt, alloc, facts, node, passes),
         _ => close(node, passes),
     }
 }

@@ -7,7 +7,7 @@ use crate::rows::{Read, Step};
 use chat_batch::Facts;
 use chat_change::Change;
 use gossip_delta::Taker;
-use shared_node::{Naming, NodeTaker, Pass, SharedNode};
+use shared_node::{Ends, Naming, NodeTaker, Pass, SharedNode};
 use std::alloc::Global;
 use std::sync::Wait;
 
@@ -30,7 +30,7 @@ fn take<T: Taker>(alloc: Global, taker: &mut T, changes: &[Change]) -> Result<()
     }
 }
 
-fn tell<J: Naming, H: Wait + Drop, W: Wait>(
+fn tell<J: Naming, H: Ends, W: Wait>(
     rt: &W,
     node: &SharedNode<J, H>,
     from: &mut Pass<J>,
@@ -43,7 +43,7 @@ fn tell<J: Naming, H: Wait + Drop, W: Wait>(
 }
 
 // The first pass puts changes, and the second one learns of them.
-fn tell_second<J: Naming, H: Wait + Drop, W: Wait>(
+fn tell_second<J: Naming, H: Ends, W: Wait>(
     rt: &W,
     node: &SharedNode<J, H>,
     passes: &mut [Pass<J>],
