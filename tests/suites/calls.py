@@ -88,6 +88,10 @@ def passes(crate, name, may_come_to=()):
 
 passes("test_node", "memory::a_refused_ring_is_asked_for_again")
 passes("test_node", "memory::a_refused_box_or_entry_is_asked_for_again")
+passes("test_node", "tags::tags_are_read_and_written_again")
+passes("test_node", "tags::a_list_of_tags_grows")
+passes("test_node", "tags::a_line_that_is_fed_in_pieces_has_its_tags")
+passes("test_node", "tags::a_record_has_client_only_tags_alone")
 # (of three markers so many waited as the word says, and all else was right)
 passes("test_node", "play::short_rows_come_to_their_totals", ("Waited(0", "Waited(1", "Waited(2", "Waited(3"))
 

@@ -8,8 +8,8 @@
 //! stands where memory was refused. What the built program shows from outside is tested there. Read `rows` first, the table of
 //! what is played on nodes, and `limits`; `play` plays a row.
 //!
-//! `tests/suites/calls.py` refuses each request for memory of the short rows and of `memory` in turn: a put that is refused is
-//! looked at, and the rest is put; a stand or a box that is handed back still has its place.
+//! `tests/suites/calls.py` refuses each request for memory of the short rows, of `memory` and of `tags` in turn: a put that is
+//! refused is looked at, and the rest is put; a stand or a box that is handed back still has its place.
 #![tactic(auto)]
 
 #[cfg(test)]
