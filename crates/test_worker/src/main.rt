@@ -3,7 +3,7 @@
 //! The words name files of cases:
 //!
 //!     == name of the case
-//!     with posts 120, clock 5000, networks 3, peers n0 n2, places 2, shut, held, alone
+//!     with posts 120, clock 5000, networks 3, peers n0 n2, places 2, others 2, shut, held, alone
 //!     act
 //!         what comes of it
 //!
@@ -12,6 +12,8 @@
 //! first of the networks demo/net, demo/two and eve/net, the peer n0, four places for clients and an open gate, and the wall
 //! clock is 1,000 seconds after 1970 began. A peer of the name n9 hears version 1. With `shut` the gate lets nothing through,
 //! with `held` it holds each answer until the other worker has reached it too, and with `alone` no connection can be begun.
+//! With `others 2` the node has two passes more than workers. Once these have ended, the first of the two puts a marker of `#a`
+//! at 5,000 and asks for it; then the other learns of it, asks for it, and makes the delta since 0.
 //!
 //! Acts begin a line:
 //!
@@ -56,6 +58,7 @@ mod line;
 mod lines;
 mod lists;
 mod mail;
+mod others;
 mod play;
 mod port;
 mod script;

@@ -3,6 +3,7 @@ ghost use Rattle.change_log.specs.Names.{IsNamed};
 
 use crate::gate::Latch;
 use crate::lists::{in_step, last_of, with_one};
+use crate::others::tell_others;
 use crate::port::MemoryPort;
 use crate::setting::Setting;
 use crate::worker_config::{posts, worker_config_of};
@@ -15,6 +16,13 @@ use std::marker::Brand;
 use std::sync::Wait;
 use std::thread::Threads;
 use std::time::Clock;
+
+/// How the workers ended, and what the passes that none of them has saw then.
+#[derive(Drop)]
+struct Outcome {
+    ends: Vec<WorkEnd>,
+    seen: Vec<u8>,
+}
 
 /// A worker that is to begin: its pass, what it begins with, and its port.
 type Job<'a, J> = (Pass<J>, WorkerConfig<RingClient>, &'a mut MemoryPort);
@@ -53,7 +61,7 @@ fn run<J, R>(
     name: Unnamed,
     setting: Setting<'_>,
     ports: &mut [MemoryPort],
-) -> Option<Vec<WorkEnd>>
+) -> Option<Outcome>
 where
     J: Naming + Send + Sync,
     R: Threads + Wait + Clock + AllocGlobal + Copy + Send + Sync + Drop,
@@ -72,19 +80,37 @@ fn run_over<J, R>(
     setting: Setting<'_>,
     mut passes: Vec<Pass<J>>,
     ports: &mut [MemoryPort],
-) -> Option<Vec<WorkEnd>>
+) -> Option<Outcome>
 where
     J: Naming + Send + Sync,
     R: Threads + Wait + Clock + AllocGlobal + Copy + Send + Sync + Drop,
 {
     put_posts(rt, rt.alloc(), node, passes.as_mut_slice(), setting.posts)?;
     let worker_configs = worker_configs_of(rt.alloc(), setting, ports)?;
+    let mut others = passes.split_off(ports.len().min(passes.len())).ok()?;
     let all = in_step(rt.alloc(), passes, worker_configs, ports)?;
     let gate = Latch::new(*rt, setting.is_open, setting.holds);
+    let ends = run_workers(rt, node, all, &gate)?;
+    let mut seen = Vec::new(rt.alloc());
+    tell_others(rt, rt.alloc(), node, others.as_mut_slice(), &mut seen)?;
+    Some(Outcome { ends, seen })
+}
+
+// Runs the workers: one in this thread, and two each in a thread of its own.
+fn run_workers<J, R>(
+    rt: &R,
+    node: &SharedNode<J, &R>,
+    all: Vec<Job<'_, J>>,
+    gate: &Latch<R>,
+) -> Option<Vec<WorkEnd>>
+where
+    J: Naming + Send + Sync,
+    R: Threads + Wait + Clock + AllocGlobal + Copy + Send + Sync + Drop,
+{
     if all.len() == 1 {
-        return run_one(rt, node, all, &gate);
+        return run_one(rt, node, all, gate);
     }
-    run_all(rt, node, all, &gate)
+    run_all(rt, node, all, gate)
 }
 
 // Runs the last of these workers, in this thread.
@@ -164,7 +190,9 @@ where
 {
     let alloc = rt.alloc();
     let mut ports = ports_of(alloc, setting, script)?;
-    let name = Unnamed::new(ports.len());
-    let ends = run::<Brand, R>(rt, name, setting, ports.as_mut_slice())?;
-    told_by(alloc, ports.as_mut_slice(), &ends).ok()
+    let name = Unnamed::new(ports.len().saturating_add(setting.others));
+    let outcome = run::<Brand, R>(rt, name, setting, ports.as_mut_slice())?;
+    let mut told = told_by(alloc, ports.as_mut_slice(), &outcome.ends).ok()?;
+    told.extend_from_slice(&outcome.seen).ok()?;
+    Some(told)
 }

@@ -14,6 +14,8 @@ pub struct Setting<'a> {
     pub peers: &'a str,
     /// So many clients have a place.
     pub places: usize,
+    /// So many passes the node has besides those of its workers.
+    pub others: usize,
     /// Whether the gate lets answers through.
     pub is_open: bool,
     /// Whether it holds each of them until the other worker has reached it too.
@@ -29,6 +31,7 @@ pub const USUAL: Setting<'static> = Setting {
     networks: 1,
     peers: "n0",
     places: 4,
+    others: 0,
     is_open: true,
     holds: false,
     can_dial: true,
@@ -44,6 +47,7 @@ impl<'a> Setting<'a> {
             "clock" => self.clock = number as u64,
             "networks" => self.networks = number,
             "places" => self.places = number,
+            "others" => self.others = number,
             "peers" => self.peers = rest,
             "held" => self.holds = true,
             "shut" => self.is_open = false,
