@@ -52,6 +52,8 @@ def replays():
         ("whole-writes 4", "three writes", three, ends([0, one, 2 * one, 3 * one], write)),
         ("flushes 4", "two flushes", three, ends([2 * one, 3 * one, 3 * one], write)),
     ]
+    # (an interrupted read counts as one)
+    cases.append(("interrupted 0", "a reader that gives nothing, as often as it is read", ["MARKREAD #a"], [f"{1 << 24} 0 {read}"]))
     for setting, name, script, told in cases:
         yield "\n".join([f"== {setting}: {name}", *script, "--", *told, ""])
 

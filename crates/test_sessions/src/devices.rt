@@ -52,6 +52,31 @@ impl<'a> Read for Source<'a> {
     }
 }
 
+/// A reader that is interrupted at each read (`ErrorKind::Interrupted`).
+#[derive(Drop)]
+pub struct Interrupted {
+    reads: u64,
+}
+
+impl Interrupted {
+    /// A reader that wasn't read yet.
+    pub fn new() -> Interrupted {
+        Interrupted { reads: 0 }
+    }
+
+    /// How often it was read.
+    pub fn reads(&self) -> u64 {
+        self.reads
+    }
+}
+
+impl Read for Interrupted {
+    fn read(&mut self, _: &mut [u8]) -> io::Result<usize> {
+        self.reads = self.reads.saturating_add(1);
+        Err(io::Error::from(ErrorKind::Interrupted))
+    }
+}
+
 /// A writer that keeps the bytes that it takes. At first it takes all that it is given, and never fails.
 #[derive(Drop)]
 pub struct Sink {
