@@ -1,5 +1,5 @@
 mod PrefixLemmas
-mod AddLemmas
+mod GrowingLemmas
 mod StateLemmas
 mod VersionLemmas
 pub mod CallerLemmas

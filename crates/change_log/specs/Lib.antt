@@ -8,5 +8,5 @@ pub mod Log
 pub mod Names
 -- ---- what only the proofs use of the code
 
-pub mod Rules
+pub mod Owned
 pub mod Versions

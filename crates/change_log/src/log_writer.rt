@@ -1,5 +1,6 @@
 //! The writing end of a log.
 ghost use Rattle.std.specs.Prelude.{◌≡◌, ◌+◌, ◌<◌, ◌≤◌, ◌^◌, ◌++◌, ◌∷◌, [], length, take, drop, true, MatchResult, MatchBool, IfOk, IfSome, None};
+ghost use mathlib.Core.List.{IsPrefix};
 ghost use Rattle.change_log.specs.Lists.{entry, under};
 ghost use Rattle.change_log.specs.Versions.{held, latest};
 ghost use Rattle.change_log.specs.Log.{all_put, log_value, total};
@@ -30,9 +31,8 @@ where
     writer: VersionWriter<J>,
     /// In the history, and not yet in the writer's log.
     stuck: Option<Operation<J>>,
-    history: History<J>,
     /// All that was put.
-    list: Prefix<J>,
+    history: History<J>,
 }
 
 impl<J: Naming> Model for LogWriter<J>
@@ -47,10 +47,10 @@ where
     ghost Value = { LogValue };
 
     ghost view = { λ h. log_value h.writer.desk.shown.value
-        (drop (length h.writer.desk.shown.value) h.list) };
+        (drop (length h.writer.desk.shown.value) h.history) };
 
-    ghost invariant = { λ h. IsPrefix h.writer.desk.shown.value h.list
-        × (h.list ≡ latest h.writer.desk.shown.value
+    ghost invariant = { λ h. IsPrefix h.writer.desk.shown.value h.history
+        × (h.history ≡ latest h.writer.desk.shown.value
         (drop h.writer.behind h.writer.log.items ++ held h.stuck)) };
 }
 
@@ -109,31 +109,29 @@ impl<J: Naming> LogWriter<J> {
     pub fn new(
         alloc: Global,
         history: History<J>,
-        list: Prefix<J>,
         entrances: usize,
     ) -> Result<LogWriter<J>, AllocError>
-        requires list { list ≡ [] }
+        requires history { history ≡ [] }
         requires entrances { (0 < entrances) × (entrances < 2 ^ 32) }
         ensures { IfOk result (λ log. log ≡ log_value [] []) }
     {
-        let first = Version::empty(alloc, list.again());
-        let second = Version::empty(alloc, list.again());
+        let first = Version::empty(alloc, history.list().again());
+        let second = Version::empty(alloc, history.list().again());
         let writer = VersionWriter::<J>::new(alloc, first, second, entrances)?;
-        Ok(LogWriter::over(writer, history, list))
+        Ok(LogWriter::over(writer, history))
     }
 
     // The writing end over a writer that has published the empty list.
-    fn over(writer: VersionWriter<J>, history: History<J>, list: Prefix<J>) -> LogWriter<J>
+    fn over(writer: VersionWriter<J>, history: History<J>) -> LogWriter<J>
         requires writer { (writer.desk.shown.value ≡ [])
             × (drop writer.behind writer.log.items ≡ []) }
-        requires list { list ≡ [] }
+        requires history { history ≡ [] }
         ensures { result ≡ log_value [] [] }
     {
         LogWriter {
             writer,
             stuck: None,
             history,
-            list,
         }
     }
 
@@ -151,7 +149,15 @@ impl<J: Naming> LogWriter<J> {
     pub fn list(&self) -> &Prefix<J>
         ensures { result.now ≡ all_put self.now }
     {
-        &self.list
+        self.history.list()
+    }
+
+    /// All that was put begins with each list that was reached. It does nothing at run time.
+    pub fn compare(&mut self, list: &Prefix<J>)
+        ensures prefix { IsPrefix list.now (all_put self.old) }
+        ensures same { self.new ≡ self.old }
+    {
+        self.history.compare(list);
     }
 
     // One change more waits, under that number.
@@ -167,10 +173,8 @@ impl<J: Naming> LogWriter<J> {
         }
         let change = change.try_clone()?;
         let entry = LogEntry { by, change };
-        if !self.list.add(&self.history, &entry) {
-            return Err(AllocError);
-        }
-        let op = Operation::new(entry, self.list.again());
+        self.history.add(&entry);
+        let op = Operation::new(entry, self.history.list().again());
         queue(&mut self.writer, &mut self.stuck, op);
         Ok(())
     }
@@ -227,7 +231,6 @@ impl<J: Naming> LogWriter<J> {
             writer,
             stuck: _stuck,
             history: _history,
-            list: _list,
         } = self;
         drop(writer.take(rt));
     }

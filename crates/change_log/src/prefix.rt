@@ -1,17 +1,17 @@
 //! Prefixes of a node's history that were reached.
-ghost use Rattle.std.specs.Prelude.{◌≡◌, ◌+◌, ◌<◌, ◌^◌, ◌++◌, ◌∷◌, ◌⊎◌, [], length, MatchBool};
+ghost use Rattle.std.specs.Prelude.{◌≡◌, ◌<◌, ◌⊎◌, length, MatchBool};
 ghost use mathlib.Core.List.{IsPrefix};
 
 use crate::entry::LogEntry;
-use crate::history::{Add, History, Law, Naming, Nothing};
-use logbook::{Offer, Seen};
+use crate::growing::Reached;
+use crate::history::Naming;
 use std::marker::{Model, PhantomData};
 
 /// A prefix of the history of the node `J`, with its length. Contracts see it as its entries.
 #[derive(Drop)]
 pub struct Prefix<J: Naming> {
     count: u64,
-    seen: Seen<LogEntry, u64, Law>,
+    seen: Reached<LogEntry>,
     of: PhantomData<J>,
 }
 
@@ -21,21 +21,27 @@ impl<J: Naming> Model for Prefix<J> {
 
     ghost Value = { List LogEntry };
 
-    ghost view = { λ p. p.seen.log };
+    ghost view = { λ p. p.seen.list };
 
-    ghost invariant = { λ p. (p.count ≡ length p.seen.log) × (p.seen.book ≡ J.book) };
+    ghost invariant = { λ p. (p.count ≡ length p.seen.list) × (p.seen.book ≡ J.book) };
 }
 
 impl<J: Naming> Prefix<J> {
-    pub(crate) fn empty(seen: Seen<LogEntry, u64, Law>) -> Prefix<J>
-        requires { (seen.log ≡ []) × (seen.book ≡ J.book) }
-        ensures { result ≡ [] }
+    pub(crate) fn new(count: u64, seen: Reached<LogEntry>) -> Prefix<J>
+        requires { (count ≡ length seen.list) × (seen.book ≡ J.book) }
+        ensures { result ≡ seen.list }
     {
         Prefix {
-            count: 0,
+            count,
             seen,
             of: PhantomData,
         }
+    }
+
+    pub(crate) fn seen(&self) -> &Reached<LogEntry>
+        ensures { (result.now.list ≡ self.now) × (result.now.book ≡ J.book) }
+    {
+        &self.seen
     }
 
     /// How many entries it has.
@@ -61,8 +67,7 @@ impl<J: Naming> Prefix<J> {
         ensures { MatchBool result (IsPrefix other.now self.now)
             (IsPrefix self.now other.now × (length self.now < length other.now)) }
     {
-        let mut both = self.seen.again();
-        both.learn(&other.seen);
+        self.seen.compare(&other.seen);
         if other.count > self.count {
             return false;
         }
@@ -80,27 +85,5 @@ impl<J: Naming> Prefix<J> {
         } else {
             other.again()
         }
-    }
-
-    /// Adds an entry to the history, and says whether it did. It doesn't where the history is longer than this prefix.
-    pub(crate) fn add(&mut self, history: &History<J>, entry: &LogEntry) -> bool
-        requires { length self.old + 1 < 2 ^ 64 }
-        ensures { MatchBool result (self.new ≡ self.old ++ entry.now ∷ []) (self.new ≡ self.old) }
-    {
-        let mut seen = self.seen.again();
-        let mut offer: Offer<LogEntry, u64, Law, Nothing> = seen.plain::<Nothing, LogEntry, Add>(
-            entry,
-        );
-        let mut pen = seen.no_pen();
-        let count = self.count;
-        let found = history
-            .head
-            .compare_exchange::<Add, Nothing>(count, count + 1, &mut seen, &mut offer, &mut pen);
-        if found != count {
-            return false;
-        }
-        self.count = count + 1;
-        self.seen = seen;
-        true
     }
 }

@@ -1,22 +1,20 @@
 //! A node to be, before it has a name.
 ghost use Rattle.std.specs.Prelude.{◌≡◌, []};
-ghost use Rattle.change_log.specs.Rules.{head_of};
 
 use crate::entry::LogEntry;
-use crate::history::Law;
-use logbook::{Seen, Start, Word};
+use crate::growing::{Growing, Reached};
 use std::sync::ledger::Blank;
 
 /// A node that has no name and no passes yet: its empty history, and as many parts of the count of changes as it is to
 /// have passes.
 #[derive(Drop)]
 pub struct Unnamed {
-    pub(crate) head: Word<LogEntry, u64, Law>,
-    pub(crate) seen: Seen<LogEntry, u64, Law>,
+    pub(crate) whole: Growing<LogEntry>,
+    pub(crate) seen: Reached<LogEntry>,
     pub(crate) blank: Blank,
     pub(crate) passes: usize,
-    pub ghost empty: { seen.log ≡ [] },
-    pub ghost head_is: { head ≡ head_of seen.book },
+    pub ghost empty: { (whole.list ≡ []) × (seen.list ≡ []) },
+    pub ghost same: { whole.book ≡ seen.book },
     pub ghost cut: { blank.parts ≡ passes },
 }
 
@@ -25,9 +23,10 @@ impl Unnamed {
     pub fn new(passes: usize) -> Unnamed
         ensures { result.passes ≡ passes }
     {
-        let (seen, mut first, _second) = Seen::open(Start::alone(), 0, 0);
+        let mut whole = Growing::new();
+        let seen = whole.reached();
         Unnamed {
-            head: Word::tracked(0, &mut first),
+            whole,
             seen,
             blank: Blank::new(passes as u64),
             passes,

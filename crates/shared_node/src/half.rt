@@ -91,6 +91,15 @@ fn count_put<J: Naming>(tally: &mut Book<J>, pass: &mut Pass<J>, more: u64)
     pass.count += more;
 }
 
+// All that was put begins with what a pass has seen, and with what it was told of.
+fn compare<J: Naming>(log: &mut LogWriter<J>, pass: &Pass<J>)
+    ensures follows { FollowsAll pass.now (all_put log.old) }
+    ensures same { log.new ≡ log.old }
+{
+    log.compare(&pass.list);
+    log.compare(&pass.told);
+}
+
 impl<J: Naming, R: Ends> WritingHalf<J, R> {
     pub(crate) fn new(
         log: LogWriter<J>,
@@ -140,7 +149,7 @@ impl<J: Naming, R: Ends> WritingHalf<J, R> {
             ≡ log_value (all_put self.old ++ under pass.old.number changes.now) []) }
         ensures receipt { IfOk result (λ r. r ≡ self.new.published) }
         ensures list { OnOk result (pass.new.list ≡ self.new.published) }
-        ensures follows { OnOk result (FollowsAll pass.old (all_put self.old)) }
+        ensures follows { FollowsAll pass.old (all_put self.old) }
         ensures refused { IfErr result (λ e.
             LeavesWaiting self.old pass.old.number changes.now self.new e
             × (pass.new.list ≡ pass.old.list)) }
@@ -149,12 +158,10 @@ impl<J: Naming, R: Ends> WritingHalf<J, R> {
         ensures count { pass.new.count + total self.old ≡ pass.old.count + total self.new }
         ensures same { (pass.new.number ≡ pass.old.number) × (pass.new.told ≡ pass.old.told) }
     {
+        compare(&mut self.log, pass);
         let list = self.log.list();
         if changes.len() as u64 > u64::MAX - list.len() {
             return Err(PutFault::Exhausted);
-        }
-        if !list.follows(&pass.list) || !list.follows(&pass.told) {
-            return Err(PutFault::NoMemory { appended: 0 });
         }
         let appended = self.log.add_all(pass.number, changes);
         count_put(&mut self.tally, pass, appended as u64);

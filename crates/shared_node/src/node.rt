@@ -43,7 +43,7 @@ impl<J: Naming, R: Ends> SharedNode<J, R> {
         }
         let (history, list, tally, mut all) = name.named::<J>();
         let spare = all.empty();
-        let Ok(log) = LogWriter::new(alloc, history, list.again(), passes) else {
+        let Ok(log) = LogWriter::new(alloc, history, passes) else {
             return Err(NodeFault::NoMemory);
         };
         let half = WritingHalf::new(log, rt, tally, spare, passes);

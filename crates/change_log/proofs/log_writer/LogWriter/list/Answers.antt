@@ -5,4 +5,4 @@ use Rattle.change_log.proofs.log_writer.LogWriter.list.Goals as goal
 
 pub returns : goal.returns
 returns g c =
-    sym (prefix_rest c.self.inside.writer.desk.shown.value c.self.inside.list c.self.invariant.0) ∙ ap all_put c.self.view_is
+    c.list.ensures ∙ sym (prefix_rest c.self.inside.writer.desk.shown.value c.self.inside.history c.self.invariant.0) ∙ ap all_put c.self.view_is

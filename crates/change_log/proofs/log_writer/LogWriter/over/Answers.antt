@@ -5,10 +5,10 @@ use Rattle.change_log.proofs.log_writer.LogWriter.over.Goals as goal
 
 pub invariant_of-result : goal.invariant_of-result
 invariant_of-result g c = (
-  (c.args.list, ap (λ (l : List LogEntry). l ++ c.args.list) c.requires.writer.0),
-  rw c.requires.writer.1 (c.requires.list ∙ sym c.requires.writer.0),
+  (c.args.history, ap (λ (l : List LogEntry). l ++ c.args.history) c.requires.writer.0),
+  rw c.requires.writer.1 (c.requires.history ∙ sym c.requires.writer.0),
 )
 
 pub returns : goal.returns
 returns g c =
-    λ i. log_value (c.requires.writer.0 i) (drop (length (c.requires.writer.0 i)) (c.requires.list i))
+    λ i. log_value (c.requires.writer.0 i) (drop (length (c.requires.writer.0 i)) (c.requires.history i))

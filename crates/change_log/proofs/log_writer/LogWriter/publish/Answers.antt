@@ -9,7 +9,7 @@ use Rattle.change_log.proofs.log_writer.LogWriter.publish.Goals as goal
 
 pub invariant_of-self-2 : goal.invariant_of-self-2
 invariant_of-self-2 g c =
-    let list : List LogEntry = c.self.inside.list in
+    let list : List LogEntry = c.self.inside.history in
     let shown : List LogEntry = c.self.inside.writer.desk.shown.value in
     let next : List LogEntry = c.replace_with-published.new.dest.desk.shown.value in
     let waits : List (List LogEntry) = drop c.self.inside.writer.behind c.self.inside.writer.log.items ++ held c.self.inside.stuck in
@@ -21,7 +21,7 @@ invariant_of-self-2 g c =
 
 pub returns : goal.returns
 returns g c =
-    let list : List LogEntry = c.self.inside.list in
+    let list : List LogEntry = c.self.inside.history in
     let shown : List LogEntry = c.self.inside.writer.desk.shown.value in
     let next : List LogEntry = c.replace_with-published.new.dest.desk.shown.value in
     let waits : List (List LogEntry) = drop c.self.inside.writer.behind c.self.inside.writer.log.items ++ held c.self.inside.stuck in

@@ -57,74 +57,75 @@ count_more count count' n all all' before counts holds view = omega arith
 
 pub returns-then-changes-len-clause-refused : goal.returns-then-changes-len-clause-refused
 returns-then-changes-len-clause-refused g c =
-    ((refl, is_full c.self.inside.log c.args.self.now c.list-list.result.now c.len.result (length c.args.changes.now) c.self.view_is c.len.ensures c.list-list.ensures c.len.type_inv c.if-changes-len.true), refl)
-
-pub returns-then-not-follows-clause-exhausted : goal.returns-then-not-follows-clause-exhausted
-returns-then-not-follows-clause-exhausted g c =
-    not_full c.self.inside.log c.args.self.now c.list-list.result.now c.len.result (length c.args.changes.now) c.self.view_is c.len.ensures c.list-list.ensures c.len.type_inv c.if-changes-len.false
+    ((c.compare.ensures.same ∙ c.self.view_is, is_full c.compare.new.log c.args.self.now c.list-list.result.now c.len.result (length c.args.changes.now) (c.compare.ensures.same ∙ c.self.view_is) c.len.ensures c.list-list.ensures c.len.type_inv c.if-changes-len.true), refl)
 
 pub add_all-appended-requires : goal.add_all-appended-requires
 add_all-appended-requires g c = record {
-  room = has_room c.self.inside.log c.self.inside.log c.list-list.result.now c.len.result (length c.args.changes.now) refl c.len.ensures c.list-list.ensures c.len.type_inv c.if-changes-len.false;
+  room = has_room c.compare.new.log c.compare.new.log c.list-list.result.now c.len.result (length c.args.changes.now) refl c.len.ensures c.list-list.ensures c.len.type_inv c.if-changes-len.false;
 }
 
 pub invariant_of-self : goal.invariant_of-self
 invariant_of-self g c =
     let i = c.self.invariant in
+    (i.0 ∙ ap total (sym c.compare.ensures.same), i.1, i.2)
+
+pub invariant_of-self-then-appended-changes : goal.invariant_of-self-then-appended-changes
+invariant_of-self-then-appended-changes g c =
+    let i = c.self.invariant in
     let added = c.add_all-appended.ensures in
-    let more = total_more c.self.inside.log c.add_all-appended.new.self c.pass.inside.number c.add_all-appended.result c.args.changes.now added.some added.published added.waiting in
-    (c.count_put.ensures.total ∙ ap (λ k. k + c.add_all-appended.result) i.0 ∙ sym more, i.1, i.2)
+    let more = total_more c.compare.new.log c.add_all-appended.new.self c.pass.inside.number c.add_all-appended.result c.args.changes.now added.some added.published added.waiting in
+    (c.count_put.ensures.total ∙ ap (λ k. k + c.add_all-appended.result) (i.0 ∙ ap total (sym c.compare.ensures.same)) ∙ sym more, i.1, i.2)
 
 pub returns-then-appended-changes-clause-exhausted : goal.returns-then-appended-changes-clause-exhausted
 returns-then-appended-changes-clause-exhausted g c =
-    not_full c.self.inside.log c.args.self.now c.list-list.result.now c.len.result (length c.args.changes.now) c.self.view_is c.len.ensures c.list-list.ensures c.len.type_inv c.if-changes-len.false
+    not_full c.compare.new.log c.args.self.now c.list-list.result.now c.len.result (length c.args.changes.now) (c.compare.ensures.same ∙ c.self.view_is) c.len.ensures c.list-list.ensures c.len.type_inv c.if-changes-len.false
 
 pub returns-then-appended-changes-clause-count : goal.returns-then-appended-changes-clause-count
 returns-then-appended-changes-clause-count g c =
     let added = c.add_all-appended.ensures in
-    let more = total_more c.self.inside.log c.add_all-appended.new.self c.pass.inside.number c.add_all-appended.result c.args.changes.now added.some added.published added.waiting in
-    count_more _ _ c.add_all-appended.result _ _ _ c.count_put.ensures.count more (ap total c.self.view_is)
+    let more = total_more c.compare.new.log c.add_all-appended.new.self c.pass.inside.number c.add_all-appended.result c.args.changes.now added.some added.published added.waiting in
+    count_more _ _ c.add_all-appended.result _ _ _ c.count_put.ensures.count more (ap total (c.compare.ensures.same ∙ c.self.view_is))
 
 pub invariant_of-self-then-not-publish : goal.invariant_of-self-then-not-publish
 invariant_of-self-then-not-publish g c =
     let i = c.self.invariant in
     let added = c.add_all-appended.ensures in
-    let more = total_more c.self.inside.log c.add_all-appended.new.self c.pass.inside.number c.add_all-appended.result c.args.changes.now added.some added.published added.waiting in
-    (c.count_put.ensures.total ∙ ap (λ k. k + c.add_all-appended.result) i.0 ∙ sym more ∙ ap total (sym c.if-not-publish.ensures), i.1, i.2)
+    let more = total_more c.compare.new.log c.add_all-appended.new.self c.pass.inside.number c.add_all-appended.result c.args.changes.now added.some added.published added.waiting in
+    (c.count_put.ensures.total ∙ ap (λ k. k + c.add_all-appended.result) (i.0 ∙ ap total (sym c.compare.ensures.same)) ∙ sym more ∙ ap total (sym c.if-not-publish.ensures), i.1, i.2)
 
 pub returns-then-not-publish-clause-exhausted : goal.returns-then-not-publish-clause-exhausted
 returns-then-not-publish-clause-exhausted g c =
-    not_full c.self.inside.log c.args.self.now c.list-list.result.now c.len.result (length c.args.changes.now) c.self.view_is c.len.ensures c.list-list.ensures c.len.type_inv c.if-changes-len.false
+    not_full c.compare.new.log c.args.self.now c.list-list.result.now c.len.result (length c.args.changes.now) (c.compare.ensures.same ∙ c.self.view_is) c.len.ensures c.list-list.ensures c.len.type_inv c.if-changes-len.false
 
 pub returns-then-not-publish-clause-count : goal.returns-then-not-publish-clause-count
 returns-then-not-publish-clause-count g c =
     let added = c.add_all-appended.ensures in
-    let more = total_more c.self.inside.log c.add_all-appended.new.self c.pass.inside.number c.add_all-appended.result c.args.changes.now added.some added.published added.waiting in
-    count_more _ _ c.add_all-appended.result _ _ _ c.count_put.ensures.count (ap total c.if-not-publish.ensures ∙ more) (ap total c.self.view_is)
+    let more = total_more c.compare.new.log c.add_all-appended.new.self c.pass.inside.number c.add_all-appended.result c.args.changes.now added.some added.published added.waiting in
+    count_more _ _ c.add_all-appended.result _ _ _ c.count_put.ensures.count (ap total c.if-not-publish.ensures ∙ more) (ap total (c.compare.ensures.same ∙ c.self.view_is))
 
 pub invariant_of-self-2 : goal.invariant_of-self-2
 invariant_of-self-2 g c =
     let i = c.self.invariant in
     let added = c.add_all-appended.ensures in
-    let more = total_more c.self.inside.log c.add_all-appended.new.self c.pass.inside.number c.add_all-appended.result c.args.changes.now added.some added.published added.waiting in
+    let more = total_more c.compare.new.log c.add_all-appended.new.self c.pass.inside.number c.add_all-appended.result c.args.changes.now added.some added.published added.waiting in
     let shown = total_published c.add_all-appended.new.self c.publish.new.self c.if-not-publish.ensures in
-    (c.count_put.ensures.total ∙ ap (λ k. k + c.add_all-appended.result) i.0 ∙ sym more ∙ sym shown, i.1, i.2)
+    (c.count_put.ensures.total ∙ ap (λ k. k + c.add_all-appended.result) (i.0 ∙ ap total (sym c.compare.ensures.same)) ∙ sym more ∙ sym shown, i.1, i.2)
 
 pub returns-clause-exhausted : goal.returns-clause-exhausted
 returns-clause-exhausted g c =
-    not_full c.self.inside.log c.args.self.now c.list-list.result.now c.len.result (length c.args.changes.now) c.self.view_is c.len.ensures c.list-list.ensures c.len.type_inv c.if-changes-len.false
+    not_full c.compare.new.log c.args.self.now c.list-list.result.now c.len.result (length c.args.changes.now) (c.compare.ensures.same ∙ c.self.view_is) c.len.ensures c.list-list.ensures c.len.type_inv c.if-changes-len.false
 
 pub returns-clause-count : goal.returns-clause-count
 returns-clause-count g c =
     let added = c.add_all-appended.ensures in
-    let more = total_more c.self.inside.log c.add_all-appended.new.self c.pass.inside.number c.add_all-appended.result c.args.changes.now added.some added.published added.waiting in
+    let more = total_more c.compare.new.log c.add_all-appended.new.self c.pass.inside.number c.add_all-appended.result c.args.changes.now added.some added.published added.waiting in
     let shown = total_published c.add_all-appended.new.self c.publish.new.self c.if-not-publish.ensures in
-    count_more _ _ c.add_all-appended.result _ _ _ (ap (λ p. p.count) c.pass-2.view_is ∙ c.count_put.ensures.count) (shown ∙ more) (ap total c.self.view_is)
+    count_more _ _ c.add_all-appended.result _ _ _ (ap (λ p. p.count) c.pass-2.view_is ∙ c.count_put.ensures.count) (shown ∙ more) (ap total (c.compare.ensures.same ∙ c.self.view_is))
 
 pub returns-then-appended-changes-clause-refused : goal.returns-then-appended-changes-clause-refused
 returns-then-appended-changes-clause-refused g c =
     let added = c.add_all-appended.ensures in
-    let view = c.self.view_is in
+    let view = (c.compare.ensures.same ∙ c.self.view_is) in
     let number = ap (λ p. p.number) c.pass.view_is in (
       (added.some, added.published ∙ ap (λ l. l.published) view, added.waiting ∙ (λ i. (view i).waiting ++ under (number i) (take c.add_all-appended.result c.args.changes.now))),
       c.count_put.ensures.seen.0,
@@ -133,11 +134,11 @@ returns-then-appended-changes-clause-refused g c =
 pub returns-then-not-publish-clause-refused : goal.returns-then-not-publish-clause-refused
 returns-then-not-publish-clause-refused g c =
     let added = c.add_all-appended.ensures in
-    let wait = all_wait c.args.self.now c.self.inside.log c.add_all-appended.new.self _ c.args.pass.now.number c.add_all-appended.result c.args.changes.now c.self.view_is (ap (λ p. p.number) c.pass.view_is) c.if-appended-changes.false added.published added.waiting in
+    let wait = all_wait c.args.self.now c.compare.new.log c.add_all-appended.new.self _ c.args.pass.now.number c.add_all-appended.result c.args.changes.now (c.compare.ensures.same ∙ c.self.view_is) (ap (λ p. p.number) c.pass.view_is) c.if-appended-changes.false added.published added.waiting in
     ((ap (λ l. l.published) c.if-not-publish.ensures ∙ wait.0, ap (λ l. l.waiting) c.if-not-publish.ensures ∙ wait.1), c.count_put.ensures.seen.0)
 
 pub returns-clause-published : goal.returns-clause-published
 returns-clause-published g c =
     let added = c.add_all-appended.ensures in
-    let wait = all_wait c.args.self.now c.self.inside.log c.add_all-appended.new.self _ c.args.pass.now.number c.add_all-appended.result c.args.changes.now c.self.view_is (ap (λ p. p.number) c.pass.view_is) c.if-appended-changes.false added.published added.waiting in
+    let wait = all_wait c.args.self.now c.compare.new.log c.add_all-appended.new.self _ c.args.pass.now.number c.add_all-appended.result c.args.changes.now (c.compare.ensures.same ∙ c.self.view_is) (ap (λ p. p.number) c.pass.view_is) c.if-appended-changes.false added.published added.waiting in
     all_published c.args.self.now c.add_all-appended.new.self c.publish.new.self c.args.pass.now.number c.args.changes.now wait c.if-not-publish.ensures
