@@ -65,6 +65,15 @@ impl<J: Naming> Pass<J> {
         self.number
     }
 
+    /// A receipt of the list that it has seen.
+    pub fn receipt(&self) -> Receipt<J>
+        ensures { result ≡ self.now.list }
+    {
+        Receipt {
+            list: self.list.again(),
+        }
+    }
+
     /// Tells it of the receipt's list: what it reads and puts from now on follows that list.
     pub fn learn(&mut self, receipt: &Receipt<J>)
         ensures told { IsPrefix receipt.now self.new.told × IsPrefix self.old.told self.new.told }
