@@ -7,6 +7,7 @@ import time
 
 from harness import processes
 from harness.client import Client, greeting, page
+from harness.configurations import contents
 from harness.failure import Failed
 from harness.node import Node
 from harness.readable import readable
@@ -130,6 +131,27 @@ def until_it_listens(fixture, process):
 
 
 add("memory: the start of a node", starts)
+
+
+def refuses(fixture):
+    """A test of `bnc serve` with a configuration that is refused: as a request for memory is refused too, the refusal is told
+    whole, with the name of the entry, or the program ends with status 3."""
+    refusals = Refusals.of(fixture)
+    path = fixture.write("bnc.toml", contents("example").replace(b"127.0.0.1:7001", b"nowhere"))
+
+    def run(number, environment):
+        ran = fixture.run("serve", path, env=environment)
+        if (ran.status, ran.output, ran.errors) == (5, b"", REFUSAL):
+            return "refused by name"
+        if (ran.status, ran.output, ran.errors) == (3, b"", NO_MEMORY):
+            return "ended for want of memory"
+        raise Failed(f"request {number} refused: status {ran.status}, {ran.errors!r}")
+
+    fixture.notes.append(refusals.told(refusals.each(run)))
+
+
+REFUSAL = b"config refused\npeer 1 (n2), address: an IP address and a port\n"
+add("memory: a configuration that is refused", refuses)
 
 LOGIN = ("CAP REQ :batch draft/chathistory draft/read-marker", "PASS s3cret", "NICK al", "USER demo/net 0 * :Al", "CAP END")
 MARK = "MARKREAD #a timestamp=1970-01-01T00:00:05.000Z"

@@ -10,7 +10,7 @@ import subprocess
 from harness.connection import spelled
 from harness.failure import Failed, expect
 from harness.node import Node
-from harness.registry import test
+from harness.registry import add, test
 from harness.release import constants
 from harness.scripts import TESTS
 from harness.server import Server
@@ -61,6 +61,113 @@ def a_folder_is_no_configuration(fixture):
     start = FAILED + f"can't read {fixture.folder}: ".encode()
     if ran.status != 4 or not ran.errors.startswith(start) or ran.errors.count(b"\n") != 2:
         raise Failed(f"expected status 4 and {start}, came {ran.status} and {ran.errors}")
+
+
+HEAD = """name = "bnc.example"
+node = "n1"
+listen = "127.0.0.1:1"
+peer_listen = "127.0.0.1:1"
+peer_word = "green"
+workers = 1
+places = 1
+bound = 1024
+retain_days = 0
+"""
+
+# The other keys of an entry of each list, and all that it may have.
+ENTRIES = {
+    "peer": ('address = "127.0.0.1:1"', "name, address, version"),
+    "account": ('secret = "s3cret"', "name, secret, keep_from"),
+    "network": ('account = "al"\naddress = "127.0.0.1:1"\nnick = "al"\nuser = "al"\nchannels = []',
+                "account, name, address, nick, user, channels"),
+}
+
+# How a text may spell the name of an entry that is wrong, and the name that is told.
+SHOWN = {
+    "a name": ('name = "n3"', "n3"),
+    "a name between apostrophes": ("name = 'n3'", "n3"),
+    "a name with an escape": (r'name = "n\u0033"', "n3"),
+    "a name in three quotes": ('name = """n3"""', "n3"),
+    "a name whose key is quoted": ('"name" = "n3"', "n3"),
+    "a name that no entry may have": ('name = "N 3, ~!"', "N 3, ~!"),
+    "a name with a bracket and a quote": (r"""name = '(3")'""", '(3")'),
+    "a name of one space": ('name = " "', " "),
+    "a name of 64 bytes": (f'name = "{64 * "x"}"', 64 * "x"),
+}
+
+# Names that aren't told: the number of the entry stands alone.
+UNSHOWN = {
+    "an empty name": 'name = ""',
+    "a name of 65 bytes": f'name = "{65 * "x"}"',
+    "a name of 10,000 bytes": f'name = "{10_000 * "x"}"',
+    "a name with a line feed": r'name = "n3\nn4"',
+    "a name with a carriage return": r'name = "n3\r"',
+    "a name with a NUL": r'name = "\u0000n3"',
+    "a name with a tab": r'name = "n\t3"',
+    "a name with an escape sequence": r'name = "n3\u001b[2J"',
+    "a name with a DEL": r'name = "n3\u007f"',
+    "a name with a control character beyond ASCII": r'name = "n3\u009b2J"',
+    "a name that turns the direction": r'name = "n3\u202e"',
+    "a name with another letter": 'name = "nä"',
+    "a name over two lines": 'name = """n3\nn4"""',
+    "a number as its name": "name = 3",
+    "a truth value as its name": "name = true",
+    "a date as its name": "name = 2026-11-23",
+    "a list as its name": 'name = ["n3"]',
+    "a table as its name": 'name = { name = "n3" }',
+}
+
+
+def tells(list_name, given, words, before=1, behind=1):
+    """A test that a configuration is refused in these words, whose list has this entry, so many before it, and some behind it."""
+
+    def call(fixture):
+        others = ENTRIES[list_name][0]
+        lines = [f'name = "e{place}"\n{others}' for place in range(before)]
+        lines += [given, *(f'name = "l{place}"\n{others}' for place in range(behind))]
+        text = HEAD + "".join(f"[[{list_name}]]\n{it}\n" for it in lines)
+        path = fixture.write("bnc.toml", text.encode())
+        fixture.run("serve", path).expect(5, b"", f"config refused\n{words}\n".encode())
+
+    return call
+
+
+def add_names():
+    """The name of an entry stands behind its number. The entry has a key that it may not have, which is seen before what its name
+    is."""
+    for list_name, (others, keys) in ENTRIES.items():
+        known = f"no keys but {keys}"
+        for what, (spelled_name, name) in SHOWN.items():
+            given, words = f"{spelled_name}\n{others}\nodd = 1", f"{list_name} 2 ({name}): {known}"
+            add(f"starting: {what} is told of a wrong {list_name}", tells(list_name, given, words))
+        for what, spelled_name in UNSHOWN.items():
+            given, words = f"{spelled_name}\n{others}\nodd = 1", f"{list_name} 2: {known}"
+            add(f"starting: {what} isn't told of a wrong {list_name}", tells(list_name, given, words))
+        add(f"starting: a {list_name} without a name is told by its number",
+            tells(list_name, others, f"{list_name} 2, name: missing"))
+        for before in (0, 9):
+            given, words = f'name = "n3"\n{others}\nodd = 1', f"{list_name} {before + 1} (n3): {known}"
+            add(f"starting: the name of {list_name} {before + 1} is told, and none of those beside it",
+                tells(list_name, given, words, before))
+    for list_name in ("peer", "account"):
+        given = f'name = "e0"\n{ENTRIES[list_name][0]}'
+        add(f"starting: of two of one name in {list_name} the second is told",
+            tells(list_name, given, f"{list_name} 2 (e0), name: a name that no entry before has"))
+
+
+add_names()
+
+
+@test
+def no_secret_is_told_of_an_entry_that_is_wrong(fixture):
+    """Nor the shared word: of an entry its name alone is told, also where a secret stands beside it."""
+    for given, words in (
+        ('name = "al"\nsecret = "s3cret"\nodd = 1', "account 1 (al): no keys but name, secret, keep_from"),
+        ('name = "al"\nsecret = ["s3cret"]', "account 1 (al), secret: a text"),
+        ('secret = "s3cret"\nuser = "s3cret"', "account 1, name: missing"),
+    ):
+        path = fixture.write("bnc.toml", f"{HEAD}[[account]]\n{given}\n".encode())
+        fixture.run("serve", path).expect(5, b"", f"config refused\n{words}\n".encode())
 
 
 def can_not_listen(fixture, which, address, why):

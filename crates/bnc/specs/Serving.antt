@@ -12,8 +12,9 @@ use Rattle.node_config.specs.declared.config.Config.{Config}
 use Rattle.node_config.specs.declared.fault.ConfigFault.{ConfigFault}
 use Rattle.node_config.specs.Document.{IsRefused}
 use Rattle.node_config.specs.Meaning.{Says}
+use Rattle.node_config.specs.Naming.{fault_name}
 use Rattle.bnc.specs.declared.ending.End.{End}
-use Rattle.bnc.specs.declared.ending.End.TheVariants.{Worker}
+use Rattle.bnc.specs.declared.ending.End.TheVariants.{NoMemory, Worker}
 use Rattle.bnc.specs.Status.{end_of_file, end_of_config, end_of_fault}
 
 -- what reading a file gives, and what running a node gives
@@ -23,11 +24,17 @@ FileRead = Result (Vec ℕ Global) Error
 abbrev pub NodeRun : Type 0
 NodeRun = Result (Vec WorkEnd Global) ServeFault
 
+-- A configuration of these bytes is refused for that fault: the end has the name of the entry that the fault is in, or
+-- there was no memory for it.
+abbrev pub IsEndOfConfig : List ℕ → ConfigFault → End → Type 0
+IsEndOfConfig bytes fault end =
+    (end ≡ end_of_config fault (fault_name bytes fault)) ⊎ (end ≡ NoMemory)
+
 -- the configuration is refused for a fault of these bytes
 pub record EndsByConfig (bytes : List ℕ) (end : End) : Type 0 where
   pub fault : ConfigFault
   pub refused : IsRefused bytes fault
-  pub told : end ≡ end_of_config fault
+  pub told : IsEndOfConfig bytes fault end
 
 -- The configuration that the file says, or the end where there is none.
 abbrev pub IsConfigOf : Bor (List ℕ) → FileRead → Result Config End → Type 0

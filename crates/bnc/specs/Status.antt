@@ -1,5 +1,5 @@
 -- How the program ends before its work is done, by the fault that ends it, and the status of each end. 0 is for done.
-use Rattle.std.specs.Prelude.{ℕ, List}
+use Rattle.std.specs.Prelude.{ℕ, List, Option}
 use Rattle.std.specs.Borrow.{Bor}
 use Rattle.std.specs.declared.io.ErrorKind.{ErrorKind}
 use Rattle.std.specs.declared.io.ErrorKind.TheVariants as kind_case
@@ -40,10 +40,10 @@ abbrev pub end_of_file : Bor (List ℕ) → ErrorKind → End
 end_of_file path kind_case.OutOfMemory = NoMemory
 end_of_file path kind = File path kind
 
--- where the configuration is refused: the text names what is refused
-abbrev pub end_of_config : ConfigFault → End
-end_of_config config_case.NoMemory = NoMemory
-end_of_config fault = Config fault
+-- where the configuration is refused: the text says what is wrong, in an entry of that name
+abbrev pub end_of_config : ConfigFault → Option (List ℕ) → End
+end_of_config config_case.NoMemory name = NoMemory
+end_of_config fault name = Config (record { fault = fault; name = name })
 
 -- where a node can't begin: the text says why
 abbrev pub end_of_fault : ServeFault → End

@@ -1,18 +1,20 @@
 //! How the program ends before its work is done: its status, and what it writes to standard error.
 ghost use Rattle.std.specs.Prelude.{◌≡◌};
 ghost use Rattle.bnc.specs.Status.{status_of, end_of_file, end_of_words};
+ghost use Rattle.bnc.specs.Serving.{IsEndOfConfig};
 
 use bnc_ports::ServeFault;
 use bnc_server::ReplayFault;
 use chat_change::ChangeFault;
-use node_config::ConfigFault;
+use node_config::{ConfigFault, NamedFault};
+use std::alloc::Global;
 use std::fmt;
 use std::io::ErrorKind;
 
 const USAGE: &str = "usage: bnc replay <account> <network> <nick> | bnc serve <config>";
 
 /// Why the program ends before its work is done.
-#[derive(Clone, Copy)]
+#[derive(Drop)]
 pub(crate) enum End<'a> {
     /// The words are no command, or a name is refused.
     Usage,
@@ -27,13 +29,13 @@ pub(crate) enum End<'a> {
     /// A worker of a node failed.
     Worker,
     /// The configuration is refused.
-    Config(ConfigFault),
+    Config(NamedFault),
 }
 
 impl End<'_> {
     /// The status that the program ends with.
-    pub(crate) fn status(self) -> u8
-        ensures { result ≡ status_of self.entry }
+    pub(crate) fn status(&self) -> u8
+        ensures { result ≡ status_of self.now }
     {
         match self {
             End::Usage => 2,
@@ -44,7 +46,7 @@ impl End<'_> {
     }
 
     /// The first line on standard error.
-    fn text(self) -> &'static str {
+    fn text(&self) -> &'static str {
         match self {
             End::Usage => USAGE,
             End::NoMemory => "no memory",
@@ -72,6 +74,16 @@ impl End<'_> {
             _ => End::Usage,
         }
     }
+
+    /// The end of a program whose configuration, of these bytes, is refused for that fault.
+    pub(crate) fn without_config(alloc: Global, bytes: &[u8], fault: ConfigFault) -> End<'static>
+        ensures { IsEndOfConfig bytes.now fault result }
+    {
+        match NamedFault::new(alloc, bytes, fault) {
+            Ok(named) => End::from(named),
+            Err(_) => End::NoMemory,
+        }
+    }
 }
 
 /// What goes to standard error: the first line, and where more is known a second one that says what failed, or what is
@@ -79,7 +91,7 @@ impl End<'_> {
 impl fmt::Display for End<'_> {
     fn fmt<W: fmt::Write>(&self, f: &mut fmt::Formatter<W>) -> Result<(), fmt::Error> {
         f.write_str(self.text())?;
-        match *self {
+        match self {
             End::Usage | End::NoMemory | End::Device => Ok(()),
             End::File(path, ErrorKind::NotFound) => write!(f, "\ncan't read {path}: no such file"),
             End::File(path, kind) => write!(f, "\ncan't read {path}: {kind}"),
@@ -132,16 +144,16 @@ impl From<ServeFault> for End<'_> {
     }
 }
 
-impl From<ConfigFault> for End<'_> {
+impl From<NamedFault> for End<'_> {
     ghost use Rattle.std.specs.Prelude.{◌≡◌};
     ghost use Rattle.bnc.specs.Status.{end_of_config};
 
-    ghost from_gives = { λ fault end. end ≡ end_of_config fault };
+    ghost from_gives = { λ named end. end ≡ end_of_config named.fault named.name };
 
-    fn from(fault: ConfigFault) -> Self {
-        match fault {
+    fn from(named: NamedFault) -> Self {
+        match named.fault {
             ConfigFault::NoMemory => End::NoMemory,
-            _ => End::Config(fault),
+            _ => End::Config(named),
         }
     }
 }

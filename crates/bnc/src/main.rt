@@ -56,7 +56,7 @@ fn exit(rt: &HostRuntime, done: Result<(), End<'_>>, is_read: bool) -> ExitCode
         Ok(()) => ExitCode::from(0),
         Err(end) => {
             if is_read {
-                let _ = rt.eprintln(end);
+                let _ = rt.eprintln(&end);
             }
             ExitCode::from(end.status())
         }

@@ -19,8 +19,10 @@ fn config_in<'a>(alloc: Global, path: &'a str, read: io::Result<Vec<u8>>) -> Res
         Ok(bytes) => bytes,
         Err(error) => return Err(End::without_file(path, error.kind())),
     };
-    let config = read_config(alloc, &bytes)?;
-    Ok(config)
+    match read_config(alloc, &bytes) {
+        Ok(config) => Ok(config),
+        Err(fault) => Err(End::without_config(alloc, &bytes, fault)),
+    }
 }
 
 /// Whether no worker failed.
