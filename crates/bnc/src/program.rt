@@ -1,11 +1,11 @@
 //! What the program does by its words, and how it ends.
 ghost use Rattle.std.specs.Prelude.{◌≡◌, [], map, string_bytes};
 ghost use Rattle.std.specs.Fn.{FnOnceReturnsAt};
-ghost use Rattle.std.specs.Io.Buffered.{writer_buffer, writer_inner};
+ghost use Rattle.std.specs.Io.Buffered.{writer_buffer, writer_inner, writer_contents};
 ghost use Rattle.bnc.specs.Words.{spelled_command};
 ghost use Rattle.bnc.specs.Program.{EndsAs};
 ghost use Rattle.bnc.specs.Serving.{ServesPath};
-ghost use Rattle.bnc.specs.Replaying.{Replays};
+ghost use Rattle.bnc.specs.Replaying.{Replays, AsksForScript};
 
 use crate::ending::End;
 use crate::replaying::replay_script;
@@ -35,11 +35,15 @@ where
     requires empty { writer_buffer output.old ≡ [] }
     requires reads { Files.IsAlwaysCallable read }
     requires serves { Node.IsAlwaysCallable serve }
-    ensures { EndsAs
+    ensures ends { EndsAs
         (ServesPath (FnOnceReturnsAt Files.FnOnce read) (FnOnceReturnsAt Node.FnOnce serve))
         (Replays (In.remaining input.old) (In.remaining input.new)
-        (Out.contents (writer_inner output.old)) (Out.contents (writer_inner output.new)))
+        (Out.contents (writer_inner output.old)) (Out.contents (writer_inner output.new))
+        (writer_contents Out.contents output.new))
         (spelled_command (map string_bytes words.now)) result }
+    // What asks for no script, or for one of names that no node can have, reads nothing and writes nothing.
+    ensures untouched { ¬ (AsksForScript (spelled_command (map string_bytes words.now)))
+        → (input.new ≡ input.old) × (output.new ≡ output.old) }
 {
     // Each branch returns, since the borrow checker doesn't join branches that move different values.
     match command_in(words) {

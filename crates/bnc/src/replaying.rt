@@ -1,9 +1,8 @@
 //! `bnc replay`: the names it takes, and the script that it answers.
-ghost use Rattle.std.specs.Prelude.{◌≡◌, [], None, IfSome, IfErr, OnOk};
-ghost use Rattle.std.specs.Io.KnownBytes.{Appends, IsAtEnd};
-ghost use Rattle.std.specs.Io.Buffered.{writer_buffer, writer_inner};
+ghost use Rattle.std.specs.Prelude.{◌≡◌, ◌≢◌, [], None, OnOk, IfErr};
+ghost use Rattle.std.specs.Io.Buffered.{writer_buffer, writer_inner, writer_contents};
 ghost use Rattle.bnc.specs.Words.{names_of};
-ghost use Rattle.bnc.specs.Replaying.{names_fault, end_of_refusal, world_of, text_of, IsAnswerEnd, Replays};
+ghost use Rattle.bnc.specs.Replaying.{names_fault, end_of_refusal, ReplaysLawful, Replays};
 
 use crate::ending::End;
 use crate::words::Names;
@@ -30,13 +29,9 @@ fn answer<In: Read, Out: Write + Drop>(
 ) -> Result<(), End<'static>>
     requires names { names_fault (names_of names) ≡ None }
     requires empty { writer_buffer writer.old ≡ [] }
-    ensures end { OnOk result (IsAtEnd (In.remaining reader.new)) }
-    ensures written { OnOk result (IfSome (In.remaining reader.old) (λ input.
-        Appends (Out.contents (writer_inner writer.old)) (Out.contents (writer_inner writer.new))
-        (text_of input (names_of names.entry)))) }
-    ensures fault { IfErr result (IsAnswerEnd
-        (In.remaining reader.old) (In.remaining reader.new) (Out.contents (writer_inner writer.old))
-        (world_of (names_of names.entry))) }
+    ensures { ReplaysLawful (In.remaining reader.old) (In.remaining reader.new)
+        (Out.contents (writer_inner writer.old)) (Out.contents (writer_inner writer.new))
+        (writer_contents Out.contents writer.new) (names_of names.entry) result }
 {
     let answered = replay(
         alloc,
@@ -62,9 +57,11 @@ pub(crate) fn replay_script<In: Read, Out: Write + Drop>(
     names: Names<'_>,
 ) -> Result<(), End<'static>>
     requires empty { writer_buffer writer.old ≡ [] }
-    ensures { Replays (In.remaining reader.old) (In.remaining reader.new)
+    ensures replays { Replays (In.remaining reader.old) (In.remaining reader.new)
         (Out.contents (writer_inner writer.old)) (Out.contents (writer_inner writer.new))
-        (names_of names.entry) result }
+        (writer_contents Out.contents writer.new) (names_of names.entry) result }
+    ensures untouched { names_fault (names_of names.entry) ≢ None
+        → (reader.new ≡ reader.old) × (writer.new ≡ writer.old) }
 {
     check_names(alloc, names)?;
     answer(alloc, reader, writer, names)
