@@ -379,6 +379,7 @@ def each_call_by_which_it_is_written_anew_is_refused_in_turn(fixture):
     it.is_over("read: ")
     begun = it.disk.calls()
     it.keeper.kill()
+    it.node.forget()
     for number in range(begun + 1, MOST_CALLS):
         clocks = Clocks(fixture)
         it.begin(clocks, FAILS=number)
