@@ -1,5 +1,5 @@
 //! What is told of a file that is damaged.
-ghost use Rattle.std.specs.Prelude.{◌≡◌, ◌≤◌, ◌+◌, length, take, min};
+ghost use Rattle.std.specs.Prelude.{◌≡◌, ◌≤◌, ◌+◌, length, take, drop, min};
 ghost use Rattle.bnc_keep.specs.Damage as spec;
 
 use std::fmt;
@@ -32,11 +32,20 @@ fn lines_in(bytes: &[u8]) -> usize
     bytes.iter().filter(|byte| **byte == b'\n').count()
 }
 
+// Whether a line is that of a change.
+fn is_change(line: &[u8]) -> bool
+    ensures { result ≡ spec.is_change line.now }
+{
+    line.starts_with(b"C ")
+}
+
 // How many lines of changes these bytes have.
-fn changes_in(bytes: &[u8]) -> usize {
+fn changes_in(bytes: &[u8]) -> usize
+    ensures { result ≡ spec.changes_in bytes.now }
+{
     bytes
         .split(|byte| *byte == b'\n')
-        .filter(|line| line.starts_with(b"C "))
+        .filter(|line| is_change(line))
         .count()
 }
 
@@ -46,6 +55,7 @@ impl Damage {
         ensures fault { result.fault ≡ fault }
         ensures at { result.at ≡ min at (length bytes.now) }
         ensures line { result.line ≡ spec.lines_in (take result.at bytes.now) + 1 }
+        ensures changes { result.changes ≡ spec.changes_in (drop result.at bytes.now) }
     {
         let at = at.min(bytes.len());
         let (read, unread) = bytes.split_at(at);
