@@ -503,11 +503,12 @@ for what, text, words in REFUSED:
 
 @test
 def wrong_words(fixture):
-    for words in ((), ("a.toml", "b.toml")):
+    for words in ((), ("a.toml", "b.toml"), ("--help",), ("-h",), ("--version",), ("-",), ("a.toml", "--help")):
         fixture.run(*words, program=Keeper.program).expect(2, b"", b"usage: bnc-keep <config>\n")
 
 
 @test
 def a_configuration_that_is_not_there(fixture):
-    wanted = b"read or write failed\ncan't read no/such.toml: no such file\n"
-    fixture.run("no/such.toml", program=Keeper.program).expect(4, b"", wanted)
+    for path in ("no/such.toml", "./--help"):
+        wanted = f"read or write failed\ncan't read {path}: no such file\n".encode()
+        fixture.run(path, program=Keeper.program).expect(4, b"", wanted)
