@@ -1,4 +1,8 @@
 //! One connection with a peer, which the keeper opened.
+ghost use Rattle.std.specs.Prelude.{◌≡◌, ◌++◌, [], IfOk, OnOk};
+ghost use Rattle.std.specs.Io.KnownBytes.{Appends};
+ghost use Rattle.gossip_link.specs.Arrival.{reply};
+
 use crate::clocks::monotonic_ms;
 use crate::event::KeeperEvent;
 use crate::kept::{carry_out, send_next};
@@ -178,7 +182,11 @@ impl<S: Read + Write> Talk<S> {
     }
 
     // Sends what waits.
-    fn flush(&mut self, now: u64) -> Result<(), Lost> {
+    fn flush(&mut self, now: u64) -> Result<(), Lost>
+        ensures written { OnOk result (Appends (S.contents self.old.stream)
+            (S.contents self.new.stream) self.old.out.items) }
+        ensures rest { self.new.out.items ≡ [] }
+    {
         if self.out.is_empty() {
             return Ok(());
         }
@@ -305,7 +313,10 @@ impl<S: Read + Write> Talk<S> {
         bond: &mut Bond,
         arrived: &Arrived,
         now: u64,
-    ) -> Result<Outcome, Lost> {
+    ) -> Result<Outcome, Lost>
+        ensures reply { IfOk result (λ outcome. self.new.out.items
+            ≡ self.old.out.items ++ reply bond.old.link arrived.now outcome) }
+    {
         let mut guard = common.shared.lock(rt);
         let shared = &mut *guard;
         if !shared.is_of(&bond.terms) {
