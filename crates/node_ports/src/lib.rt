@@ -15,4 +15,4 @@ pub use accounts::Accounts;
 pub use connection::{Connection, Fresh, Halt};
 pub use network_log::Origin;
 pub use node::{NetworkView, NodePass, NotPublished};
-pub use pending::Pending;
+pub use pending::{Pending, ReceiveFault};

@@ -1,15 +1,26 @@
 //! Bytes that wait.
-ghost use Rattle.std.specs.Prelude.{◌≡◌, ◌==◌, ◌++◌, [], drop, length, IfOk, OnErr};
+ghost use Rattle.std.specs.Prelude.{◌≡◌, ◌≤◌, ◌==◌, ◌++◌, [], drop, length, take, IfOk, OnErr};
 ghost use Rattle.network_log.specs.Telling.{MayBeTold};
 
-use crate::connection::Connection;
-use crate::straight::send_first;
+use crate::connection::{Connection, Halt};
+use crate::straight::{append, send_first};
 use byte_text::NoMemory;
 use std::alloc::Global;
 use std::marker::Model;
 
 /// So much room is kept where nothing waits: enough for a line or two, and not for a page.
 const KEPT: usize = 1024;
+
+/// Why no bytes were taken in.
+#[derive(Clone, Copy, Debug, PartialEq, Eq)]
+pub enum ReceiveFault {
+    /// None is there for now.
+    Blocked,
+    /// The connection is closed.
+    Closed,
+    /// There was no memory.
+    NoMemory,
+}
 
 /// Bytes that wait, oldest first. Contracts see them as their list.
 #[derive(Drop)]
@@ -71,6 +82,42 @@ impl Pending {
             self.move_to_front();
         }
         Ok(self.bytes.extend_from_slice(bytes)?)
+    }
+
+    /// Takes in bytes that come over a connection, behind those that wait and by way of the chunk, and answers how many. There is
+    /// room for them by then, so none that comes is lost: for want of memory nothing is taken.
+    pub fn receive<C: Connection>(
+        &mut self,
+        connection: &mut C,
+        chunk: &mut [u8],
+    ) -> Result<usize, ReceiveFault>
+        ensures count { IfOk result (λ n. n ≤ length chunk.new) }
+        ensures waits { IfOk result (λ n. self.new ≡ self.old ++ take n chunk.new) }
+        ensures received { IfOk result (λ n.
+            C.received connection.new ≡ C.received connection.old ++ take n chunk.new) }
+        ensures evidence { IfOk result (λ _. ∥ C.facts.came (C.origin connection.old)
+            (C.serial connection.old) (C.received connection.new) ∥₁) }
+        ensures err { OnErr result (self.new ≡ self.old) }
+        ensures none { OnErr result (C.received connection.new ≡ C.received connection.old) }
+        ensures sent { C.sent connection.new ≡ C.sent connection.old }
+        ensures origin { C.origin connection.new ≡ C.origin connection.old }
+        ensures serial { C.serial connection.new ≡ C.serial connection.old }
+        ensures joined { C.joined connection.new ≡ C.joined connection.old }
+    {
+        if self.first > 0 {
+            self.move_to_front();
+        }
+        if self.bytes.reserve(chunk.len()).is_err() {
+            return Err(ReceiveFault::NoMemory);
+        }
+        match connection.receive(chunk) {
+            Ok(count) => {
+                append(&mut self.bytes, &chunk[..count]);
+                Ok(count)
+            }
+            Err(Halt::Blocked) => Err(ReceiveFault::Blocked),
+            Err(Halt::Closed) => Err(ReceiveFault::Closed),
+        }
     }
 
     /// Sends the first of these bytes from where they lie, and the rest waits. For want of memory for all of them nothing is sent.

@@ -4,8 +4,8 @@ ghost use Rattle.network_log.specs.Telling.{MayBeTold};
 
 use crate::connection::Connection;
 
-// Appends bytes for which there is room.
-fn append(list: &mut Vec<u8>, bytes: &[u8])
+/// Appends bytes for which there is room.
+pub(crate) fn append(list: &mut Vec<u8>, bytes: &[u8])
     requires { vec_len list.old + length bytes.now ≤ vec_capacity list.old }
     ensures { list.new.items ≡ list.old.items ++ bytes.now }
 {
