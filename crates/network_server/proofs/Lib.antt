@@ -1,0 +1,3 @@
+mod InputLemmas
+mod BatchLemmas
+mod EventLemmas

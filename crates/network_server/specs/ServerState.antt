@@ -1,0 +1,30 @@
+-- The server of a network, as its connection stands.
+use Rattle.std.specs.Prelude.{ℕ, ◌≡◌, ◌++◌, List, Option}
+use Rattle.network_log.specs.Host.{Host}
+use Rattle.network_server.specs.declared.server.Loss.{Loss}
+
+-- In turn:
+--   host      what the network's log says of it
+--   owed      what of that it was told isn't sent yet, the last bytes
+--   bound     how many may be owed before its next line is taken
+--   heard_at  when bytes came last, in milliseconds
+--   loss      why nothing goes out any more, where that is so
+pub record ServerState : Type 0 where
+  pub host : Host
+  pub owed : List ℕ
+  pub bound : ℕ
+  pub heard_at : ℕ
+  pub loss : Option Loss
+
+-- bytes came over its connection at that moment
+abbrev pub with_received : List ℕ → ℕ → ServerState → ServerState
+with_received bytes now s = record s {
+  host = record s.host { received = s.host.received ++ bytes };
+  heard_at = now;
+}
+
+-- nothing changed but what the log says, and what is owed
+pub record StandsAsBefore (old new : ServerState) : Type 0 where
+  pub bound : new.bound ≡ old.bound
+  pub heard_at : new.heard_at ≡ old.heard_at
+  pub loss : new.loss ≡ old.loss
