@@ -1,15 +1,15 @@
 -- A batch as its parts and its changes.
-use Rattle.std.proofs.Common.{◌≡◌, ◌+◌, ℕ, zero, suc, Bool, true, false, List, [], ◌∷◌, ◌++◌, Option, None, Some, length, refl, sym, ap, ◌∙◌, append_assoc, append-nil, arith}
+use Rattle.std.proofs.Common.{◌≡◌, ◌+◌, ℕ, Bool, List, [], ◌∷◌, ◌++◌, length, refl, ap, ◌∙◌, append_assoc, arith}
 use Rattle.std.specs.List.{list_any}
 use Rattle.chat_change.specs.declared.change.Change.{Change}
 use Rattle.upstream_session.specs.declared.effect.UpEffect.{UpEffect}
 use Rattle.upstream_session.specs.declared.effect.UpEffect.TheVariants.{Send, Put, Relay, Close}
-use Rattle.network_log.specs.Host.{BatchEntry, Posted, entries_of, entering, renaming, is_own_by, passes_on}
+use Rattle.network_log.specs.Host.{BatchEntry, Posted, entries_of, is_own_by, passes_on}
 use Rattle.network_log.specs.NetworkState.{changes_of}
 use Rattle.network_server.specs.declared.batch.BatchPart.{BatchPart}
 use Rattle.network_server.specs.declared.batch.BatchPart.TheVariants as part
 use Rattle.network_server.specs.Effects.{is_relay}
-use Rattle.network_server.specs.Entries.{entries, posted_count, with_part, renaming_to}
+use Rattle.network_server.specs.Entries.{entries, posted_count, with_part}
 
 -- ---- one part more
 

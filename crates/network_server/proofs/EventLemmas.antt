@@ -17,7 +17,7 @@ use Rattle.network_log.specs.Facts.{NodeFacts}
 use Rattle.network_log.specs.Guest.{next_item as next_of}
 use Rattle.network_log.specs.Host.{Host, BatchEntry, host_after, one_heard, entries_by, entering, has_entered, sends_of}
 use Rattle.network_log.specs.Truth.{MayBeSkipped}
-use Rattle.network_log.specs.Log.{NetworkEvent, ServerSays, ServerSkips, step, after_server_line, after_server_item, after_session_step, after_saying_to, without_server}
+use Rattle.network_log.specs.Log.{ServerSays, ServerSkips, step, after_server_line, after_server_item, after_saying_to, without_server}
 use Rattle.network_log.specs.NetworkState.{NetworkState}
 use Rattle.network_server.specs.Effects.{closes}
 use Rattle.network_server.specs.ServerEvents.{Makes, LosesLine, IsSaid, LosesSaid}

@@ -4,7 +4,7 @@ use Rattle.std.specs.Prelude.{slice_get, if◌then◌else◌}
 use Rattle.std.specs.Io.BufRead.{strip_last}
 use Rattle.std.proofs.lemmas.Bool.{cond-true, cond-false, lt-ltb, le-ltb}
 use Rattle.std.proofs.lemmas.List.{drop-drop, length-take}
-use Rattle.irc_line.specs.Stream.{Item, line, too_long, is_lf, item_of, Held, holding, skipping, bytes_of, held_past, held_with, held_without, first_item, next_item, items, items_from}
+use Rattle.irc_line.specs.Stream.{Item, line, too_long, is_lf, Held, holding, skipping, bytes_of, held_past, held_with, held_without, first_item, next_item, items, items_from}
 use Rattle.irc_line.specs.Calls.{with_first}
 use Rattle.irc_line.proofs.CallerLemmas.{items_line, items_rest, taken-append, step}
 use Rattle.network_log.specs.Guest.{next_item as next_of}

@@ -1,5 +1,5 @@
 -- Which events of a network's log change its server.
-use Rattle.std.specs.Prelude.{ℕ, ◌≡◌, List, [], Option, None, Some}
+use Rattle.std.specs.Prelude.{ℕ, ◌≡◌, List, [], Some}
 use Rattle.network_log.specs.Facts.{NodeFacts}
 use Rattle.network_log.specs.Host.{Host, BatchEntry}
 use Rattle.network_log.specs.NetworkState.{NetworkState}

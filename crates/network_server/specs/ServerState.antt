@@ -1,7 +1,9 @@
 -- The server of a network, as its connection stands.
-use Rattle.std.specs.Prelude.{ℕ, ◌≡◌, ◌++◌, List, Option}
+use Rattle.std.specs.Prelude.{ℕ, ◌≡◌, ◌≤◌, ◌+◌, ◌/◌, ◌++◌, true, length, List, Option, Some, None}
 use Rattle.network_log.specs.Host.{Host}
 use Rattle.network_server.specs.declared.server.Loss.{Loss}
+use Rattle.network_server.specs.declared.server.Loss.TheVariants.{Ended, Silent}
+use Rattle.network_server.specs.declared.server.TheConstants.{QUIET}
 
 -- In turn:
 --   host      what the network's log says of it
@@ -23,8 +25,18 @@ with_received bytes now s = record s {
   heard_at = now;
 }
 
+-- a client's line is taken for it
+abbrev pub HasCredit : ServerState → Type 0
+HasCredit s = (s.loss ≡ None) × (length s.owed ≤ s.bound / 2)
+
 -- nothing changed but what the log says, and what is owed
 pub record StandsAsBefore (old new : ServerState) : Type 0 where
   pub bound : new.bound ≡ old.bound
   pub heard_at : new.heard_at ≡ old.heard_at
   pub loss : new.loss ≡ old.loss
+
+-- It may be ended at that moment, and why. In turn: its session is over; nothing goes out any more; and nothing came for too long.
+pub data MayEnd (s : ServerState) (now : ℕ) : Loss → Type 0 where
+  IsOver : s.host.session.is_closed ≡ true → MayEnd s now Ended
+  IsLost : (loss : Loss) → s.loss ≡ Some loss → MayEnd s now loss
+  IsSilent : s.heard_at + QUIET ≤ now → MayEnd s now Silent

@@ -11,9 +11,11 @@ mod batch;
 mod dialogue;
 mod input;
 mod opening;
+mod retry;
 mod server;
 mod standing;
 
 pub use batch::{Batch, BatchPart};
 pub use opening::Site;
+pub use retry::Retry;
 pub use server::{HearFault, Hearing, Loss, SayFault, Server};

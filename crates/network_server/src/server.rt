@@ -1,5 +1,5 @@
 //! The server of a network.
-ghost use Rattle.std.specs.Prelude.{◌≡◌, ◌≢◌, ◌≤◌, ◌⊎◌, ◌+◌, ◌++◌, ◌/◌, [], Err, None, Ok, Some, IfOk, IfSome, OnErr, OnOk, is_some, length, take, true};
+ghost use Rattle.std.specs.Prelude.{◌≡◌, ◌≢◌, ◌↔◌, ◌<◌, ◌≤◌, ◌⊎◌, ◌+◌, ◌-◌, ◌^◌, ◌++◌, [], Err, None, Ok, Some, IfOk, IfSome, OnErr, OnOk, is_some, length, min, take, true};
 ghost use Rattle.network_log.specs.Guest.{next_item};
 ghost use Rattle.network_log.specs.Host.{new_host, one_heard};
 ghost use Rattle.network_log.specs.Log.{ServerGets, ServerSays, ServerSkips};
@@ -8,11 +8,11 @@ ghost use Rattle.network_log.specs.Truth.{MayBeSkipped};
 ghost use Rattle.network_log.specs.declared.origin.Origin.TheVariants.{NetworkDialed};
 ghost use Rattle.node_ports.specs.declared.pending.ReceiveFault.TheVariants as unreceived;
 ghost use Rattle.network_server.specs.ServerEvents.{Becomes, IsSaid, LosesLine, LosesSaid, Makes};
-ghost use Rattle.network_server.specs.ServerState.{StandsAsBefore, with_received};
+ghost use Rattle.network_server.specs.ServerState.{HasCredit, MayEnd, StandsAsBefore, with_received};
 ghost use Rattle.network_server.specs.declared.opening.TheConstants.{MOST_OWED};
+ghost use Rattle.network_server.specs.declared.server.TheConstants.{QUIET};
 ghost use Rattle.network_server.specs.declared.server.HearFault.TheVariants as fault;
 ghost use Rattle.network_server.specs.declared.server.Hearing.TheVariants as hearing;
-ghost use Rattle.network_server.specs.declared.server.Loss.TheVariants as loss;
 ghost use Rattle.network_server.specs.declared.server.SayFault.TheVariants as saying;
 
 use crate::batch::Batch;
@@ -26,6 +26,9 @@ use node_ports::{Connection, Fresh, Halt, ReceiveFault};
 use std::alloc::Global;
 use std::marker::Model;
 use upstream_session::{Upstream, is_passed_on};
+
+/// A server that sent nothing for so many milliseconds is given up.
+const QUIET: u64 = 300_000;
 
 /// So often a line is tried before it is given up.
 const TRIES: u32 = 10;
@@ -42,6 +45,8 @@ pub enum Loss {
     Ended,
     /// It didn't read what was owed to it.
     Overrun,
+    /// Nothing came for too long.
+    Silent,
 }
 
 /// What came of asking for the server's next line.
@@ -286,7 +291,8 @@ impl<C: Connection> Server<C> {
         ensures bounded { result ≡ Ok hearing.Line → self.old.loss ≡ None
             → length self.old.owed ≤ self.old.bound }
         ensures none { result ≡ Ok hearing.More → (self.new ≡ self.old) × (batch.new ≡ batch.old) }
-        ensures full { result ≡ Ok hearing.Full → (self.new ≡ self.old) × (batch.new ≡ batch.old) }
+        ensures full { result ≡ Ok hearing.Full → (self.old.bound < length self.old.owed)
+            × (self.new ≡ self.old) × (batch.new ≡ batch.old) }
         ensures again { result ≡ Err fault.Again → self.new ≡ self.old }
         ensures given_up { result ≡ Err fault.GivenUp → self.new ≡ self.old }
         ensures lost { result ≡ Err fault.Lost
@@ -360,7 +366,7 @@ impl<C: Connection> Server<C> {
 
     /// Whether a client's line is taken for it: the connection isn't lost, and at most half of the bound is owed.
     pub fn has_credit(&self) -> bool
-        ensures { result ≡ true → (self.now.loss ≡ None) × (length self.now.owed ≤ self.now.bound / 2) }
+        ensures { result ≡ true ↔ HasCredit self.now }
     {
         self.loss.is_none() && self.dialogue.output.len() <= self.bound / 2
     }
@@ -376,9 +382,8 @@ impl<C: Connection> Server<C> {
     ) -> Result<(), SayFault>
         ensures said { OnOk result (IsSaid now text.now
             self.old.host batch.old self.new.host batch.new) }
-        ensures credit { OnOk result ((self.old.loss ≡ None)
-            × (length self.old.owed ≤ self.old.bound / 2)) }
-        ensures later { result ≡ Err saying.Later → self.new ≡ self.old }
+        ensures credit { OnOk result (HasCredit self.old) }
+        ensures later { result ≡ Err saying.Later → (¬ HasCredit self.old) × (self.new ≡ self.old) }
         ensures memory { result ≡ Err saying.NoMemory → self.new ≡ self.old }
         ensures lost { result ≡ Err saying.Lost
             → LosesSaid C.facts now text.now self.old.host self.new.host }
@@ -437,18 +442,28 @@ impl<C: Connection> Server<C> {
         self.lose(Loss::Overrun);
     }
 
-    /// Why it is to be ended, where it is: its session is over and what was owed is sent, or the connection is lost and what came
-    /// before was heard.
-    pub fn is_over(&self) -> Option<Loss>
-        ensures { IfSome result (λ why. ((why ≡ loss.Ended) × (self.now.host.session.is_closed ≡ true))
-            ⊎ (self.now.loss ≡ Some why)) }
+    /// The moment at which it is given up, where nothing comes before.
+    pub fn silent_at(&self) -> u64
+        ensures { result ≡ min (self.now.heard_at + QUIET) (2 ^ 64 - 1) }
+    {
+        self.heard_at.saturating_add(QUIET)
+    }
+
+    /// Why it is to be ended at that moment, where it is: its session is over and what was owed is sent, or the connection is lost and
+    /// what came before was heard, or nothing came for too long.
+    pub fn is_over(&self, now: u64) -> Option<Loss>
+        ensures some { IfSome result (λ why. MayEnd self.now now why) }
+        ensures none { result ≡ None → now < self.now.heard_at + QUIET }
     {
         let is_sent = self.dialogue.output.is_empty() || self.loss.is_some();
         if self.dialogue.is_over && is_sent {
             return Some(Loss::Ended);
         }
-        if self.is_drained {
+        if self.is_drained && self.loss.is_some() {
             return self.loss;
+        }
+        if now.saturating_sub(self.heard_at) >= QUIET {
+            return Some(Loss::Silent);
         }
         None
     }

@@ -1,4 +1,4 @@
-use Rattle.std.proofs.Common.{ℕ, true, List, ◌++◌, Option, Some, refl, sym, ap, ◌∙◌, arith}
+use Rattle.std.proofs.Common.{ℕ, true, List, ◌++◌, Option, refl, sym, ap, ◌∙◌, arith}
 use Rattle.network_log.specs.Host.{entering}
 use Rattle.network_server.specs.Entries.{entries, posted_count}
 use Rattle.network_server.specs.declared.batch.BatchPart.{BatchPart}

@@ -1,4 +1,4 @@
-use Rattle.std.proofs.Common.{ℕ, List, ◌++◌, Option, Some, append-nil, refl, sym, ap, ◌∙◌, arith}
+use Rattle.std.proofs.Common.{ℕ, List, ◌++◌, Option, refl, sym, ap, ◌∙◌, arith}
 use Rattle.network_server.specs.Entries.{entries, posted_count, renaming_to}
 use Rattle.network_server.specs.declared.batch.BatchPart.{BatchPart}
 use Rattle.network_server.specs.declared.batch.BatchPart.TheVariants as part

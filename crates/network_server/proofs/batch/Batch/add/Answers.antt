@@ -1,5 +1,5 @@
-use Rattle.std.proofs.Common.{◌≡◌, true, Bool, List, ◌++◌, ap, ◌∙◌}
-use Rattle.network_log.specs.Host.{BatchEntry, entering, entries_of, passes_on}
+use Rattle.std.proofs.Common.{◌≡◌, List, ◌++◌, ap, ◌∙◌}
+use Rattle.network_log.specs.Host.{BatchEntry, passes_on}
 use Rattle.network_server.specs.Effects.{relays}
 use Rattle.network_server.specs.Entries.{entries, renaming_to}
 use Rattle.network_server.proofs.BatchLemmas.{in-turn, passes-any}

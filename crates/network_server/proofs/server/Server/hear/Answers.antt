@@ -1,9 +1,9 @@
-use Rattle.std.proofs.Common.{◌≡◌, ℕ, List, ◌++◌, Some, Err, refl, sym, ap, ◌∙◌, subst, inr}
+use Rattle.std.proofs.Common.{◌++◌, Err, refl, sym, ap, ◌∙◌, subst, inr}
 use Rattle.irc_line.specs.Stream.{line as whole_line, too_long as cut_line}
 use Rattle.upstream_session.specs.Session.{step as session_step}
 use Rattle.network_log.specs.Guest.{next_item}
-use Rattle.network_log.specs.Host.{Host, BatchEntry, one_heard}
-use Rattle.network_log.specs.Log.{ServerSays, ServerSkips}
+use Rattle.network_log.specs.Host.{Host, one_heard}
+use Rattle.network_log.specs.Log.{ServerSays}
 use Rattle.network_server.specs.ServerEvents.{Makes, LosesLine}
 use Rattle.network_server.specs.ServerState.{ServerState}
 use Rattle.network_server.proofs.InputLemmas.{next-is}
@@ -49,7 +49,7 @@ returns-in-Ok-clause-line g c = λ _.
     c.in-Ok.ensures.session c.in-Ok.ensures.output in
     subst (λ (s : ServerState). Makes g.C.Connection.facts (ServerSays c.args.now) s.host c.args.batch.now c.count_line-in-Ok.new.self.host c.hear.new.batch) c.self.view_is
     (says g.C.Connection.facts c.args.now before _ c.count_line-in-Ok.new.self.host c.args.batch.now c.hear.new.batch bytes there said
-    (ap (λ (s : ServerState). s.host) c.count_line-in-Ok.ensures) c.in-Ok.ensures.batch)
+    (λ i. (c.count_line-in-Ok.ensures i).host) c.in-Ok.ensures.batch)
 
 pub returns-in-Err-Lost-clause-lost : goal.returns-in-Err-Lost-clause-lost
 returns-in-Err-Lost-clause-lost g c = λ _.
