@@ -1,2 +1,2 @@
--- ---- what only the proofs use of the code: the places of networks
+-- ---- what a reader has to believe: the places of networks
 pub mod Places

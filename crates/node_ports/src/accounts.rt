@@ -61,8 +61,8 @@ impl Accounts {
         self.networks.get(place)
     }
 
-    // The place of that network of that account.
-    fn place_of(&self, account: &[u8], network: &[u8]) -> Option<usize>
+    /// The place of that network of that account, the first of that name.
+    pub fn place_of(&self, account: &[u8], network: &[u8]) -> Option<usize>
         ensures { result ≡ spec.place_of self.now account.now network.now }
     {
         self.networks
