@@ -1,0 +1,5 @@
+pub mod UnreadLemmas
+pub mod RingLemmas
+pub mod SayingLemmas
+pub mod StepLemmas
+pub mod NewcomerLemmas

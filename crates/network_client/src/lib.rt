@@ -1,0 +1,25 @@
+//! Clients: the newcomer that each is as it comes, and the client of a network that it is once it is let in.
+//!
+//! A [`Newcomer`] hears its lines by the accounts as they are configured, until one of them names a network. It moves there whole
+//! ([`Arrival`]), hears the next ones there, and is a [`Client`] of that network once its session is registered. Contracts see
+//! either as a `Guest` of `network_log`, and each method says which of its events happens.
+#![tactic(auto)]
+
+#[cfg(test)]
+mod accounts;
+mod client;
+mod feeders;
+mod hearing;
+mod input;
+#[cfg(test)]
+mod memory;
+mod naming;
+mod newcomer;
+mod ring;
+#[cfg(test)]
+mod tests;
+
+pub use client::Client;
+pub use feeders::Feeders;
+pub use input::Filled;
+pub use newcomer::{Arrival, Newcomer};

@@ -1,0 +1,197 @@
+//! Clients that came and aren't let in yet.
+ghost use Rattle.std.specs.Prelude.{◌≡◌, ◌≢◌, ◌↔◌, ◌⊎◌, [], Some, IfOk, IfErr, OnErr, IfSome, IsSome, IsTrue, true, false, slice_get};
+ghost use Rattle.client_session.specs.declared.effect.Effect.TheVariants.{Close};
+ghost use Rattle.network_log.specs.Guest.{Closes, Offers, fallen, guest_step, new_guest, next_item};
+ghost use Rattle.network_log.specs.Truth.{IsDirectory, AreWholeLines};
+ghost use Rattle.network_log.specs.declared.origin.Origin.TheVariants.{ClientCame};
+ghost use Rattle.network_client.specs.Naming.{place_in_item};
+ghost use Rattle.network_client.specs.Steps as spec;
+
+use crate::client::Client;
+use crate::feeders::Feeders;
+use crate::input::{Filled, Input};
+use byte_text::{NoMemory, Text};
+use client_places::{Overrun, RingClient};
+use client_session::{Directory, Session};
+use node_ports::{Accounts, Connection, Fresh, Halt, Pending};
+use std::alloc::Global;
+use std::marker::Model;
+
+/// A client that isn't registered yet. It was told what its session says to its lines, and nothing else.
+#[derive(Drop)]
+pub struct Newcomer<C: Connection> {
+    client: Client<C>,
+}
+
+impl<C: Connection> Model for Newcomer<C> {
+    ghost use Rattle.network_log.specs.Guest.{Guest};
+    ghost use Rattle.network_log.specs.Truth.{IsNewcomer};
+
+    ghost Value = { Guest };
+
+    ghost view = { λ n. n.client };
+
+    ghost invariant = { λ n. ∥ IsNewcomer C.facts n.client ∥₁ };
+}
+
+/// A newcomer whose next line names the network at that place. It moves there, whole, and hears the line there.
+#[derive(Drop)]
+pub struct Arrival<C: Connection> {
+    pub network: usize,
+    pub newcomer: Newcomer<C>,
+    pub ghost is_named: { place_in_item C.facts.accounts
+        (next_item newcomer.received newcomer.heard) ≡ Some network },
+}
+
+impl<C: Connection> Newcomer<C> {
+    /// It came, and nothing was read or told. `cluster` is the name of the cluster, which answers with so many messages at most.
+    pub fn new(
+        alloc: Global,
+        fresh: Fresh<C>,
+        ring: RingClient,
+        cluster: &[u8],
+        maximum: u32,
+    ) -> Result<Newcomer<C>, NoMemory>
+        requires origin { C.origin fresh.connection ≡ ClientCame }
+        requires owed { ring.owed ≡ [] }
+        requires cluster { cluster.now ≡ C.facts.cluster }
+        requires maximum { maximum ≡ C.facts.maximum }
+        ensures { IfOk result (λ newcomer.
+            newcomer ≡ new_guest C.facts (C.serial fresh.connection)) }
+    {
+        let session = Session::new(alloc, cluster, maximum)?;
+        let nick = Text::new(alloc, b"*")?;
+        let Fresh { connection, .. } = fresh;
+        let client = Client {
+            connection,
+            ring,
+            input: Input::new(alloc),
+            heard: 0,
+            session,
+            effects: Vec::new(alloc),
+            done: 0,
+            waiting: Pending::new(alloc),
+            nick,
+            is_gone: false,
+        };
+        Ok(Newcomer { client })
+    }
+
+    /// It, as a client.
+    pub fn client(&self) -> &Client<C>
+        ensures { result.now ≡ self.now }
+    {
+        &self.client
+    }
+
+    /// What the port tells of its connection: bytes may be there.
+    pub fn mark_readable(&mut self)
+        ensures { self.new ≡ self.old }
+    {
+        self.client.mark_readable();
+    }
+
+    /// It is gone from now on.
+    pub fn fall(&mut self)
+        ensures { self.new ≡ fallen self.old }
+    {
+        self.client.fall();
+    }
+
+    /// Takes in what comes over its connection. It is gone where there is no memory for that.
+    pub fn fill(&mut self, chunk: &mut [u8], feeders: &mut Feeders) -> Filled
+        ensures { ∥ spec.IsFilled C.facts self.old self.new ∥₁ }
+    {
+        self.client.fill(chunk, feeders)
+    }
+
+    /// Whether there is a line to be heard, and all that the last one came to is done. It is gone where there is no memory for
+    /// the line.
+    pub fn has_line(&mut self) -> bool
+        ensures none { result ≡ false → ∥ (self.new ≡ self.old) ⊎ (self.new ≡ fallen self.old) ∥₁ }
+        ensures some { result ≡ true → self.new ≡ self.old }
+        ensures next { result ≡ true → IsSome (next_item self.old.received self.old.heard) }
+        ensures there { result ≡ true → self.old.is_gone ≡ false }
+        ensures done { result ≡ true → self.old.todo ≡ [] }
+    {
+        self.client.has_line()
+    }
+
+    /// It moves to the network that its next line names, where that is one of these.
+    pub fn arrive(self, accounts: &Accounts) -> Result<Arrival<C>, Newcomer<C>>
+        requires accounts { accounts.now ≡ C.facts.accounts }
+        requires there { self.is_gone ≡ false }
+        ensures moves { IfOk result (λ arrival. arrival.newcomer ≡ self) }
+        ensures stays { IfErr result (λ newcomer. newcomer ≡ self) }
+    {
+        match self.network_named(accounts) {
+            Some(network) => Ok(Arrival {
+                network,
+                newcomer: self,
+            }),
+            None => Err(self),
+        }
+    }
+
+    /// The place of the network that its next line names, where that is one of these.
+    pub fn network_named(&self, accounts: &Accounts) -> Option<usize>
+        requires { self.now.is_gone ≡ false }
+        ensures { IfSome result (λ place.
+            place_in_item accounts.now (next_item self.now.received self.now.heard) ≡ Some place) }
+    {
+        self.client.network_named(accounts)
+    }
+
+    /// Its next line is heard by these accounts. None where it is gone: for want of memory, or since the line let it in, which no
+    /// line does that is heard before it moved to its network.
+    pub fn hear(self, alloc: Global, directory: &Directory) -> Option<Newcomer<C>>
+        requires directory { ∥ IsDirectory C.facts directory.now ∥₁ }
+        requires there { self.is_gone ≡ false }
+        requires done { self.todo ≡ [] }
+        ensures { IfSome result (λ newcomer.
+            ∥ spec.IsHeard directory.now false self newcomer ∥₁) }
+    {
+        let Newcomer { mut client } = self;
+        let Ok(true) = client.step(alloc, directory, false) else {
+            return None;
+        };
+        if client.facts().is_some() {
+            return None;
+        }
+        Some(Newcomer { client })
+    }
+
+    /// All that its session says waits for it. It is gone where there is no memory for that.
+    pub fn say_all(&mut self) -> Result<(), NoMemory>
+        requires { self.old.is_gone ≡ false }
+        ensures said { IfOk result (λ _. self.new ≡ spec.all_said self.old) }
+        ensures fell { OnErr result (self.new ≡ fallen self.old) }
+    {
+        self.client.say_all()
+    }
+
+    /// Whether its session ends, which is next. That is done with this.
+    pub fn close(&mut self) -> bool
+        requires { self.old.is_gone ≡ false }
+        ensures closes { self.new ≡ guest_step [] Closes self.old }
+        ensures is_closing { IsTrue result ↔ (slice_get self.old.todo 0 ≡ Some Close) }
+    {
+        self.client.close()
+    }
+
+    /// Moves the first of what waits to its ring ([`Client::offer`]).
+    pub fn offer(&mut self) -> Result<usize, Overrun>
+        ensures offered { IfOk result (λ n. self.new ≡ guest_step [] (Offers n) self.old) }
+        ensures whole { IfOk result (λ n. n ≢ 0 → ∥ AreWholeLines self.old.waiting n ∥₁) }
+        ensures fell { OnErr result (self.new ≡ fallen self.old) }
+    {
+        self.client.offer()
+    }
+
+    /// Sends the first of what is in its ring, by one write.
+    pub fn pump(&mut self) -> Result<(), Halt>
+        ensures { self.new ≡ self.old }
+    {
+        self.client.pump()
+    }
+}
