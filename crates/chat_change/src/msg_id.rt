@@ -4,7 +4,6 @@ ghost use Rattle.chat_change.specs.Words as spec;
 ghost use Rattle.chat_change.specs.Faults.{id_fault, fault_or_no_memory};
 ghost use Rattle.chat_change.specs.CompactText.{bytes_of};
 ghost use Rattle.byte_text.specs.Order.{text_cmp};
-ghost use Rattle.chat_change.specs.Order.{id_cmp};
 
 use crate::compact_text::CompactText;
 use crate::faults::ChangeFault;
@@ -122,7 +121,7 @@ impl PartialOrd for MsgId {
     ghost use Rattle.std.specs.Cmp.Rules.{comparing};
     ghost use Rattle.std.specs.Ordering.{as_partial_cmp};
 
-    ghost partial_cmp = { as_partial_cmp id_cmp };
+    ghost partial_cmp = { as_partial_cmp text_cmp };
 
     ghost laws = { Prim.search (comparing, rules) };
 
@@ -131,13 +130,12 @@ impl PartialOrd for MsgId {
     }
 }
 
-/// The greatest id comes first. The ids that a node makes rise, and a map looks at its first keys first: so the place of
-/// a new one is found at once.
+/// Ids are compared byte by byte.
 impl Ord for MsgId {
     ghost use Rattle.std.proofs.Common.{rules};
     ghost use Rattle.std.specs.Cmp.Rules.{comparing};
 
-    ghost cmp = { id_cmp };
+    ghost cmp = { text_cmp };
 
     ghost total = { Prim.search (comparing, rules) };
 
@@ -146,7 +144,7 @@ impl Ord for MsgId {
     ghost matches_eq = { Prim.search (comparing, rules) };
 
     fn cmp(&self, other: &MsgId) -> Ordering {
-        other.text_order(self)
+        self.text_order(other)
     }
 }
 

@@ -4,7 +4,7 @@ ghost use Rattle.std.specs.Prelude.{◌≡◌};
 ghost use Rattle.std.proofs.Common.{rules};
 ghost use Rattle.std.specs.Cmp.Rules.{comparing};
 ghost use Rattle.std.specs.Ordering.{as_partial_cmp, eq_by_cmp};
-ghost use Rattle.chat_history.specs.Cut.{cut_cmp, latest_first, latest_first_total, of_record, is_after};
+ghost use Rattle.chat_history.specs.Cut.{cut_cmp, cut_total, of_record, is_after};
 
 use chat_change::{Moment, MsgId, Record};
 use std::alloc::AllocError;
@@ -81,9 +81,9 @@ impl Spot {
 }
 
 impl PartialEq for Spot {
-    ghost eq = { eq_by_cmp latest_first };
+    ghost eq = { eq_by_cmp cut_cmp };
 
-    ghost laws = { Prim.search (comparing, latest_first_total, rules) };
+    ghost laws = { Prim.search (comparing, cut_total, rules) };
 
     fn eq(&self, other: &Spot) -> bool {
         self.cmp(other).is_eq()
@@ -91,32 +91,31 @@ impl PartialEq for Spot {
 }
 
 impl Eq for Spot {
-    ghost laws = { Prim.search (comparing, latest_first_total, rules) };
+    ghost laws = { Prim.search (comparing, cut_total, rules) };
 }
 
 impl PartialOrd for Spot {
-    ghost partial_cmp = { as_partial_cmp latest_first };
+    ghost partial_cmp = { as_partial_cmp cut_cmp };
 
-    ghost laws = { Prim.search (comparing, latest_first_total, rules) };
+    ghost laws = { Prim.search (comparing, cut_total, rules) };
 
     fn partial_cmp(&self, other: &Spot) -> Option<Ordering> {
         Some(self.cmp(other))
     }
 }
 
-/// The latest spot comes first. Most messages come in the order of their moments, and a map looks at its first keys first:
-/// so the place of a new one is found at once.
+/// Spots are compared by moment, and at equal moments by id, byte by byte. No id stands before all ids.
 impl Ord for Spot {
-    ghost cmp = { latest_first };
+    ghost cmp = { cut_cmp };
 
-    ghost total = { Prim.search (comparing, latest_first_total, rules) };
+    ghost total = { Prim.search (comparing, cut_total, rules) };
 
     ghost matches_partial_cmp = { Prim.search (comparing, rules) };
 
     ghost matches_eq = { Prim.search (comparing, rules) };
 
     fn cmp(&self, other: &Spot) -> Ordering {
-        other.order(self)
+        self.order(other)
     }
 }
 
