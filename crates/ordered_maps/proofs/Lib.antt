@@ -10,3 +10,4 @@ pub mod CallerLemmas
 mod PartLemmas
 mod EntriesLemmas
 mod CloneLemmas
+mod RetainLemmas

@@ -76,7 +76,7 @@ module _ {K X : Type 0} {R : K → K → Ordering} (o : IsTotalOrder R) where
   none_below : (es : List (K × X)) (k q : K) → R k q ≡ Equal → AreBelow R k es → NonePasses (is_at (R q)) es
   none_below es k q t a = none_at es k q t (all_so {P = (λ e. R e.0 k ≡ Less)} {Q = (λ e. is_eq (R e.0 k) ≡ false)} (λ e l. ap is_eq l) es a)
 
-  none_above : (es : List (K × X)) (k q : K) → R k q ≡ Equal → AreAbove R k es → NonePasses (is_at (R q)) es
+  pub none_above : (es : List (K × X)) (k q : K) → R k q ≡ Equal → AreAbove R k es → NonePasses (is_at (R q)) es
   none_above es k q t a = none_at es k q t (all_so {P = (λ e. R e.0 k ≡ Greater)} {Q = (λ e. is_eq (R e.0 k) ≡ false)} (λ e l. ap is_eq l) es a)
 
   -- ---- parts of entries that are ordered
@@ -85,7 +85,7 @@ module _ {K X : Type 0} {R : K → K → Ordering} (o : IsTotalOrder R) where
   head_below k [] r a = a
   head_below k (e ∷ l) r a = head_below k l r a.1
 
-  keys_above : (k : K) (es : List (K × X)) → AllByRecursion (λ y. R k y ≡ Less) (keys_of es) → AreAbove R k es
+  pub keys_above : (k : K) (es : List (K × X)) → AllByRecursion (λ y. R k y ≡ Less) (keys_of es) → AreAbove R k es
   keys_above k [] a = tt
   keys_above k (e ∷ es) a = (above_from_below o k e.0 a.0, keys_above k es a.1)
 

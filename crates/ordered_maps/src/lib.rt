@@ -14,4 +14,4 @@ mod page;
 
 pub use growth::{exchange, put};
 pub use keys::{Prefixed, Sought};
-pub use packed_map::{PackedEntries, PackedMap};
+pub use packed_map::{Keeps, PackedEntries, PackedMap};

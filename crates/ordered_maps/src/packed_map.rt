@@ -8,11 +8,13 @@ mod cuts;
 mod edits;
 mod entries;
 mod reads;
+mod retain;
 mod search;
 
 use crate::keys::Prefixed;
 use crate::page::Page;
 pub use entries::PackedEntries;
+pub use retain::Keeps;
 use std::alloc::Global;
 use std::collections::VecDeque;
 use std::marker::Model;

@@ -1,12 +1,13 @@
 //! A page of a packed map.
 
 ghost use Rattle.std.specs.Prelude.{◌≡◌, ◌≤◌, ◌<◌, ◌++◌, ◌∷◌, [], None, false, length, take, drop, slice_index_or, IfOk, OnOk, OnErr, IsTrue};
-ghost use Rattle.std.specs.List.{insert, remove};
+ghost use Rattle.std.specs.List.{insert, remove, filter};
 ghost use Rattle.std.specs.List.Sorted.{IsBinarySearchResult, IsSearchInRange};
 ghost use Rattle.std.specs.Option.{option_to_list};
 ghost use Rattle.ordered_maps.specs.Pages.{first_prefix, starts_above, WritesValue};
 
 use crate::keys::{Prefixed, Sought, order};
+use crate::packed_map::Keeps;
 use std::alloc::{AllocError, Global};
 use std::collections::VecDeque;
 use std::marker::Model;
@@ -126,6 +127,17 @@ impl<K: Prefixed + Drop, V: Drop> Page<K, V> {
         self.first = first_prefix(&self.entries);
         self.give_room_back();
         entry
+    }
+
+    /// Keeps the entries whose values stay by a test, and gives room back where more than half is left. It takes no memory.
+    pub(crate) fn retain<T: Keeps<V>>(&mut self, test: &T)
+        ensures { self.new ≡ filter (λ e. T.is_kept test.now e.1) self.old }
+    {
+        self.entries.retain(|entry| test.keeps(&entry.1));
+        self.first = first_prefix(&self.entries);
+        if self.entries.len() <= self.entries.capacity() / 2 {
+            self.entries.shrink_to_fit();
+        }
     }
 
     // Takes room for a quarter more entries where there is none. By itself a list takes room for as many again, of which half
