@@ -5,3 +5,5 @@ pub use Rattle.chat_buffers.proofs.SettleLemmas.{not_same, entered_keyed, remove
 -- a value that is kept passes
 pub use Rattle.chat_buffers.proofs.SoughtLemmas.{kept_passes, past_closed}
 pub use Rattle.chat_buffers.proofs.CursorLemmas.{filter_all}
+-- what a floor leaves stands under its keys
+pub use Rattle.chat_buffers.proofs.FloorLemmas.{swept_keyed}

@@ -6,6 +6,7 @@ mod KeptRecordLemmas
 mod StoreLemmas
 mod HeldLemmas
 mod SettleLemmas
+mod FloorLemmas
 mod LookupLemmas
 mod FindingLemmas
 mod KeptLemmas

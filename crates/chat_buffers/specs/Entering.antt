@@ -47,6 +47,15 @@ is_below e f (Post r) = is_covered e r.buffer && nat_lt r.at f
 is_below (OfAccount a) f (Floor d u) = same_account a d.account && nat_le u f
 is_below e f c = false
 
+-- a piece, where a floor of that extent doesn't take it away
+abbrev pub unless_below : Extent → ℕ → Option Numbered → Option Numbered
+unless_below e f None = None
+unless_below e f (Some p) = if is_below e f p.change then None else Some p
+
+-- all that lies below a floor of that extent was taken out, and nothing else
+abbrev pub IsSwept : Extent → ℕ → Store → Store → Type 0
+IsSwept e f old new = (k : Key) → finite.get new k ≡ unless_below e f (finite.get old k)
+
 -- one record of a buffer below a floor was taken out, whose piece had that number
 pub record TakesOne (old : Store) (b : Buffer) (f n : ℕ) (new : Store) : Type 0 where
   pub post : Record

@@ -1,5 +1,5 @@
 -- Message ids as keys of a map: the prefix of an id.
-use Rattle.std.specs.Prelude.{ℕ, ◌≡◌, ◌<◌, ◌+◌, ◌-◌, ◌*◌, ◌^◌, zero, suc, List, [], ◌∷◌, min}
+use Rattle.std.specs.Prelude.{ℕ, ◌+◌, ◌-◌, ◌*◌, ◌^◌, zero, suc, List, [], ◌∷◌, min}
 
 -- the first k bytes of a text as a number, the first counting most, with zeros where it is shorter. It is at most the greatest
 -- number of k bytes

@@ -9,7 +9,7 @@ ghost use Rattle.std.specs.Option.{option_map};
 ghost use Rattle.chat_change.specs.declared.change.Change.TheVariants as value;
 ghost use Rattle.chat_buffers.specs.MessageRef.{message_change, IsMessageOf};
 ghost use Rattle.chat_buffers.specs.Store as spec;
-ghost use Rattle.chat_buffers.specs.Entering.{FitsStore, IsEntered, TakesOne, IsSweptOf};
+ghost use Rattle.chat_buffers.specs.Entering.{FitsStore, IsEntered, TakesOne, IsSweptOf, IsSwept};
 ghost use Rattle.chat_buffers.specs.Held.{IsOfBuffer, floor_piece};
 
 use crate::held::{Held, Stamp, floor_ms, moment_of, nothing_held, number_of, settle};
@@ -234,5 +234,22 @@ impl Buffers {
     {
         let held = self.held.get_mut(buffer)?;
         held.messages.remove_first_below(floor)
+    }
+    /// Takes the records of a buffer out that stand before a floor, in one walk over its messages. It takes no memory.
+    pub fn remove_below(&mut self, buffer: &Buffer, floor: Moment)
+        ensures { IsSwept (extents.OfBuffer buffer.now) floor self.old self.new }
+    {
+        let Some(held) = self.held.get_mut(buffer) else {
+            return;
+        };
+        held.messages.remove_below(floor);
+    }
+
+    /// How many pages of 64 or fewer records a buffer has of which some stand before a floor.
+    pub fn page_count_below(&self, buffer: &Buffer, floor: Moment) -> usize {
+        match self.held.get(buffer) {
+            Some(held) => held.messages.page_count_below(floor),
+            None => 0,
+        }
     }
 }

@@ -3,12 +3,14 @@
 ghost use Rattle.std.specs.Prelude.{◌≡◌, [], IsTrue, IsSome, false, IfOk, OnOk, OnErr};
 ghost use Rattle.std.specs.Map.Iter.{deref};
 ghost use Rattle.std.specs.Option.{option_map};
-ghost use Rattle.ordered_maps.specs.MapView.{get, IsWith, IsWithout};
+ghost use Rattle.ordered_maps.specs.MapView.{get, IsWith, IsWithout, IsRetained};
 ghost use Rattle.chat_change.specs.Order.{id_cmp};
+ghost use Rattle.chat_buffers.specs.Messages.{is_left};
 
+use crate::from_floor::FromFloor;
 use crate::held_message::HeldMessage;
 use crate::id_key::{IdKey, SoughtId};
-use chat_change::MsgId;
+use chat_change::{Moment, MsgId};
 use ordered_maps::{PackedEntries, PackedMap};
 use std::alloc::{AllocError, Global};
 use std::marker::Model;
@@ -90,6 +92,13 @@ impl IdMap {
         ensures { IsWith id_cmp self.old id.now held_message self.new }
     {
         self.messages.overwrite(&SoughtId::of(id), held_message);
+    }
+
+    /// Takes the records out that stand before a floor, in one walk over all messages. It takes no memory.
+    pub(crate) fn remove_below(&mut self, floor: Moment)
+        ensures { IsRetained id_cmp (is_left floor) self.old self.new }
+    {
+        self.messages.retain(&FromFloor { floor });
     }
 
     /// All entries.

@@ -14,6 +14,7 @@ mod buffer_walk;
 mod buffers;
 mod cursor;
 mod finding;
+mod from_floor;
 mod held;
 mod held_message;
 mod id_key;

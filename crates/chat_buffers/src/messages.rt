@@ -242,6 +242,21 @@ impl Messages {
     }
 }
 
+impl Messages {
+    /// Takes the records out that stand before a floor, in one walk over all messages. It takes no memory.
+    pub(crate) fn remove_below(&mut self, floor: Moment)
+        ensures { spec.IsLeft self.old floor self.new }
+    {
+        self.by_spot.remove_below(floor);
+        self.by_id.remove_below(floor);
+    }
+
+    /// How many pages have records that stand before a floor. A full page has 64.
+    pub(crate) fn page_count_below(&self, floor: Moment) -> usize {
+        self.by_spot.page_count_below(floor)
+    }
+}
+
 // The number of the piece of a message.
 fn number_of(by_id: &IdMap, id: &MsgId) -> Option<u64>
     ensures { result ≡ option_map spec.number_of (get id_cmp by_id.now id.now) }

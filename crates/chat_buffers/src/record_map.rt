@@ -5,11 +5,13 @@ ghost use Rattle.std.specs.Map.Iter.{deref, deref_pair};
 ghost use Rattle.std.specs.Range.Bound.{bound_map};
 ghost use Rattle.std.specs.BTreeMap.Range.{entries_between};
 ghost use Rattle.std.specs.declared.ops.Bound.TheVariants.{Unbounded};
-ghost use Rattle.ordered_maps.specs.MapView.{AreOrdered, IsWith, IsWithout};
+ghost use Rattle.ordered_maps.specs.MapView.{AreOrdered, IsWith, IsWithout, IsRetained};
 ghost use Rattle.ordered_maps.specs.Ends.{IsGreatest};
 ghost use Rattle.chat_history.specs.Cut.{latest_first};
+ghost use Rattle.chat_buffers.specs.Messages.{stands_from};
 ghost use Rattle.chat_buffers.specs.RecordMap.{IsLatestIn};
 
+use crate::from_floor::FromFloor;
 use crate::spot_key::SpotKey;
 use chat_change::{Moment, Record};
 use chat_history::Spot;
@@ -113,6 +115,23 @@ impl RecordMap {
     {
         self.records.take_out(spot);
         self.latest = latest_in(&self.records);
+    }
+
+    /// Takes the records out that stand before a floor, in one walk over all. It takes no memory.
+    pub(crate) fn remove_below(&mut self, floor: Moment)
+        ensures { IsRetained latest_first (stands_from floor) self.old self.new }
+    {
+        self.records.retain(&FromFloor { floor });
+        self.latest = latest_in(&self.records);
+    }
+
+    /// How many pages have records that stand before a floor.
+    pub(crate) fn page_count_below(&self, floor: Moment) -> usize {
+        let spot = Spot {
+            at: floor,
+            id: None,
+        };
+        self.records.page_count_from(Bound::Included(&spot))
     }
 
     /// The entries from a bound on.
