@@ -14,12 +14,12 @@ use Rattle.chat_change.proofs.CallerLemmas.{key_total, same_key_is, same_key_its
 use Rattle.chat_history.specs.History.{floor_moment}
 use Rattle.chat_history.specs.Retention.{same_account, same_buffer}
 use Rattle.chat_buffers.specs.Store.{Store, Numbered, IsKeyedStore, own_floor_in}
-use Rattle.chat_buffers.specs.Entering.{with_remainder, is_below, IsSweptOf, TakesFloor, HasNoFloorTo, AreBuffersOf}
-use Rattle.chat_state.specs.Sweeping.{unless_below, IsSwept, IsFloorSwept}
+use Rattle.chat_buffers.specs.Entering.{with_remainder, is_below, IsSweptOf, TakesFloor, HasNoFloorTo, AreBuffersOf, unless_below, IsSwept}
+use Rattle.chat_state.specs.Sweeping.{IsFloorSwept}
 use Rattle.chat_state.proofs.SweepLemmas.{same_buffer_itself, same_buffer_is, same_account_itself, same_account_is, IsFloorEntered}
 
 -- what is left lies at or above the floor, and was there
-unless_some : (e : Extent) (f : ℕ) (o : Option Numbered) (p : Numbered) → unless_below e f o ≡ Some p → (o ≡ Some p) × (is_below e f p.change ≡ false)
+pub unless_some : (e : Extent) (f : ℕ) (o : Option Numbered) (p : Numbered) → unless_below e f o ≡ Some p → (o ≡ Some p) × (is_below e f p.change ≡ false)
 unless_some e f None p h = cc h
 unless_some e f (Some q) p h =
     elim (is_below e f q.change) as (λ b. is_below e f q.change ≡ b → cond b None (Some q) ≡ Some p → (Some q ≡ Some p) × (is_below e f p.change ≡ false)) [

@@ -1,5 +1,6 @@
 mod IndexLemmas
 mod SweepLemmas
+mod SweptIndexLemmas
 mod AccountSweepLemmas
 mod WalkLemmas
 mod StateLemmas

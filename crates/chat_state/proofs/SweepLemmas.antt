@@ -18,8 +18,8 @@ use Rattle.byte_text.proofs.CallerLemmas.{text_total, text_exact}
 use Rattle.chat_change.proofs.CallerLemmas.{buffer_total, buffer_exact, key_total, same_key_is, same_key_itself}
 use Rattle.chat_history.specs.Retention.{same_account, same_buffer, is_covered, outlasts, remainder}
 use Rattle.chat_buffers.specs.Store.{Store, Numbered, IsKeyedStore, piece_left, piece_above}
-use Rattle.chat_buffers.specs.Entering.{with_remainder, is_below, IsSweptOf}
-use Rattle.chat_state.specs.Sweeping.{TakesSome, unless_below, IsSwept}
+use Rattle.chat_buffers.specs.Entering.{with_remainder, is_below, IsSweptOf, unless_below, IsSwept}
+use Rattle.chat_state.specs.Sweeping.{TakesSome}
 
 pub same_buffer_itself : (b : Buffer) → same_buffer b b ≡ true
 same_buffer_itself b = ap is_eq (tied_itself buffer_total b)

@@ -1,24 +1,26 @@
 -- How what lies below a floor goes, piece by piece.
-use Rattle.std.specs.Prelude.{ℕ, ◌≡◌, if◌then◌else◌, Option, Some, None}
+use Rattle.std.specs.Prelude.{ℕ, ◌≡◌, Bool, true, not, if◌then◌else◌, Option, Some, None}
 use Rattle.std.specs.FinMap as finite
 use Rattle.chat_change.specs.Buffer.{Buffer}
-use Rattle.chat_change.specs.Extent.{Extent, OfAccount, OfBuffer}
+use Rattle.chat_change.specs.Extent.{OfAccount, OfBuffer}
+use Rattle.chat_change.specs.Record.{Record}
+use Rattle.chat_change.specs.declared.change.Change.TheVariants.{Post}
 use Rattle.chat_change.specs.Key.{Key, FloorOf, same_key}
-use Rattle.chat_buffers.specs.Store.{Store, Numbered}
-use Rattle.chat_buffers.specs.Entering.{TakesOne, is_below}
+use Rattle.chat_buffers.specs.Store.{Store}
+use Rattle.chat_buffers.specs.Entering.{TakesOne, is_below, unless_below}
+use Rattle.chat_state.specs.PieceName.{PieceName}
 
 -- one record below the floor was taken out
 abbrev pub TakesSome : Store → Buffer → ℕ → Store → Type 0
 TakesSome old b f new = (n : ℕ) × TakesOne old b f n new
 
--- a piece, where a floor of that extent doesn't take it away
-abbrev pub unless_below : Extent → ℕ → Option Numbered → Option Numbered
-unless_below e f None = None
-unless_below e f (Some p) = if is_below e f p.change then None else Some p
+-- what a floor of a buffer leaves of the index: all but the records of the buffer that stand below it
+abbrev pub is_post_left : Buffer → ℕ → Option Record → Bool
+is_post_left b f None = true
+is_post_left b f (Some r) = not (is_below (OfBuffer b) f (Post r))
 
--- all that lies below a floor of that extent was taken out, and nothing else
-abbrev pub IsSwept : Extent → ℕ → Store → Store → Type 0
-IsSwept e f old new = (k : Key) → finite.get new k ≡ unless_below e f (finite.get old k)
+abbrev pub is_left : Buffer → ℕ → PieceName → Bool
+is_left b f name = is_post_left b f name.post
 
 -- of all pieces only the own floor of a buffer was taken out, where a floor of its account takes it
 -- away

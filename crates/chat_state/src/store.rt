@@ -11,10 +11,11 @@ ghost use Rattle.std.specs.FinMap as map;
 ghost use Rattle.chat_change.specs.Extent.{OfAccount, OfBuffer};
 ghost use Rattle.chat_change.specs.declared.change.Change.TheVariants as value;
 ghost use Rattle.chat_buffers.specs.Store as spec;
-ghost use Rattle.chat_buffers.specs.Entering.{FitsStore, IsEntered, IsSweptOf, AreBuffersOf};
-ghost use Rattle.chat_state.specs.Sweeping.{TakesSome, IsSwept, IsFloorSwept};
+ghost use Rattle.chat_buffers.specs.Entering.{FitsStore, IsEntered, IsSwept, IsSweptOf, AreBuffersOf};
+ghost use Rattle.chat_state.specs.Sweeping.{TakesSome, IsFloorSwept};
 
 mod form;
+mod from_floor;
 mod lookups;
 mod number;
 mod piece;
@@ -24,12 +25,17 @@ mod walk;
 use chat_buffers::Buffers;
 use chat_change::{Account, Buffer, Change, Moment};
 pub(crate) use form::{form_of, piece_in};
+use from_floor::FromFloor;
 use number::Number;
 use ordered_maps::PackedMap;
 pub use piece::Piece;
 use piece_name::{PieceName, name_of};
 use std::alloc::{AllocError, Global};
 use std::marker::Model;
+
+/// Of the pages of the index, a floor has to reach more than one in so many for the maps to be walked through as a whole. Else each
+/// record that goes is looked up.
+const PAGES_PER_WALK: usize = 16;
 
 /// The numbered pieces of many buffers, one for each key at most. Each is found by its number. They are seen as one store.
 #[derive(Drop)]
@@ -207,7 +213,25 @@ impl Store {
     fn sweep(&mut self, buffer: &Buffer, floor: Moment)
         ensures { IsSwept (OfBuffer buffer.now) floor self.old self.new }
     {
+        if self.are_many_below(buffer, floor) {
+            self.sweep_at_once(buffer, floor);
+            return;
+        }
         while self.take_first_below(buffer, floor) {}
+    }
+
+    // Whether a large share of all pieces are records of a buffer that stand below a floor.
+    fn are_many_below(&self, buffer: &Buffer, floor: Moment) -> bool {
+        let below = self.buffers.page_count_below(buffer, floor);
+        self.index.page_count() / PAGES_PER_WALK < below
+    }
+
+    // Takes the records of a buffer away that lie below a floor, in one walk over each map. It takes no memory.
+    fn sweep_at_once(&mut self, buffer: &Buffer, floor: Moment)
+        ensures { IsSwept (OfBuffer buffer.now) floor self.old self.new }
+    {
+        self.buffers.remove_below(buffer, floor);
+        self.index.retain(&FromFloor { buffer, floor });
     }
 
     // Takes the oldest record of a buffer away, where it lies below a floor.

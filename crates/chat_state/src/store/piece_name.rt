@@ -1,6 +1,8 @@
 //! What the piece of a number is known by.
 
 ghost use Rattle.std.specs.Prelude.{◌≡◌, IfOk};
+ghost use Rattle.std.specs.Map.Iter.{deref};
+ghost use Rattle.std.specs.Option.{option_map};
 ghost use Rattle.chat_change.specs.Key.{value_of};
 ghost use Rattle.chat_state.specs.PieceName as spec;
 
@@ -56,6 +58,16 @@ impl PieceName {
             Subject::Marked(buffer) => Key::Marker(buffer),
             Subject::Floored(buffer) => Key::Floor(Extent::Buffer(buffer)),
             Subject::AccountFloored(account) => Key::Floor(Extent::Account(account)),
+        }
+    }
+
+    /// The record, where the piece is a message that was posted.
+    pub(crate) fn post(&self) -> Option<&Record>
+        ensures { option_map deref result ≡ self.now.post }
+    {
+        match &self.subject {
+            Subject::Posted(post) => Some(post),
+            _ => None,
         }
     }
 }

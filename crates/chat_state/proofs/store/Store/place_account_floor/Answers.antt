@@ -1,8 +1,7 @@
 use Rattle.std.proofs.Common.{◌∙◌, refl, sym, ap, subst, arith}
 use Rattle.chat_change.specs.Extent.{OfAccount}
 use Rattle.chat_buffers.specs.Store.{Store, IsKeyedStore, own_floor_in}
-use Rattle.chat_buffers.specs.Entering.{AreBuffersOf}
-use Rattle.chat_state.specs.Sweeping.{IsSwept}
+use Rattle.chat_buffers.specs.Entering.{AreBuffersOf, IsSwept}
 use Rattle.chat_state.proofs.SweepLemmas.{floor_placed}
 use Rattle.chat_state.proofs.AccountSweepLemmas.{entered_stands, entered_listed}
 use Rattle.chat_state.proofs.store.Store.place_account_floor.Goals as goal

@@ -1,7 +1,7 @@
 use Rattle.std.proofs.Common.{refl, subst}
 use Rattle.chat_change.specs.Extent.{OfBuffer}
 use Rattle.chat_buffers.specs.Store.{IsKeyedStore}
-use Rattle.chat_state.specs.Sweeping.{IsSwept}
+use Rattle.chat_buffers.specs.Entering.{IsSwept}
 use Rattle.chat_state.proofs.SweepLemmas.{floor_placed}
 use Rattle.chat_state.proofs.store.Store.place_floor.Goals as goal
 

@@ -2,7 +2,7 @@ use Rattle.std.proofs.Common.{◌∙◌, refl, ap}
 use Rattle.std.specs.FinMap as map
 use Rattle.chat_change.specs.Extent.{OfBuffer}
 use Rattle.chat_buffers.specs.Store.{Store}
-use Rattle.chat_state.specs.Sweeping.{unless_below}
+use Rattle.chat_buffers.specs.Entering.{unless_below}
 use Rattle.chat_state.proofs.SweepLemmas.{one_less, fewer, all_swept}
 use Rattle.chat_state.proofs.store.Store.sweep.Goals as goal
 
