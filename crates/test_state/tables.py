@@ -559,6 +559,10 @@ def many_changes():
     case.swap()
     case.look()
     case.newer(2995, LAST_NUMBER)
+    # which reaches one message of 1,500
+    case.absorb(case.learn([floor("#2999", 1001), floor("#2997", 1000)]))
+    case.look()
+    case.newer(2995, LAST_NUMBER)
     return case
 
 
