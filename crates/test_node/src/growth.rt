@@ -32,12 +32,12 @@ impl<J: Naming, H: Ends, W: Wait> Target<J> for Locked<'_, J, H, W> {
 
 /// What stood under the lock of a node, with the handle by which a put waits for readers.
 #[derive(Drop)]
-struct Unlocked<'a, J: Naming, H: Ends, W: Wait> {
+struct Unlocked<'a, 'b, J: Naming, H: Ends, W: Wait> {
     half: &'a mut WritingHalf<J, H>,
-    rt: &'a W,
+    rt: &'b W,
 }
 
-impl<J: Naming, H: Ends, W: Wait> Target<J> for Unlocked<'_, J, H, W> {
+impl<J: Naming, H: Ends, W: Wait> Target<J> for Unlocked<'_, '_, J, H, W> {
     fn put(&mut self, pass: &mut Pass<J>, changes: &[Change]) -> Result<(), PutFault> {
         self.half.put_now(self.rt, pass, changes).map(drop)
     }
