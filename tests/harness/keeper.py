@@ -74,9 +74,13 @@ class Keeper(Told):
 
     def start(self):
         words = self.words()
-        with open(self.fixture.path(f"{self.name}.log"), "ab") as log:
+        with self.errors() as log:
             self.process = self.fixture.start(*words, program=self.program, front=self.front, stdin=None, stdout=log, stderr=log)
         return self
+
+    def errors(self):
+        """What becomes its standard error."""
+        return open(self.fixture.path(f"{self.name}.log"), "ab")
 
     def begin(self):
         """Starts it, and waits until its file was read and its life is begun."""

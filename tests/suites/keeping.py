@@ -1,6 +1,7 @@
 """A cluster with a keeper: what it acknowledged survives every crash (README.md; docs/OPERATING.md, "A keeper"; bnc-keep(1))."""
 
 import itertools
+import os
 import random
 import re
 import resource
@@ -11,6 +12,7 @@ from harness.disk import Disk
 from harness.failure import Failed, expect
 from harness.keeper import NOWHERE, Keeper, PlayedNode, kept_in, payloads_of
 from harness.node import Node
+from harness.piped import Piped
 from harness.registry import add, test
 from harness.relay import Relay
 from harness.server import Server
@@ -472,6 +474,49 @@ def a_peer_that_was_away_for_an_hour(fixture):
     begun = time.monotonic()
     node.meet()
     expect("whether it took at most eight seconds", True, time.monotonic() - begun < 8)
+
+
+class PipedKeeper(Piped, Keeper):
+    """A keeper whose standard error is a pipe with room for a page, which is read as the test asks for the log."""
+
+    def __init__(self, *given, **how):
+        super().__init__(*given, **how)
+        self.has_room_for(PAGE)
+
+
+# What a pipe has room for at least, and peers that can't be reached, whose lines need more.
+PAGE = 4096
+ABSENT = [f"n{number:02}{'n' * 29}" for number in range(60)]
+
+
+@test
+def a_log_that_nobody_reads_stops_no_thread(fixture):
+    """Standard error is a pipe that is full, and more lines wait. Packets are acknowledged, and the file is written anew, all the
+    same. Once the pipe is read, each line is there."""
+    clocks, node = Clocks(fixture), PlayedNode(fixture)
+    peers = [(name, NOWHERE) for name in ABSENT]
+    keeper = PipedKeeper(fixture, [*peers, node.peer], front=clocks.front).start()
+    fixture.until("the pipe is full", lambda: keeper.waiting() > PAGE - 200)
+    played = node.meet()
+    played.keep(*posts(1, 2))
+    played.keep(REDACTION.format(2))
+    clocks.skip(MINUTE - 2)
+    fixture.until("the text has left the file", lambda: not keeper.holds(":hi 2"))
+    played.keep(*posts(3))
+    expect("whether the pipe is full", True, keeper.waiting() > PAGE - 200)
+    wanted = ("peer greeted: n1 ", "rewritten: ", *(f"peer unreachable: {name} " for name in ABSENT))
+    fixture.until("each line is there", lambda: all(map(keeper.told, wanted)) or keeper.is_over())
+    expect("whether lines were lost", False, keeper.told("lines lost: "))
+
+
+@test
+def a_keeper_that_fails_ends_though_nobody_reads_its_log(fixture):
+    """Its file is damaged: it has a block that is no entry."""
+    keeper = PipedKeeper(fixture)
+    keeper.write(["L 0keep 5"], ["no entry"])
+    os.write(keeper.theirs, bytes(PAGE))
+    keeper.start()
+    expect("the status", 4, keeper.process.wait(fixture.patience()))
 
 
 # ---- words and configurations

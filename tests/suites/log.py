@@ -1,7 +1,6 @@
 """What the operator is told of servers and clients (docs/OPERATING.md, "What it logs"). No line has a secret, the shared word or a
 message."""
 
-import fcntl
 import os
 import re
 import threading
@@ -11,6 +10,7 @@ from harness.client import greeting
 from harness.connection import spelled
 from harness.failure import Failed, expect
 from harness.node import Node
+from harness.piped import Piped
 from harness.registry import add, test
 from harness.scripts import TESTS
 from harness.server import Server
@@ -156,7 +156,7 @@ def each_reason_of_the_documents_stands_in_the_program(fixture):
 # ---- where nobody reads standard error, or not fast
 
 
-class Piped(Node):
+class PipedNode(Piped, Node):
     """A node whose standard error is a pipe. It is read as the test asks for the log, or slowly beside the test."""
 
     # (names as long as they may be, so that the lines are long)
@@ -164,39 +164,20 @@ class Piped(Node):
 
     def __init__(self, fixture, **how):
         super().__init__(fixture, **how)
-        self.ours, self.theirs = os.pipe()
-        os.set_blocking(self.ours, False)
         self.is_done, self.beside = threading.Event(), None
-        fixture.at_end(self.end)
 
     def end(self):
         self.is_done.set()
         if self.beside:
             self.beside.join(5)
-        for it in (self.ours, self.theirs):
-            os.close(it)
-
-    def errors(self):
-        return os.fdopen(os.dup(self.theirs), "wb")
-
-    def read(self, most):
-        """Reads so many bytes at most, and answers whether there were any."""
-        try:
-            piece = os.read(self.ours, most)
-        except BlockingIOError:
-            return False
-        with super().errors() as log:
-            log.write(piece)
-        return True
+        super().end()
 
     def log(self):
-        while not self.beside and self.read(1 << 16):
-            pass
-        return super().log()
+        return Node.log(self) if self.beside else super().log()
 
     def is_read_slowly(self):
         """From now on so much is read each hundredth of a second, of a pipe that has room for eight times as much."""
-        fcntl.fcntl(self.ours, fcntl.F_SETPIPE_SZ, 8 * PIECE)
+        self.has_room_for(8 * PIECE)
         self.beside = threading.Thread(target=self.read_beside, daemon=True)
         self.beside.start()
 
@@ -219,7 +200,7 @@ class Piped(Node):
 def piped(fixture, **how):
     """Such a node of four workers, and its session with its server. What is told of both is read."""
     server = Server(fixture)
-    node = Piped(fixture, servers=[server.address], workers=WORKERS, places=256, **how).begin()
+    node = PipedNode(fixture, servers=[server.address], workers=WORKERS, places=256, **how).begin()
     session = server.register()
     node.wait_for("upstream up: ")
     return node, server, session

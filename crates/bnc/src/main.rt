@@ -22,13 +22,14 @@ ghost use Rattle.std.specs.Process.{exit_status};
 ghost use Rattle.bnc.specs.Status.{status_of};
 
 use crate::ending::End;
-use crate::logging::{begin_log, tell_version};
+use crate::logging::tell_version;
 use crate::node::run_prepared;
 use crate::program::end_of_program;
 use bnc_work::WorkEnd;
 use client_places::{Boxed, RingClient};
 use node_config::Config;
 use node_intake::{Prepared, ServeFault, prepare};
+use operator_log::Log;
 use std::io::BufWriter;
 use std::process::ExitCode;
 use std::sync::atomic::{AtomicBool, Ordering};
@@ -88,7 +89,7 @@ fn main(rt: HostRuntime) -> ExitCode {
     let is_read = &is_log_read;
     let read = move |path: &str| -> io::Result<Vec<u8>> { fs::read(&handle, path) };
     let serve = move |config: &Config| -> Result<Vec<WorkEnd>, ServeFault> {
-        let log = begin_log(&handle)?;
+        let log = Log::begin(&handle)?;
         tell_version(&handle, &log);
         let ends = match prepare(&handle, &log, config) {
             Ok(

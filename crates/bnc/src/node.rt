@@ -3,11 +3,11 @@
 ghost use Rattle.change_log.specs.Names.{IsNamed};
 
 use bnc_ports::{Carries, Gate};
-use bnc_sockets::Log;
 use bnc_work::{WorkEnd, WorkPort, WorkerConfig, work_all};
 use chat_change::Change;
 use client_places::{Attachment, RingClient};
 use node_intake::{Intake, ServeFault, begin_node};
+use operator_log::Log;
 use shared_node::{Naming, Unnamed};
 use std::marker::Brand;
 use std::sync::Wait;

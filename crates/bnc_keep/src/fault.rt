@@ -1,5 +1,6 @@
 //! Why nothing is kept.
 use crate::damage::Damage;
+use bnc_ports::StartFault;
 use byte_text::NoMemory;
 use real_file::OpenError;
 use std::alloc::AllocError;
@@ -33,6 +34,15 @@ impl From<NoMemory> for KeepFault {
 impl From<AllocError> for KeepFault {
     fn from(_: AllocError) -> KeepFault {
         KeepFault::NoMemory
+    }
+}
+
+impl From<StartFault> for KeepFault {
+    fn from(fault: StartFault) -> KeepFault {
+        match fault {
+            StartFault::NoMemory => KeepFault::NoMemory,
+            StartFault::NoThread => KeepFault::NoThread,
+        }
     }
 }
 

@@ -16,7 +16,6 @@ mod ending;
 mod event;
 mod fault;
 mod kept;
-mod log;
 mod lost;
 mod opening;
 mod peer;
@@ -38,7 +37,9 @@ use crate::ending::End;
 use crate::fault::KeepFault;
 use crate::program::end_of_program;
 use node_config::KeeperConfig;
+use operator_log::Log;
 use std::process::ExitCode;
+use std::sync::atomic::{AtomicBool, Ordering};
 use std::{env, fs, io};
 
 /// The words behind the program's name.
@@ -54,8 +55,8 @@ fn given_words(rt: &HostRuntime) -> Result<Vec<String>, End<'static>> {
     }
 }
 
-/// Ends the program: with 0 exactly where its work is done. Else it writes to standard error why.
-fn exit(rt: &HostRuntime, done: Result<(), End<'_>>) -> ExitCode
+/// Ends the program: with 0 exactly where its work is done. Else it writes to standard error why, where that is read.
+fn exit(rt: &HostRuntime, done: Result<(), End<'_>>, is_read: bool) -> ExitCode
     ensures success { (exit_status result ≡ 0) ↔ (done.entry ≡ Ok tt) }
     ensures failure { IfErr done.entry (λ end. exit_status result ≡ status_of end) }
 {
@@ -63,7 +64,9 @@ fn exit(rt: &HostRuntime, done: Result<(), End<'_>>) -> ExitCode
         Ok(()) => ExitCode::from(0),
         Err(end) => {
             let status = end.status();
-            let _ = rt.eprintln(end);
+            if is_read {
+                let _ = rt.eprintln(end);
+            }
             ExitCode::from(status)
         }
     }
@@ -72,13 +75,19 @@ fn exit(rt: &HostRuntime, done: Result<(), End<'_>>) -> ExitCode
 fn main(rt: HostRuntime) -> ExitCode {
     let words = match given_words(&rt) {
         Ok(words) => words,
-        Err(end) => return exit(&rt, Err(end)),
+        Err(end) => return exit(&rt, Err(end), true),
     };
     let handle = rt;
     let read = move |path: &str| -> io::Result<Vec<u8>> { fs::read(&handle, path) };
+    // Whether somebody reads standard error: what was logged waits for that.
+    let is_log_read = AtomicBool::new(true);
+    let is_read = &is_log_read;
     let keep = move |config: &KeeperConfig| -> Result<(), KeepFault> {
-        running::keep(&handle, &handle, config)
+        let log = Log::begin(&handle)?;
+        let kept = running::keep(&handle, &handle, config, &log);
+        is_read.store(log.end(&handle), Ordering::SeqCst);
+        kept
     };
     let done = end_of_program(rt.alloc(), &words, read, keep);
-    exit(&rt, done)
+    exit(&rt, done, is_log_read.load(Ordering::SeqCst))
 }

@@ -8,7 +8,6 @@ use crate::talk::{Bond, Talk};
 use bnc_ports::{Event, Reason, Unreached};
 use byte_text::NoMemory;
 use node_config::PeerConfig;
-use std::io::Eprint;
 use std::net::TcpStream;
 use std::sync::{Arc, Wait};
 use std::thread;
@@ -54,7 +53,7 @@ fn bond_now<R: Wait + AllocGlobal>(
 }
 
 // Talks with the peer over a stream until the connection is lost: why, and whether they had greeted each other.
-fn talk_over<R: Wait + Clock + Eprint + AllocGlobal>(
+fn talk_over<R: Wait + Clock + AllocGlobal>(
     rt: &R,
     common: &Common<'_>,
     place: usize,
@@ -79,7 +78,7 @@ fn talk_over<R: Wait + Clock + Eprint + AllocGlobal>(
 
 // Connects to the peer and talks with it until the connection is lost. Whether they had greeted each other, and where they had
 // not, the operator is told why, unless that was told less than a minute ago.
-fn visit<R: Wait + Clock + Eprint + AllocGlobal>(
+fn visit<R: Wait + Clock + AllocGlobal>(
     rt: &R,
     host: &HostRuntime,
     common: &Common<'_>,
@@ -124,7 +123,7 @@ fn visit<R: Wait + Clock + Eprint + AllocGlobal>(
 }
 
 /// Keeps up a connection with the peer at that place.
-pub(crate) fn keep_in_touch<R: Wait + Clock + Eprint + AllocGlobal>(
+pub(crate) fn keep_in_touch<R: Wait + Clock + AllocGlobal>(
     rt: &R,
     host: &HostRuntime,
     common: &Common<'_>,

@@ -2,7 +2,6 @@
 use crate::clocks::{monotonic_ms, wall_ms};
 use crate::event::KeeperEvent;
 use crate::fault::KeepFault;
-use crate::log::Log;
 use crate::opening::open_file;
 use crate::peer::keep_in_touch;
 use crate::shared::{Common, Shared};
@@ -11,7 +10,7 @@ use crate::version::{LOGIC, PROGRAM};
 use crate::watch::watch;
 use bnc_ports::Event;
 use node_config::KeeperConfig;
-use std::io::Eprint;
+use operator_log::Log;
 use std::sync::atomic::{AtomicBool, Ordering};
 use std::sync::{Mutex, Wait};
 use std::thread::Threads;
@@ -19,7 +18,7 @@ use std::time::Clock;
 use std::{str, thread};
 
 // What the threads share: the file is open, and its life is begun. The operator is told what was read.
-fn begin<R: Wait + Clock + Eprint + AllocGlobal>(
+fn begin<R: Wait + Clock + AllocGlobal>(
     rt: &R,
     host: &HostRuntime,
     config: &KeeperConfig,
@@ -47,7 +46,7 @@ fn begin<R: Wait + Clock + Eprint + AllocGlobal>(
 // A thread for each peer, and this one for the file.
 fn keep_up<R>(rt: &R, host: &HostRuntime, common: &Common<'_>) -> Result<(), KeepFault>
 where
-    R: Threads + Wait + Clock + Eprint + AllocGlobal + Sync,
+    R: Threads + Wait + Clock + AllocGlobal + Sync,
 {
     thread::scope(thread::scope_env(), rt, |scope| -> Result<(), KeepFault> {
         for (place, peer) in common.config.peers.iter().enumerate() {
@@ -63,11 +62,15 @@ where
 }
 
 /// Keeps the history by a configuration. It answers where that can't begin.
-pub(crate) fn keep<R>(rt: &R, host: &HostRuntime, config: &KeeperConfig) -> Result<(), KeepFault>
+pub(crate) fn keep<R>(
+    rt: &R,
+    host: &HostRuntime,
+    config: &KeeperConfig,
+    log: &Log,
+) -> Result<(), KeepFault>
 where
-    R: Threads + Wait + Clock + Eprint + AllocGlobal + Sync,
+    R: Threads + Wait + Clock + AllocGlobal + Sync,
 {
-    let log = Log::new(rt.alloc())?;
     log.report(
         rt,
         &KeeperEvent::Node(Event::Starting {
@@ -78,11 +81,11 @@ where
     let Ok(path) = str::from_utf8(config.file.as_bytes()) else {
         return Err(KeepFault::Changed);
     };
-    let shared = begin(rt, host, config, path, &log)?;
+    let shared = begin(rt, host, config, path, log)?;
     let common = Common {
         config,
         path,
-        log: &log,
+        log,
         shared: Mutex::new(shared),
         is_ending: AtomicBool::new(false),
     };

@@ -1,12 +1,12 @@
 //! What the threads share.
 use crate::fault::KeepFault;
 use crate::kept::Kept;
-use crate::log::Log;
 use crate::opening::{Opened, last_error};
 use crate::survey::Survey;
 use crate::upkeep::Upkeep;
 use gossip_link::Terms;
 use node_config::KeeperConfig;
+use operator_log::Log;
 use real_file::RealFile;
 use std::alloc::Global;
 use std::sync::Mutex;

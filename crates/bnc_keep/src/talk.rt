@@ -18,7 +18,7 @@ use gossip_link::{
 use irc_line::{Feeder, Next};
 use node_config::PeerConfig;
 use std::alloc::{AllocError, Global};
-use std::io::{Eprint, ErrorKind, Read, Write};
+use std::io::{ErrorKind, Read, Write};
 use std::sync::{Arc, Wait};
 use std::time::Clock;
 
@@ -161,7 +161,7 @@ impl<S: Read + Write> Talk<S> {
     }
 
     /// Hears what came, if something came in time, and says what is due. `Err` where the connection is lost.
-    pub(crate) fn turn<R: Wait + Clock + Eprint + AllocGlobal>(
+    pub(crate) fn turn<R: Wait + Clock + AllocGlobal>(
         &mut self,
         rt: &R,
         common: &Common<'_>,
@@ -212,7 +212,7 @@ impl<S: Read + Write> Talk<S> {
     }
 
     // Hears so many bytes that came.
-    fn hear_all<R: Wait + Clock + Eprint + AllocGlobal>(
+    fn hear_all<R: Wait + Clock + AllocGlobal>(
         &mut self,
         rt: &R,
         common: &Common<'_>,
@@ -236,7 +236,7 @@ impl<S: Read + Write> Talk<S> {
     }
 
     // Hears each line that is whole.
-    fn hear_lines<R: Wait + Clock + Eprint + AllocGlobal>(
+    fn hear_lines<R: Wait + Clock + AllocGlobal>(
         &mut self,
         rt: &R,
         common: &Common<'_>,
@@ -267,7 +267,7 @@ impl<S: Read + Write> Talk<S> {
     }
 
     // Takes in what a line brought.
-    fn take_in<R: Wait + Clock + Eprint + AllocGlobal>(
+    fn take_in<R: Wait + Clock + AllocGlobal>(
         &mut self,
         rt: &R,
         common: &Common<'_>,
@@ -284,7 +284,7 @@ impl<S: Read + Write> Talk<S> {
     }
 
     // Carries out what arrived.
-    fn arrive<R: Wait + Clock + Eprint + AllocGlobal>(
+    fn arrive<R: Wait + Clock + AllocGlobal>(
         &mut self,
         rt: &R,
         common: &Common<'_>,
@@ -336,7 +336,7 @@ impl<S: Read + Write> Talk<S> {
     }
 
     // The peer said hello as that life. The operator is told of the first time, and where the life is an earlier one than is known.
-    fn note_hello<R: Wait + Clock + Eprint + AllocGlobal>(
+    fn note_hello<R: Wait + Clock + AllocGlobal>(
         &mut self,
         rt: &R,
         common: &Common<'_>,
@@ -418,7 +418,7 @@ impl<S: Read + Write> Talk<S> {
     }
 
     // Tells the operator where each has what the other has, for the first time over this connection.
-    fn tell_level<R: Wait + Clock + Eprint>(
+    fn tell_level<R: Wait + Clock>(
         &mut self,
         rt: &R,
         common: &Common<'_>,

@@ -12,7 +12,6 @@ use gossip_link::NodeName;
 use keeper::Keeper;
 use real_file::RealFile;
 use std::alloc::Global;
-use std::io::Eprint;
 use std::sync::Wait;
 use std::time::{Clock, Duration};
 use std::{mem, thread};
@@ -85,7 +84,7 @@ impl Shared {
 }
 
 // Lets the file go, which failed.
-fn let_go<R: Wait + Clock + Eprint + AllocGlobal>(rt: &R, common: &Common<'_>) {
+fn let_go<R: Wait + Clock + AllocGlobal>(rt: &R, common: &Common<'_>) {
     let found = common.shared.lock(rt).let_go(rt.alloc());
     if let Some(fault) = found {
         let file = common.path;
@@ -107,11 +106,7 @@ fn shared_again<R: Clock + AllocGlobal>(
 
 // Tries to open the file again, which was let go. Only once a new life is begun in it, it takes the place of what is kept, and
 // all connections begin anew.
-fn open_again<R: Wait + Clock + Eprint + AllocGlobal>(
-    rt: &R,
-    host: &HostRuntime,
-    common: &Common<'_>,
-) {
+fn open_again<R: Wait + Clock + AllocGlobal>(rt: &R, host: &HostRuntime, common: &Common<'_>) {
     let file = common.path;
     let (shared, cut) = match shared_again(rt, host, common) {
         Ok(again) => again,
@@ -162,7 +157,7 @@ fn rewritten<R: Clock + AllocGlobal>(
 }
 
 // Writes the file anew, and tells the operator.
-fn rewrite<R: Wait + Clock + Eprint + AllocGlobal>(rt: &R, common: &Common<'_>) {
+fn rewrite<R: Wait + Clock + AllocGlobal>(rt: &R, common: &Common<'_>) {
     let done = {
         let mut guard = common.shared.lock(rt);
         rewritten(rt, &mut guard, &common.config.node)
@@ -191,7 +186,7 @@ fn count_kept<R: Wait>(rt: &R, common: &Common<'_>) -> Option<KeeperEvent<'stati
 }
 
 /// Looks after the file.
-pub(crate) fn watch<R: Wait + Clock + Eprint + AllocGlobal>(
+pub(crate) fn watch<R: Wait + Clock + AllocGlobal>(
     rt: &R,
     host: &HostRuntime,
     common: &Common<'_>,

@@ -3,7 +3,6 @@
 use crate::connection::SocketConnection;
 use crate::handing::{Delivery, Mailbox, Newcomer, Newcomers};
 use crate::lingering::Lingering;
-use crate::log::Log;
 use crate::socket::{Outcome, Socket, Stage};
 use bnc_ports::{
     Carries, Clocks, Connection, Dial, Event, Halt, Happening, Kind, Port, PortFault, Unreached,
@@ -12,6 +11,7 @@ use crossbeam_channel::Receiver;
 use mio::event::Event as Readiness;
 use mio::net::TcpStream;
 use mio::{Events, Interest, Poll, Token, Waker};
+use operator_log::Log;
 use std::alloc::AllocError;
 use std::collections::BTreeMap;
 use std::io;

@@ -4,10 +4,11 @@ ghost use Rattle.std.specs.Option.{option_to_list};
 ghost use Rattle.node_intake.specs.WorkerConfigs as spec;
 
 use bnc_ports::{Event, ServeFault};
-use bnc_sockets::{Log, now_ms};
+use bnc_sockets::now_ms;
 use byte_text::NoMemory;
 use chat_change::{Account, Change, Moment};
 use node_config::AccountConfig;
+use operator_log::Log;
 use shared_node::{Ends, Naming, Pass, SharedNode};
 use std::alloc::Global;
 use std::sync::Wait;

@@ -1,8 +1,8 @@
 //! The sockets on which a node accepts connections.
 use bnc_ports::{Event, ServeFault};
-use bnc_sockets::Log;
 use mio::net::{TcpListener, TcpStream};
 use mio::{Events, Interest, Poll, Token};
+use operator_log::Log;
 use std::io;
 use std::io::ErrorKind;
 use std::net::{Net, SocketAddr};

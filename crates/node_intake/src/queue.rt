@@ -1,8 +1,9 @@
 //! Clients that wait for a place.
 use crate::listeners::{Caller, Entrance, Listeners};
 use bnc_ports::{Event, Reason, Refusals};
-use bnc_sockets::{Log, monotonic_ms};
+use bnc_sockets::monotonic_ms;
 use mio::net::TcpStream;
+use operator_log::Log;
 use std::alloc::{AllocError, Global};
 use std::collections::VecDeque;
 use std::net::SocketAddr;

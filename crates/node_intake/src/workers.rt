@@ -5,12 +5,13 @@ use crate::places::ClientPlaces;
 use crate::worker_configs::worker_config_of;
 use bnc_ports::{Arrival, Lobby, ServeFault};
 use bnc_sockets::{
-    Addresses, Delivery, Entrance, Log, Mailbox, Newcomers, SocketPort, WorkerIntake, waker_of,
+    Addresses, Delivery, Entrance, Mailbox, Newcomers, SocketPort, WorkerIntake, waker_of,
 };
 use client_places::Attachment;
 use crossbeam_channel::{Receiver, unbounded};
 use mio::Poll;
 use node_config::{Config, NetworkConfig, PeerConfig};
+use operator_log::Log;
 use passed_lines::Mail;
 use rtrb::{Producer, RingBuffer};
 use std::alloc::{AllocError, Global};

@@ -1,16 +1,19 @@
 //! The operator's log, which any thread hands lines in to, and one thread writes.
+ghost use Rattle.std.specs.Prelude.{◌≤◌, vec_capacity};
+ghost use Rattle.operator_log.specs.declared.log_queue.TheConstants.{ROOM};
+
 use crate::log_queue::{LogQueue, room};
-use crate::socket_port::now_ms;
-use bnc_ports::Event;
+use bnc_ports::{Event, StartFault};
 use bstr::BStr;
 use irc_time::{Moment, write_time};
 use std::alloc::{AllocError, Global};
 use std::io::{Eprint, Write};
 use std::sync::{Arc, Condvar, Mutex, Wait};
+use std::thread::Threads;
 use std::time::{Clock, Duration};
 use std::{fmt, thread};
 
-// So often at most a node that ends looks whether its log is written.
+// So often at most a program that ends looks whether its log is written.
 const LOOKS: u64 = 500;
 
 // So many milliseconds lie between two looks.
@@ -25,15 +28,15 @@ struct State {
     queue: LogQueue,
     // The room for a line.
     line: Vec<u8>,
-    // Whether the node ends.
+    // Whether the program ends.
     is_ending: bool,
-    // Whether all that waited as the node ended is written.
+    // Whether all that waited as it ended is written.
     is_written: bool,
 }
 
 impl State {
     // A line waits to be written.
-    fn push(&mut self, event: &TimedEvent<'_, '_>) {
+    fn push<E: fmt::Display + Copy>(&mut self, event: &TimedEvent<'_, E>) {
         self.line.clear();
         match write!(self.line, "{event}\n") {
             Ok(()) => self.queue.push(self.line.as_slice()),
@@ -49,30 +52,30 @@ struct Shared {
     changed: Condvar,
 }
 
-/// The operator's log: one line for each event, on standard error. Lines wait in memory for the one thread that writes them
-/// ([`LogWriter`]), so who hands one in never waits for whoever reads the log. What doesn't fit is lost, and how many lines that
-/// were is told.
+/// The operator's log: one line for each event, on standard error. Lines wait in memory for the one thread that writes them, so
+/// who hands one in never waits for whoever reads the log. What doesn't fit is lost, and how many lines that were is told.
 #[derive(Drop)]
 pub struct Log {
     shared: Arc<Shared>,
 }
 
-/// Where the lines of a [`Log`] are written.
+// Where the lines of a log are written.
 #[derive(Drop)]
-pub struct LogWriter {
+struct LogWriter {
     shared: Arc<Shared>,
     // The lines that are written.
     lines: Vec<u8>,
+    ghost roomy: { ROOM ≤ vec_capacity lines },
 }
 
 // An event with its time, which is lent: the borrow checker copies no event out of a reference.
 #[derive(Clone, Copy)]
-struct TimedEvent<'a, 'b> {
+struct TimedEvent<'b, E> {
     moment: Option<Moment>,
-    event: &'b Event<'a>,
+    event: &'b E,
 }
 
-impl<'a, 'b> fmt::Display for TimedEvent<'a, 'b> {
+impl<'b, E: fmt::Display + Copy> fmt::Display for TimedEvent<'b, E> {
     fn fmt<W: fmt::Write>(&self, f: &mut fmt::Formatter<W>) -> fmt::Result {
         if let Some(moment) = self.moment {
             let time = write_time(moment);
@@ -84,30 +87,49 @@ impl<'a, 'b> fmt::Display for TimedEvent<'a, 'b> {
 
 // The time, where the clock has one that a line can have.
 fn moment_now<R: Clock>(rt: &R) -> Option<Moment> {
-    now_ms(rt).and_then(Moment::from_ms)
+    let now = rt.since_1970().ok()?;
+    let ms = u64::try_from(now.as_millis()).ok()?;
+    Moment::from_ms(ms)
+}
+
+// An empty log, and where its lines are written.
+fn new_log(alloc: Global) -> Result<(Log, LogWriter), AllocError> {
+    let state = State {
+        queue: LogQueue::new(alloc)?,
+        line: Vec::with_capacity(alloc, LINE)?,
+        is_ending: false,
+        is_written: false,
+    };
+    let shared = Shared {
+        state: Mutex::new(state),
+        changed: Condvar::new(),
+    };
+    let log = Log {
+        shared: Arc::new(alloc, shared)?,
+    };
+    let writer = LogWriter {
+        shared: Arc::try_clone(&log.shared)?,
+        lines: room(alloc)?,
+    };
+    Ok((log, writer))
 }
 
 impl Log {
-    /// An empty log, and where its lines are written.
-    pub fn new(alloc: Global) -> Result<(Log, LogWriter), AllocError> {
-        let state = State {
-            queue: LogQueue::new(alloc)?,
-            line: Vec::with_capacity(alloc, LINE)?,
-            is_ending: false,
-            is_written: false,
+    /// Begins a log, which a thread of its own writes. While the program runs no other thread writes to standard error.
+    pub fn begin<R>(rt: &R) -> Result<Log, StartFault>
+    where
+        R: Threads + Wait + Clock + Eprint + AllocGlobal + Copy + Send + Drop + 'static,
+    {
+        let (log, writer) = new_log(rt.alloc())?;
+        let handle = *rt;
+        let run = move || {
+            let mut writer = writer;
+            writer.run(&handle);
         };
-        let shared = Shared {
-            state: Mutex::new(state),
-            changed: Condvar::new(),
-        };
-        let log = Log {
-            shared: Arc::new(alloc, shared)?,
-        };
-        let writer = LogWriter {
-            shared: Arc::try_clone(&log.shared)?,
-            lines: room(alloc)?,
-        };
-        Ok((log, writer))
+        match thread::spawn(rt, run) {
+            Ok(_) => Ok(log),
+            Err(_) => Err(StartFault::NoThread),
+        }
     }
 
     /// The same, for another thread.
@@ -118,7 +140,7 @@ impl Log {
     }
 
     /// Tells the operator of an event, by a line with its time. It waits for no reader of the log, and takes no memory.
-    pub fn report<R: Wait + Clock>(&self, rt: &R, event: &Event<'_>) {
+    pub fn report<R: Wait + Clock, E: fmt::Display + Copy>(&self, rt: &R, event: &E) {
         let event = TimedEvent {
             moment: moment_now(rt),
             event,
@@ -127,7 +149,7 @@ impl Log {
         self.shared.changed.notify_all();
     }
 
-    /// The node ends: waits until all that was handed in is written, for five seconds at most. False where it isn't by then, since
+    /// The program ends: waits until all that was handed in is written, for five seconds at most. False where it isn't by then, since
     /// nobody reads the log.
     pub fn end<R: Wait + Clock>(&self, rt: &R) -> bool {
         self.shared.state.lock(rt).is_ending = true;
@@ -144,8 +166,8 @@ impl Log {
 }
 
 impl LogWriter {
-    /// Writes the lines as they come, until all are written that wait as the node ends.
-    pub fn run<R: Wait + Clock + Eprint>(&mut self, rt: &R) {
+    // Writes the lines as they come, until all are written that wait as the program ends.
+    fn run<R: Wait + Clock + Eprint>(&mut self, rt: &R) {
         for _ in rt.forever() {
             match self.next(rt) {
                 Some(lost) => self.write(rt, lost),
@@ -156,7 +178,7 @@ impl LogWriter {
         self.shared.changed.notify_all();
     }
 
-    // Waits for lines that are to be written, and answers how many were lost behind them. None where the node ends and all is
+    // Waits for lines that are to be written, and answers how many were lost behind them. None where the program ends and all is
     // written.
     fn next<R: Wait>(&mut self, rt: &R) -> Option<u64> {
         let state = self.shared.state.lock(rt);
