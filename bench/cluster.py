@@ -121,6 +121,7 @@ class Link:
                 target.sendall(data)
                 with self.lock:
                     self.carried += len(data)
+                    self.note(data, source is pair[0])
             target.shutdown(socket.SHUT_WR)
         except OSError:
             end(pair)
@@ -130,6 +131,9 @@ class Link:
                 del self.pairs[pair]
                 for it in pair:
                     it.close()
+
+    def note(self, data, is_ahead):
+        """This was carried: on from whoever connected, or back."""
 
     def hold_up(self):
         """From now on nothing goes over it, and neither end hears of that."""

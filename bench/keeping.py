@@ -4,6 +4,7 @@ disk and memory, and when a node that restarts alone is level.
 
     bench/keeping.py PROGRAM KEEPER [MESSAGES]           1,000,000 where nothing else is said
     bench/keeping.py --full PROGRAM KEEPER               says what a disk does that is full for three minutes
+    bench/keeping.py --rewriting PROGRAM KEEPER [MESSAGES]   says how long an acknowledgement waits while the file is rewritten
     bench/keeping.py --soak SECONDS PROGRAM KEEPER       keeps two nodes and a keeper at work for so long (600 in the table)
 
 PROGRAM is crates/bnc/out/bnc, and KEEPER crates/bnc_keep/out/bnc_keep. The keeper's file lies in a folder of the working
@@ -25,7 +26,7 @@ import tempfile
 import threading
 import time
 
-from cluster import WORD, Network, Node, Session, waits
+from cluster import WORD, Link, Network, Node, Session, waits
 from joining import fill, has
 from machine import name_of_run, table
 
@@ -120,8 +121,8 @@ def append(keeper, node):
 class Machine:
     """A node and a keeper, with the network's server."""
 
-    def __init__(self, home, program, keeper):
-        self.network = Network()
+    def __init__(self, home, program, keeper, network=None):
+        self.network = network or Network()
         self.network.open()
         self.node = Node(home, program, 1, self.network.port, [(NAME, NOWHERE)])
         self.node.write()
@@ -216,6 +217,59 @@ def full(home, program, keeper):
         [f"a disk that is full for three minutes, with {FEWER:,} messages held: the file is read", f"{failed - 1} times", "3"],
         [".. a node that joins meanwhile has all", f"after {joined:.1f} s", ""],
         [".. all is acknowledged", f"{kept:.0f} s after there is room", "120 s"],
+    ]
+
+
+# ---- the file is rewritten
+
+
+class Watched(Link):
+    """The way from a keeper to a node, which notes how long each packet of the node waited for its acknowledgement."""
+
+    def __init__(self, to):
+        self.rests, self.given, self.waited = {}, {}, []
+        super().__init__(to)
+
+    def note(self, data, is_ahead):
+        *lines, self.rests[is_ahead] = (self.rests.get(is_ahead, b"") + data).split(b"\n")
+        now = time.monotonic()
+        for words in (line.split(b" ") for line in lines):
+            if words[0] == b"D" and not is_ahead:
+                self.given.setdefault(int(words[6]), now)
+            elif words[0] == b"A" and is_ahead:
+                for upto in [it for it in self.given if it <= int(words[5])]:
+                    self.waited.append(now - self.given.pop(upto))
+
+
+def rewriting(home, program, keeper, count):
+    """A message is redacted of a file that holds much, and more is said until the file is rewritten. The rows of the table."""
+    head, machine = name_of_run(keeper), Machine(home, program, keeper, Forgetting())
+    way = Watched(machine.node.peers)
+    it = machine.keeper = Keeper(home, keeper, [(machine.node.name, way.port)])
+
+    def say(line):
+        machine.network.say(line.encode() + b"\r\n", machine.node.nick)
+
+    def is_rewritten():
+        say(":bob!b@h PRIVMSG #a :hi")
+        return " rewritten: " in it.log()
+
+    try:
+        machine.fill(count)
+        append(it, machine.node)
+        say("@msgid=s1;time=2026-11-30T00:00:00.000Z :bob!b@h PRIVMSG #a :to be redacted")
+        way.waited.clear()
+        say(":bob!b@h REDACT #a s1")
+        waits("the file is rewritten", is_rewritten, PATIENCE, 0.1)
+        waits("all is acknowledged", lambda: not way.given, MINUTE)
+        took, lost = re.search(r" rewritten: .* in ([0-9.]+) seconds", it.log())[1], it.log().count(" peer lost: ")
+    finally:
+        machine.end()
+    return head, [
+        [f"a file of {count:,} messages is rewritten: an acknowledgement waits at most", f"{max(way.waited):.1f} s", "30 s"],
+        [".. in which the new file is written and takes the old one's place", f"{took} s", ""],
+        [".. half of all that is said until then waits at most", f"{1000 * sorted(way.waited)[len(way.waited) // 2]:.1f} ms", ""],
+        [".. connections that are lost", f"{lost}", "0"],
     ]
 
 
@@ -371,6 +425,8 @@ def main():
             return soak(home, os.path.abspath(words[2]), os.path.abspath(words[3]), int(words[1]))
         if words[:1] == ["--full"] and len(words) == 3:
             head, rows = full(home, *map(os.path.abspath, words[1:]))
+        elif words[:1] == ["--rewriting"] and len(words) in (3, 4):
+            head, rows = rewriting(home, *map(os.path.abspath, words[1:3]), int(words[3]) if len(words) > 3 else 1_000_000)
         elif len(words) in (2, 3) and not words[0].startswith("-"):
             head, rows = measure(home, *map(os.path.abspath, words[:2]), int(words[2]) if len(words) > 2 else 1_000_000)
         else:
