@@ -166,15 +166,15 @@ fn put_all<J: Naming, T: Target<J>>(
 
 // Puts markers of the first of [`THREE`], so many, at 1, 2 and 3, and sees them. Where the put is refused, the rest is put
 // afterwards, and it is answered how many waited by then.
-fn put_markers<J: Naming, T: Target<J>>(
+fn put_markers<J: Naming, T: Target<J> + Drop>(
     alloc: Global,
     facts: &Facts,
-    target: &mut T,
+    mut target: T,
     pass: &mut Pass<J>,
     count: usize,
 ) -> Result<Option<usize>, Fault> {
     let changes = markers(alloc, count).ok_or(Fault::NoMemory)?;
-    put_all(alloc, facts, target, pass, &changes)
+    put_all(alloc, facts, &mut target, pass, &changes)
 }
 
 /// Puts markers of the first of [`THREE`] on a node, so many, at 1, 2 and 3, and sees them. Where the put is refused, the rest
@@ -187,7 +187,7 @@ pub fn put_markers_on<J: Naming, H: Ends, W: Wait>(
     pass: &mut Pass<J>,
     count: usize,
 ) -> Result<Option<usize>, Fault> {
-    put_markers(alloc, facts, &mut Locked { node, rt }, pass, count)
+    put_markers(alloc, facts, Locked { node, rt }, pass, count)
 }
 
 /// The same on what stood under the lock of a node.
@@ -199,7 +199,7 @@ pub fn put_markers_on_half<J: Naming, H: Ends, W: Wait>(
     pass: &mut Pass<J>,
     count: usize,
 ) -> Result<Option<usize>, Fault> {
-    put_markers(alloc, facts, &mut Unlocked { half, rt }, pass, count)
+    put_markers(alloc, facts, Unlocked { half, rt }, pass, count)
 }
 
 // The first markers, so many of them.
