@@ -49,17 +49,16 @@ impl<C: Connection> Newcomer<C> {
         alloc: Global,
         fresh: Fresh<C>,
         ring: RingClient,
-        cluster: &[u8],
+        cluster: Text,
         maximum: u32,
     ) -> Result<Newcomer<C>, NoMemory>
         requires origin { C.origin fresh.connection ≡ ClientCame }
         requires owed { ring.owed ≡ [] }
-        requires cluster { cluster.now ≡ C.facts.cluster }
+        requires cluster { cluster ≡ C.facts.cluster }
         requires maximum { maximum ≡ C.facts.maximum }
         ensures { IfOk result (λ newcomer.
             newcomer ≡ new_guest C.facts (C.serial fresh.connection)) }
     {
-        let session = Session::new(alloc, cluster, maximum)?;
         let nick = Text::new(alloc, b"*")?;
         let Fresh { connection, .. } = fresh;
         let client = Client {
@@ -67,7 +66,7 @@ impl<C: Connection> Newcomer<C> {
             ring,
             input: Input::new(alloc),
             heard: 0,
-            session,
+            session: Session::new(alloc, cluster, maximum),
             effects: Vec::new(alloc),
             done: 0,
             waiting: Pending::new(alloc),

@@ -23,7 +23,8 @@ fn newcomer(
     let incoming = Vec::from_slice(alloc, incoming)?;
     let connection = MemoryConnection::new(alloc, Origin::ClientCame, 7, incoming, piece);
     let fresh = Fresh { connection };
-    Ok(Newcomer::new(alloc, fresh, ring, b"bnc.example", 100)?)
+    let cluster = Text::new(alloc, b"bnc.example")?;
+    Ok(Newcomer::new(alloc, fresh, ring, cluster, 100)?)
 }
 
 // Its turn: what comes is taken in, its next line is heard unless that names a network, and what it is owed goes out.
