@@ -1,9 +1,9 @@
 -- The server of a network, as its connection stands.
-use Rattle.std.specs.Prelude.{ℕ, ◌≡◌, ◌≤◌, ◌+◌, ◌/◌, ◌++◌, true, length, List, Option, Some, None}
+use Rattle.std.specs.Prelude.{ℕ, ◌≡◌, ◌≤◌, ◌⊎◌, ◌+◌, ◌-◌, ◌/◌, ◌^◌, ◌++◌, true, length, List, Option, Some, None}
 use Rattle.network_log.specs.Host.{Host}
 use Rattle.network_server.specs.declared.server.Loss.{Loss}
 use Rattle.network_server.specs.declared.server.Loss.TheVariants.{Ended, Silent}
-use Rattle.network_server.specs.declared.server.TheConstants.{QUIET}
+use Rattle.network_server.specs.declared.server.TheConstants.{QUIET, TRIES}
 
 -- In turn:
 --   host      what the network's log says of it
@@ -11,12 +11,14 @@ use Rattle.network_server.specs.declared.server.TheConstants.{QUIET}
 --   bound     how many may be owed before its next line is taken
 --   heard_at  when bytes came last, in milliseconds
 --   loss      why nothing goes out any more, where that is so
+--   tries     how often its next line was tried, and there was no memory
 pub record ServerState : Type 0 where
   pub host : Host
   pub owed : List ℕ
   pub bound : ℕ
   pub heard_at : ℕ
   pub loss : Option Loss
+  pub tries : ℕ
 
 -- bytes came over its connection at that moment
 abbrev pub with_received : List ℕ → ℕ → ServerState → ServerState
@@ -24,6 +26,15 @@ with_received bytes now s = record s {
   host = record s.host { received = s.host.received ++ bytes };
   heard_at = now;
 }
+
+-- its next line was tried once more
+abbrev pub tried_again : ServerState → ServerState
+tried_again s = record s { tries = s.tries + 1 }
+
+-- Its next line is given up: it was tried often enough, or no more lines can be counted. Nothing else changed.
+pub record IsGivenUp (old new : ServerState) : Type 0 where
+  pub is_enough : (TRIES ≤ old.tries + 1) ⊎ (old.host.heard ≡ 2 ^ 64 - 1)
+  pub is_same : new ≡ record old { tries = new.tries }
 
 -- a client's line is taken for it
 abbrev pub HasCredit : ServerState → Type 0

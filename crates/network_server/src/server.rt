@@ -8,7 +8,7 @@ ghost use Rattle.network_log.specs.Truth.{MayBeSkipped};
 ghost use Rattle.network_log.specs.declared.origin.Origin.TheVariants.{NetworkDialed};
 ghost use Rattle.node_ports.specs.declared.pending.ReceiveFault.TheVariants as unreceived;
 ghost use Rattle.network_server.specs.ServerEvents.{Becomes, IsSaid, LosesLine, LosesSaid, Makes};
-ghost use Rattle.network_server.specs.ServerState.{HasCredit, MayEnd, StandsAsBefore, with_received};
+ghost use Rattle.network_server.specs.ServerState.{HasCredit, IsGivenUp, MayEnd, StandsAsBefore, tried_again, with_received};
 ghost use Rattle.network_server.specs.declared.opening.TheConstants.{MOST_OWED};
 ghost use Rattle.network_server.specs.declared.server.TheConstants.{QUIET};
 ghost use Rattle.network_server.specs.declared.server.HearFault.TheVariants as fault;
@@ -130,6 +130,7 @@ impl<C: Connection> Model for Server<C> {
       bound = s.bound;
       heard_at = s.heard_at;
       loss = s.loss;
+      tries = s.tries;
     } };
 
     ghost invariant = { λ s. (C.origin s.connection ≡ NetworkDialed s.network)
@@ -138,8 +139,8 @@ impl<C: Connection> Model for Server<C> {
 }
 
 impl<C: Connection> Server<C> {
-    /// The server of a network, for which the connection was dialed and which that joins behind so many others. The session over
-    /// it goes on from that serial number, and what it begins with is owed to the server.
+    /// The server of a network over a connection that was dialed for it, and joins the network behind so many others. The session
+    /// goes on from that serial number, and what it begins with is owed to the server.
     pub fn new(
         alloc: Global,
         site: &Site<'_>,
@@ -219,8 +220,8 @@ impl<C: Connection> Server<C> {
         self.is_readable = true;
     }
 
-    /// Takes in bytes that come over its connection, by way of the chunk: so the network's server gets them. Lines are heard before
-    /// more is taken in.
+    /// Takes in bytes that come over its connection, by way of the chunk, and answers how many. Its lines are heard before more is
+    /// taken in. For want of memory nothing is taken.
     pub fn receive(&mut self, chunk: &mut [u8], now: u64) -> Result<usize, ReceiveFault>
         ensures got { IfOk result (λ n. self.new ≡ with_received (take n chunk.new) now self.old) }
         ensures event { IfOk result (λ n. Becomes C.facts (ServerGets (take n chunk.new))
@@ -233,11 +234,13 @@ impl<C: Connection> Server<C> {
         ensures closed { result ≡ Err unreceived.Closed → is_some self.new.loss ≡ true }
     {
         if !self.is_readable {
+            self.note_end(ReceiveFault::Blocked);
             return Err(ReceiveFault::Blocked);
         }
         match self.input.receive(&mut self.connection, chunk) {
             Ok(count) => {
                 self.heard_at = now;
+                self.is_readable = count > 0;
                 self.count_last_receive();
                 Ok(count)
             }
@@ -272,8 +275,8 @@ impl<C: Connection> Server<C> {
         self.is_drained = self.loss.is_some();
     }
 
-    /// Its session hears its next line at that moment. What it says to the server is owed to that, and what else comes of it is
-    /// added to the batch. For want of memory nothing changes, unless the line is lost. After so many tries a line that would only
+    /// Its session hears its next line at that moment. What the session answers is owed to the server, and what else comes of the line
+    /// is added to the batch. For want of memory nothing changes, unless the line is lost. After so many tries a line that would only
     /// be passed on is left out.
     pub fn hear(
         &mut self,
@@ -293,8 +296,8 @@ impl<C: Connection> Server<C> {
         ensures none { result ≡ Ok hearing.More → (self.new ≡ self.old) × (batch.new ≡ batch.old) }
         ensures full { result ≡ Ok hearing.Full → (self.old.bound < length self.old.owed)
             × (self.new ≡ self.old) × (batch.new ≡ batch.old) }
-        ensures again { result ≡ Err fault.Again → self.new ≡ self.old }
-        ensures given_up { result ≡ Err fault.GivenUp → self.new ≡ self.old }
+        ensures again { result ≡ Err fault.Again → self.new ≡ tried_again self.old }
+        ensures given_up { result ≡ Err fault.GivenUp → IsGivenUp self.old self.new }
         ensures lost { result ≡ Err fault.Lost
             → LosesLine C.facts now self.old.host self.new.host }
         ensures err { OnErr result (batch.new ≡ batch.old) }
@@ -335,7 +338,7 @@ impl<C: Connection> Server<C> {
     fn count_line(&mut self, heard: u64)
         requires heard { heard ≡ self.old.host.heard + 1 }
         requires next { is_some (next_item self.old.host.received self.old.host.heard) ≡ true }
-        ensures { self.new ≡ record self.old { host = one_heard self.old.host } }
+        ensures { self.new ≡ record self.old { host = one_heard self.old.host; tries = 0 } }
     {
         self.input.take_line();
         self.heard = heard;
@@ -347,8 +350,9 @@ impl<C: Connection> Server<C> {
         requires { heard ≡ self.old.host.heard + 1 }
         ensures left_out { IfOk result (λ h. (h ≡ hearing.LeftOut)
             × MayBeSkipped (next_item self.old.host.received self.old.host.heard)
-            × (self.new ≡ record self.old { host = one_heard self.old.host })) }
-        ensures err { OnErr result (self.new ≡ self.old) }
+            × (self.new ≡ record self.old { host = one_heard self.old.host; tries = 0 })) }
+        ensures again { result ≡ Err fault.Again → self.new ≡ tried_again self.old }
+        ensures given_up { result ≡ Err fault.GivenUp → IsGivenUp self.old self.new }
         ensures kept { result ≢ Err fault.Lost }
     {
         self.tries = self.tries.saturating_add(1);
@@ -371,8 +375,8 @@ impl<C: Connection> Server<C> {
         self.loss.is_none() && self.dialogue.output.len() <= self.bound / 2
     }
 
-    /// A client's line is said to its session at that moment. What that says to the server is owed to it, and what else comes of it is
-    /// added to the batch. While there is no credit it isn't said.
+    /// A client's line is said to its session at that moment. What the session sends is owed to the server, and what else comes of the
+    /// line is added to the batch. While there is no credit it isn't said.
     pub fn say(
         &mut self,
         alloc: Global,

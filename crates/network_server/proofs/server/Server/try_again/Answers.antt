@@ -17,5 +17,5 @@ returns-in-Line-clause-left_out g c =
       refl,
       line-skipped (next_item c.args.self.now.host.received c.args.self.now.host.heard) c.in-Line.line.now
           (ap (λ (s : ServerState). next_item s.host.received s.host.heard) (sym c.self.view_is) ∙ there) (sym c.is_passed_on.ensures ∙ c.if-is_passed_on.true),
-      subst (λ (s : ServerState). c.count_line.new.self ≡ record s { host = one_heard s.host }) c.self.view_is c.count_line.ensures,
+      subst (λ (s : ServerState). c.count_line.new.self ≡ record s { host = one_heard s.host; tries = 0 }) c.self.view_is c.count_line.ensures,
     )
