@@ -3,7 +3,7 @@ use Rattle.std.specs.Prelude.{ℕ, ◌≡◌, Bool, true, false, List, [], ◌�
 use Rattle.irc_line.specs.Stream.{Item, line as whole_line}
 use Rattle.cluster_directory.specs.Directory.{Directory}
 use Rattle.client_session.specs.declared.effect.Effect.{Effect}
-use Rattle.client_session.specs.declared.effect.Effect.TheVariants.{Send}
+use Rattle.client_session.specs.declared.effect.Effect.TheVariants.{Send, Put, Upstream}
 use Rattle.client_session.specs.declared.stage.Stage.{Stage}
 use Rattle.client_session.specs.Lookup.{name_sought}
 use Rattle.network_log.specs.Facts.{NodeFacts}
@@ -62,3 +62,11 @@ pub record IsStep (directory : Directory) (known : Bool) (session : Stage) (next
   pub is_next : next ≡ Some item
   pub is_answer : IsAnswer known shown session (Some item)
   pub is_after : s ≡ step_of directory shown session item
+
+-- ---- what the network does for it
+
+-- what is left to do once the line for the server, or the marker, which is next, is done
+abbrev pub after_act : List Effect → List Effect
+after_act (Put change ∷ more) = more
+after_act (Upstream text ∷ more) = more
+after_act effects = effects

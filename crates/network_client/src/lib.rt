@@ -16,6 +16,7 @@ mod memory;
 mod naming;
 mod newcomer;
 mod ring;
+mod telling;
 #[cfg(test)]
 mod tests;
 

@@ -42,7 +42,10 @@ fn offerable(bytes: &[u8], owed: usize, bound: usize) -> usize
 }
 
 // Sends the first of what is owed, by one write.
-fn send_owed<C: Connection>(connection: &mut C, ring: &mut RingClient) -> Result<(), Halt>
+pub(crate) fn send_owed<C: Connection>(
+    connection: &mut C,
+    ring: &mut RingClient,
+) -> Result<(), Halt>
     requires origin { C.origin connection.old ≡ ClientCame }
     requires told { ∥ IsToldToClient C.facts (C.serial connection.old) (C.received connection.old)
         (C.sent connection.old ++ ring.old.owed) ∥₁ }
