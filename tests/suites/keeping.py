@@ -524,16 +524,28 @@ def a_keeper_that_fails_ends_though_nobody_reads_its_log(fixture):
 SMALLER = "a name smaller than each peer's by its bytes, since a keeper opens every connection"
 WHOLE = 'node = "0keep"\npeer_word = "green"\nfile = "history"\n'
 PEER = '[[peer]]\nname = "n1"\naddress = "127.0.0.1:1"\n'
+KNOWN = "no keys but name, address, version"
 REFUSED = (
     ("no TOML", "node", "line 1: not a TOML text"),
     ("no file", WHOLE.replace('file = "history"\n', "") + PEER, "file: missing"),
     ("an empty file name", WHOLE.replace("history", "") + PEER, "file: the path of a file"),
     ("a name with a hyphen", WHOLE.replace("0keep", "a-keeper") + PEER, "node: 1 to 32 bytes of a-z and 0-9"),
     ("a name above a peer's", WHOLE.replace("0keep", "n2") + PEER, f"node: {SMALLER}"),
-    ("the name of a peer", WHOLE.replace("0keep", "n1") + PEER, "peer 1, name: not the name of this node"),
+    ("the name of a peer", WHOLE.replace("0keep", "n1") + PEER, "peer 1 (n1), name: not the name of this node"),
     ("a key of a node", WHOLE + 'listen = "127.0.0.1:1"\n' + PEER, "top level: no keys but node, peer_word, file, peer"),
-    ("a peer twice", WHOLE + PEER + PEER, "peer 2, name: a name that no entry before has"),
-    ("a peer's version", WHOLE + PEER + "version = 4\n", "peer 1, version: a number from 1 to 3"),
+    ("a peer twice", WHOLE + PEER + PEER, "peer 2 (n1), name: a name that no entry before has"),
+    ("a peer's version", WHOLE + PEER + "version = 4\n", "peer 1 (n1), version: a number from 1 to 3"),
+    ("a peer that has no address", WHOLE + PEER + '[[peer]]\nname = "n3"\n', "peer 2 (n3), address: missing"),
+    ("a peer's address that is a name", WHOLE + PEER + PEER.replace("n1", "n3").replace("127.0.0.1", "n3"),
+     "peer 2 (n3), address: an IP address and a port"),
+    ("a key that no peer has", WHOLE + PEER.replace("n1", "n3") + "odd = 1\n" + PEER, f"peer 1 (n3): {KNOWN}"),
+    ("a peer whose name has an escape", WHOLE + PEER.replace("n1", "n\\u0033") + "odd = 1\n", f"peer 1 (n3): {KNOWN}"),
+    ("a peer whose name has a space", WHOLE + PEER.replace("n1", "n 1"), "peer 1 (n 1), name: 1 to 32 bytes of a-z and 0-9"),
+    ("a peer whose name has 64 bytes", WHOLE + PEER.replace("n1", 64 * "n") + "odd = 1\n", f"peer 1 ({64 * 'n'}): {KNOWN}"),
+    ("a peer whose name has 65 bytes", WHOLE + PEER.replace("n1", 65 * "n") + "odd = 1\n", f"peer 1: {KNOWN}"),
+    ("a peer whose name has a line feed", WHOLE + PEER.replace("n1", "n\\n3") + "odd = 1\n", f"peer 1: {KNOWN}"),
+    ("a peer whose name is a number", WHOLE + PEER.replace('"n1"', "3") + "odd = 1\n", f"peer 1: {KNOWN}"),
+    ("a peer without a name", WHOLE + PEER + '[[peer]]\naddress = "127.0.0.1:1"\n', "peer 2, name: missing"),
 )
 
 

@@ -8,8 +8,9 @@ use Rattle.node_config.specs.declared.keeper.KeeperConfig.{KeeperConfig}
 use Rattle.node_config.specs.declared.fault.ConfigFault.{ConfigFault}
 use Rattle.node_config.specs.Document.{IsRefused}
 use Rattle.node_config.specs.Keeper.{SaysOfKeeper}
+use Rattle.node_config.specs.Naming.{fault_name}
 use Rattle.bnc_keep.specs.declared.ending.End.{End}
-use Rattle.bnc_keep.specs.declared.ending.End.TheVariants.{Usage}
+use Rattle.bnc_keep.specs.declared.ending.End.TheVariants.{Usage, NoMemory}
 use Rattle.bnc_keep.specs.declared.fault.KeepFault.{KeepFault}
 use Rattle.bnc_keep.specs.Status.{end_of_file, end_of_config, end_of_keeping}
 
@@ -20,11 +21,17 @@ FileRead = Result (Vec ℕ Global) Error
 abbrev pub Keeping : Type 0
 Keeping = Result (Unit {0}) KeepFault
 
+-- A configuration of these bytes is refused for that fault: the end has the name of the entry that the fault is in, or
+-- there was no memory for it.
+abbrev pub IsEndOfConfig : List ℕ → ConfigFault → End → Type 0
+IsEndOfConfig bytes fault end =
+    (end ≡ end_of_config fault (fault_name bytes fault)) ⊎ (end ≡ NoMemory)
+
 -- the configuration is refused for a fault of these bytes
 pub record EndsByConfig (bytes : List ℕ) (end : End) : Type 0 where
   pub fault : ConfigFault
   pub refused : IsRefused bytes fault
-  pub told : end ≡ end_of_config fault
+  pub told : IsEndOfConfig bytes fault end
 
 -- The configuration that the file says, or the end where there is none.
 abbrev pub IsConfigOf : Bor (List ℕ) → FileRead → Result KeeperConfig End → Type 0

@@ -1,11 +1,13 @@
 //! How the program ends: its status, and what it writes to standard error.
 ghost use Rattle.std.specs.Prelude.{◌≡◌};
 ghost use Rattle.bnc_keep.specs.Status.{status_of, end_of_file, end_of_words};
+ghost use Rattle.bnc_keep.specs.Program.{IsEndOfConfig};
 
 use crate::fault::KeepFault;
 use bstr::BStr;
 use byte_text::Text;
-use node_config::ConfigFault;
+use node_config::{ConfigFault, NamedFault};
+use std::alloc::Global;
 use std::fmt;
 use std::io::ErrorKind;
 
@@ -19,9 +21,9 @@ pub(crate) enum End<'a> {
     /// There was no memory.
     NoMemory,
     /// The configuration at that path can't be read.
-    Config(&'a str, ErrorKind),
+    File(&'a str, ErrorKind),
     /// The configuration is refused.
-    Refused(ConfigFault),
+    Config(NamedFault),
     /// Nothing can be kept in that file.
     Keep(Text, KeepFault),
 }
@@ -34,8 +36,8 @@ impl End<'_> {
         match self {
             End::Usage => 2,
             End::NoMemory => 3,
-            End::Config(_, _) | End::Keep(_, _) => 4,
-            End::Refused(_) => 5,
+            End::File(_, _) | End::Keep(_, _) => 4,
+            End::Config(_) => 5,
         }
     }
 
@@ -44,18 +46,18 @@ impl End<'_> {
         match self {
             End::Usage => USAGE,
             End::NoMemory => "no memory",
-            End::Config(_, _) | End::Keep(_, _) => "read or write failed",
-            End::Refused(_) => "config refused",
+            End::File(_, _) | End::Keep(_, _) => "read or write failed",
+            End::Config(_) => "config refused",
         }
     }
 
     /// The end of a program that can't read its configuration for that reason.
-    pub(crate) fn without_config(path: &str, kind: ErrorKind) -> End<'_>
+    pub(crate) fn without_file(path: &str, kind: ErrorKind) -> End<'_>
         ensures { result ≡ end_of_file path.entry kind }
     {
         match kind {
             ErrorKind::OutOfMemory => End::NoMemory,
-            _ => End::Config(path, kind),
+            _ => End::File(path, kind),
         }
     }
 
@@ -68,6 +70,16 @@ impl End<'_> {
             _ => End::Usage,
         }
     }
+
+    /// The end of a program whose configuration, of these bytes, is refused for that fault.
+    pub(crate) fn without_config(alloc: Global, bytes: &[u8], fault: ConfigFault) -> End<'static>
+        ensures { IsEndOfConfig bytes.now fault result }
+    {
+        match NamedFault::new(alloc, bytes, fault) {
+            Ok(named) => End::from(named),
+            Err(_) => End::NoMemory,
+        }
+    }
 }
 
 /// What goes to standard error: the first line, and where more is known a second one that says what failed, or what is
@@ -77,26 +89,24 @@ impl fmt::Display for End<'_> {
         f.write_str(self.text())?;
         match self {
             End::Usage | End::NoMemory => Ok(()),
-            End::Config(path, ErrorKind::NotFound) => {
-                write!(f, "\ncan't read {path}: no such file")
-            }
-            End::Config(path, kind) => write!(f, "\ncan't read {path}: {kind}"),
-            End::Refused(fault) => write!(f, "\n{fault}"),
+            End::File(path, ErrorKind::NotFound) => write!(f, "\ncan't read {path}: no such file"),
+            End::File(path, kind) => write!(f, "\ncan't read {path}: {kind}"),
+            End::Config(fault) => write!(f, "\n{fault}"),
             End::Keep(file, fault) => write!(f, "\n{}: {fault}", BStr::new(file.as_bytes())),
         }
     }
 }
 
-impl From<ConfigFault> for End<'_> {
+impl From<NamedFault> for End<'_> {
     ghost use Rattle.std.specs.Prelude.{◌≡◌};
     ghost use Rattle.bnc_keep.specs.Status.{end_of_config};
 
-    ghost from_gives = { λ fault end. end ≡ end_of_config fault };
+    ghost from_gives = { λ named end. end ≡ end_of_config named.fault named.name };
 
-    fn from(fault: ConfigFault) -> Self {
-        match fault {
+    fn from(named: NamedFault) -> Self {
+        match named.fault {
             ConfigFault::NoMemory => End::NoMemory,
-            _ => End::Refused(fault),
+            _ => End::Config(named),
         }
     }
 }

@@ -22,10 +22,12 @@ fn config_in<'a>(
 {
     let bytes = match read {
         Ok(bytes) => bytes,
-        Err(error) => return Err(End::without_config(path, error.kind())),
+        Err(error) => return Err(End::without_file(path, error.kind())),
     };
-    let config = read_keeper_config(alloc, &bytes)?;
-    Ok(config)
+    match read_keeper_config(alloc, &bytes) {
+        Ok(config) => Ok(config),
+        Err(fault) => Err(End::without_config(alloc, &bytes, fault)),
+    }
 }
 
 // How the program ends where nothing can be kept in that file.
