@@ -4,7 +4,7 @@ use crate::accounts::accounts;
 use crate::feeders::Feeders;
 use crate::memory::MemoryConnection;
 use crate::newcomer::Newcomer;
-use byte_text::NoMemory;
+use byte_text::{NoMemory, Text};
 use client_places::{Places, RingClient};
 use node_ports::{Fresh, Origin};
 use std::alloc::Global;
