@@ -5,8 +5,8 @@ an id of as many bytes that rises, as a node makes them; with 100,000 and with 1
     bench/ids.py PROGRAM ROUNDS
 
 It plays the network's server and one client itself, over loopback. Processor time is the median of so many floods of 10,000 lines
-behind the messages that are held; memory is what each of those takes. It needs valgrind, by which it counts the instructions of
-5,000 lines, 200 at once, with 100,000 held: what waits for memory isn't seen there.
+behind the messages that are held; memory is what each of those takes. Debian's ZNC, which keeps the last 1,000, gets the same lines.
+valgrind counts the instructions of 5,000 lines, 200 at once, with 100,000 held: what waits for memory isn't seen there.
 """
 import base64
 import hashlib
@@ -49,8 +49,8 @@ def spelled(name, first):
 
 
 def held(program, name, count, **how):
-    """A bouncer that holds so many messages, with its server and a client, and the bytes that each takes."""
-    bouncer, server = begin("bnc", program, **how)
+    """A bouncer that was sent so many messages, with its server and a client, and the bytes that each takes."""
+    bouncer, server = begin("bnc" if program else "znc", program, **how)
     clients = Clients(bouncer, 1)
     clients.settle(1)
     clients.reset()
@@ -90,16 +90,18 @@ def counted(program, name, count, folder):
 
 
 def rows(program, rounds):
+    theirs, _ = times(None, random, LINES, rounds)
     for count in HELD:
         found = {name: times(program, it, count, rounds) for name, it in KINDS}
         (rise, small), (any_, large) = found["rising"], found["random"]
-        yield [f"{count:,}", f"{rise:.0f} ns", f"{any_:.0f} ns", f"{any_ / rise:.2f}", f"{small:.0f} bytes", f"{large:.0f} bytes", f"{large / small:.2f}"]
+        yield [f"{count:,}", f"{rise:.0f} ns", f"{any_:.0f} ns", f"{any_ / rise:.2f}", f"{theirs / any_:.1f}", f"{small:.0f} bytes",
+               f"{large:.0f} bytes", f"{large / small:.2f}"]
 
 
 def main():
     program, rounds = os.path.abspath(sys.argv[1]), int(sys.argv[2])
     print(f"{name_of_run(program)} Medians of {rounds} rounds.\n")
-    heads = ["held", "a line, rising ids", "random ids", "ratio", "a message, rising ids", "random ids", "ratio"]
+    heads = ["held", "a line, rising ids", "random ids", "ratio", "ZNC : random ids", "a message, rising ids", "random ids", "ratio"]
     print(table(heads, rows(program, rounds)), flush=True)
     with tempfile.TemporaryDirectory() as folder:
         os.chmod(folder, 0o777)
