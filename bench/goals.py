@@ -35,10 +35,15 @@ GOALS = (
     ("`CHATHISTORY TARGETS` of 10,000 buffers : plain Rust", "a question", "ratio", "TARGETS.*", "1.3"),
     ("`CHATHISTORY LATEST` of one of them : plain Rust", "a question", "ratio", "LATEST.*", "1.3"),
     ("a server's line with five tags : one without", "line", "to the line before it", ".*with five", "1.4"),
+    ("a line with a random id : one with a rising id, 1,000,000 held", "held", "ratio", "1,000,000", "2"),
+    ("lines with random ids, 1,000,000 held, for a processor second : ZNC's", "held", "ZNC : random ids", "1,000,000", "at least 4"),
+    ("a floor that lets 1,000,000 messages with rising ids go", "a floor that lets 1,000,000 messages go", "processor time", "rising.*",
+     "0.1 s"),
+    ("the same with random ids", "a floor that lets 1,000,000 messages go", "processor time", "random.*", "0.15 s"),
     ("a keeper appends 1,000,000 messages", "what", "figure", "1,000,000 messages of 40.*", "60 s"),
     ("a keeper reads them at its start", "what", "figure", "read at the start", "5 s"),
     ("in its file, a message", "what", "figure", "in the file.*", "200 bytes"),
-    ("its memory : that of one state", "what", "figure", "memory : .*", "1.2"),
+    ("a keeper's memory : that of one state", "what", "figure", "memory : .*", "1.2"),
     ("a node with a keeper, restarted alone, is level", "what", "figure", "a node restarted alone.*", "5 s"),
 )
 
