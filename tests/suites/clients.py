@@ -1,5 +1,6 @@
 """Clients of a node (docs/PROTOCOL.md, "Capability negotiation" and "A client's session"; docs/CLIENTS.md)."""
 
+import re
 import signal
 import time
 
@@ -252,10 +253,31 @@ def come_at_once(node):
     return clients
 
 
+def is_let_in(client):
+    """Whether it is greeted. Else its connection ends without a word."""
+    client.held = client.receive()
+    if not client.held:
+        return False
+    client.hear(*greeting(), ":bnc.example PONG bnc.example :here")
+    return True
+
+
+REFUSED = re.compile(
+    r"client refused: (\S+): (?:each place is taken|it had waited longest to say who it is, and gave way to another)")
+MORE_REFUSED = re.compile(r"clients refused: ([0-9]+) more within a minute")
+
+
+def refusals_told(node):
+    """The addresses that the operator was told of, and how many more there were."""
+    told = [line.partition(" ")[2] for line in node.log()]
+    addresses = [found[1] for found in map(REFUSED.fullmatch, told) if found]
+    return addresses, sum(int(found[1]) for found in map(MORE_REFUSED.fullmatch, told) if found)
+
+
 @test
 def of_many_who_come_at_once_as_many_get_in_as_places_are_free(fixture):
-    """In the order in which they connected. Those beyond are closed: the operator is told of the first ten, and how many more
-    there were. Each place that is left, at either worker, is there for the next."""
+    """Those beyond are closed: the operator is told of the first ones, and how many more there were. (One whose lines weren't read
+    yet may give way to another.) Each place that is left, at either worker, is there for the next."""
     clocks = Clocks(fixture)
     node = Node(fixture, servers=[NOBODY], places=PLACES, front=clocks.front).begin()
     inside, refused, left = [], [], 0
@@ -266,18 +288,18 @@ def of_many_who_come_at_once_as_many_get_in_as_places_are_free(fixture):
         fixture.until("they have left", lambda: sum("client out: " in line for line in node.log()) == left)
         del inside[:leaves]
         clients, free = come_at_once(node), PLACES - len(inside)
-        for client in clients[:free]:
-            client.hear(*greeting(), ":bnc.example PONG bnc.example :here")
-        for client in clients[free:]:
-            client.hear_end()
-        inside += clients[:free]
-        refused += clients[free:]
+        let_in = [client for client in clients if is_let_in(client)]
+        expect("how many got in", free, len(let_in))
+        inside += let_in
+        refused += [client for client in clients if client not in let_in]
         for client in inside:
             client.ping()
-    told = [line.partition(" ")[2] for line in node.log() if " refused: " in line]
-    expect("who was refused", [f"client refused: {spelled(it.address)}: each place is taken" for it in refused[:10]], told)
     clocks.skip(60)
-    node.wait_for(f"clients refused: {len(refused) - 10} more within a minute")
+    fixture.until("each is told or counted", lambda: len(refusals_told(node)[0]) + refusals_told(node)[1] == len(refused))
+    told, more = refusals_told(node)
+    expect("who was refused", [], [it for it in told if it not in {spelled(client.address) for client in refused}])
+    expect("whether each is told once", len(set(told)), len(told))
+    expect("whether some are counted alone", True, len(told) >= 10 and more > 0)
 
 
 @test
