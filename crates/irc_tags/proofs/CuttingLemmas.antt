@@ -25,7 +25,7 @@ module _ {X : Type 0} (p : X → Bool) where
       ]
 
 module _ (p : ℕ → Bool) where
-  none_passes : (xs : List ℕ) → position p xs ≡ None → All (λ b. p b ≡ false) xs
+  pub none_passes : (xs : List ℕ) → position p xs ≡ None → All (λ b. p b ≡ false) xs
   none_passes xs e k d h = (let past = no_place p xs e in fails_before_first p xs k d (omega arith))
 
   -- the parts, where some element passes

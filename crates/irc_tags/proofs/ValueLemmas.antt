@@ -3,10 +3,11 @@ use Rattle.std.proofs.Common.{◌≡◌, ℕ, ◌+◌, ◌<◌, ◌≤◌, Bool,
 use Rattle.std.specs.Prelude.{◌==◌}
 use Rattle.std.specs.List.{position_or_len}
 use Rattle.std.proofs.lemmas.Bool.{cond-true, cond-false, eqb-true}
-use Rattle.std.proofs.lemmas.List.{take_all, drop_all, drop_more}
+use Rattle.std.proofs.lemmas.List.{drop_all, drop_more}
+use Rattle.std.proofs.lemmas.List.Elements.{All-head, All-tail}
 use Rattle.std.proofs.lemmas.List.Sums.{passes_at_first}
-use Rattle.irc_tags.specs.Value.{backslash, escaped_byte, value_in, byte_spelling, value_text}
-use Rattle.irc_tags.proofs.CuttingLemmas.{first_place, no_place}
+use Rattle.irc_tags.specs.Value.{IsPlain, backslash, escaped_byte, value_in, byte_spelling, value_text}
+use Rattle.irc_tags.proofs.CuttingLemmas.{first_place, none_passes}
 
 -- ---- what bytes spell
 
@@ -80,11 +81,15 @@ cuts_at_first (b ∷ bytes) = go (b == backslash) refl (cuts_at_first bytes) whe
       subst (CutsAt (b ∷ bytes)) (sym some) (value_in-plain b bytes e ∙ ap (λ l. b ∷ l) rest)
 
 -- bytes without a backslash spell themselves
+pub value_in-all_plain : (bytes : List ℕ) → IsPlain bytes → value_in bytes ≡ bytes
+value_in-all_plain [] plain = value_in-nil
+value_in-all_plain (b ∷ bytes) plain =
+    value_in-plain b bytes (All-head (λ c. (c == backslash) ≡ false) b bytes plain)
+    ∙ ap (λ l. b ∷ l) (value_in-all_plain bytes (All-tail (λ c. (c == backslash) ≡ false) b bytes plain))
+
+-- and so they do where the search for one ends
 pub value_in-none : (bytes : List ℕ) → position is_backslash bytes ≡ None → value_in bytes ≡ bytes
-value_in-none bytes e =
-    let n = position_or_len is_backslash bytes in
-    let past = no_place is_backslash bytes e in
-    cuts_at_first bytes ∙ (λ i. take_all n bytes past i ++ value_in (drop_all n bytes past i)) ∙ ap (λ l. bytes ++ l) value_in-nil ∙ append-nil bytes
+value_in-none bytes e = value_in-all_plain bytes (none_passes is_backslash bytes e)
 
 module _ (bytes : List ℕ) (n : ℕ) (place : position is_backslash bytes ≡ Some n) where
   -- a backslash

@@ -1,6 +1,6 @@
 -- How a tag's value is written (IRCv3 message-tags, "Escaping values").
-use Rattle.std.specs.Prelude.{ℕ, List, [], ◌∷◌, ◌==◌, if◌then◌else◌}
-use Rattle.std.specs.List.{flat_map}
+use Rattle.std.specs.Prelude.{◌≡◌, ℕ, false, List, [], ◌∷◌, ◌==◌, if◌then◌else◌}
+use Rattle.std.specs.List.{All, flat_map}
 use Rattle.byte_text.specs.Bytes.{colon, cr, lf, space}
 
 -- ---- bytes
@@ -38,6 +38,10 @@ value_in [] = []
 value_in (b ∷ []) = if b == backslash then [] else b ∷ []
 value_in (b ∷ next ∷ bytes) =
     if b == backslash then escaped_byte next ∷ value_in bytes else b ∷ value_in (next ∷ bytes)
+
+-- no byte is a backslash. Such bytes are the value that they spell.
+abbrev pub IsPlain : List ℕ → Type 0
+IsPlain bytes = All (λ b. (b == backslash) ≡ false) bytes
 
 -- how a byte of a value is written
 abbrev pub byte_spelling : ℕ → List ℕ

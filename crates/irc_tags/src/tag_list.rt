@@ -1,11 +1,11 @@
 //! The list of tags, and reading it.
-ghost use Rattle.std.specs.Prelude.{◌≡◌, ◌<◌, ◌↔◌, length, slice_get, Some, IfOk, OnOk, IsErrOf, IsTrue};
+ghost use Rattle.std.specs.Prelude.{◌≡◌, ◌<◌, ◌↔◌, false, length, slice_get, Some, IfOk, OnOk, IsErrOf, IsTrue};
 ghost use Rattle.std.specs.Cow.{cow_slice_items};
 ghost use Rattle.std.specs.Option.{option_copied, option_map};
 ghost use Rattle.irc_tags.specs.TagList.{Tag, max_tag_data, tag_list, value_at};
 ghost use Rattle.irc_tags.specs.Entries.{value_of, PutsTag};
 ghost use Rattle.irc_tags.specs.Standing.{CanStand};
-ghost use Rattle.irc_tags.specs.Value.{value_in};
+ghost use Rattle.irc_tags.specs.Value.{value_in, IsPlain};
 
 use crate::tag::cut_tag;
 use crate::value::read_value;
@@ -87,16 +87,26 @@ impl<'a> Tags<'a> {
     }
 }
 
-/// The value that the bytes spell: themselves, where no backslash is among them.
-fn unescaped(alloc: Global, bytes: &[u8]) -> Result<CowSlice<'_, u8>, AllocError>
-    ensures { IfOk result (λ value. cow_slice_items value ≡ value_in bytes.now) }
+/// Whether a backslash is among the bytes.
+fn has_backslash(bytes: &[u8]) -> bool
+    ensures { result ≡ false → IsPlain bytes.now }
 {
     match find_byte(bytes, b'\\') {
-        None => Ok(CowSlice::Borrowed(bytes)),
-        Some(_) => {
-            let value = read_value(alloc, bytes)?;
-            Ok(CowSlice::Owned(value))
-        }
+        Some(_) => true,
+        None => false,
+    }
+}
+
+/// The value that the bytes spell. Where there is no backslash, they are the value themselves.
+fn unescaped(alloc: Global, bytes: &[u8], has_escapes: bool) -> Result<CowSlice<'_, u8>, AllocError>
+    requires { has_escapes ≡ false → IsPlain bytes.now }
+    ensures { IfOk result (λ value. cow_slice_items value ≡ value_in bytes.now) }
+{
+    if has_escapes {
+        let value = read_value(alloc, bytes)?;
+        Ok(CowSlice::Owned(value))
+    } else {
+        Ok(CowSlice::Borrowed(bytes))
     }
 }
 
@@ -105,14 +115,16 @@ fn put_tag<'a>(
     alloc: Global,
     by_key: &mut IndexMap<&'a [u8], CowSlice<'a, u8>>,
     tag: &'a [u8],
+    has_escapes: bool,
 ) -> Result<(), AllocError>
+    requires { has_escapes ≡ false → IsPlain tag.now }
     ensures { OnOk result (PutsTag by_key.old.entries by_key.new.entries tag.now) }
 {
     let (key, value) = cut_tag(tag);
     if key.is_empty() {
         return Ok(());
     }
-    let value = unescaped(alloc, value)?;
+    let value = unescaped(alloc, value, has_escapes)?;
     by_key.insert(key, value)?;
     Ok(())
 }
@@ -125,12 +137,13 @@ fn read_map(alloc: Global, bytes: &[u8]) -> Result<IndexMap<&[u8], CowSlice<'_, 
     ensures { IfOk result (λ by_key. value_of by_key.entries ≡ tag_list bytes.now) }
 {
     let mut by_key = IndexMap::with_capacity(alloc, FEW_TAGS)?;
+    let has_escapes = has_backslash(bytes);
     let mut rest = bytes;
     while let Some(at) = find_byte(rest, b';') {
-        put_tag(alloc, &mut by_key, &rest[..at])?;
+        put_tag(alloc, &mut by_key, &rest[..at], has_escapes)?;
         rest = &rest[at + 1..];
     }
-    put_tag(alloc, &mut by_key, rest)?;
+    put_tag(alloc, &mut by_key, rest, has_escapes)?;
     Ok(by_key)
 }
 

@@ -1,6 +1,6 @@
-use Rattle.std.proofs.Common.{sym, ◌∙◌}
-use Rattle.irc_tags.proofs.ValueLemmas.{value_in-none}
+use Rattle.std.proofs.Common.{sym}
+use Rattle.irc_tags.proofs.ValueLemmas.{value_in-all_plain}
 use Rattle.irc_tags.proofs.tag_list.unescaped.Goals as goal
 
-pub returns-in-None : goal.returns-in-None
-returns-in-None c = sym (value_in-none c.args.bytes.now (sym c.find_byte.ensures.place ∙ c.in-None.is))
+pub returns-else-has_escapes : goal.returns-else-has_escapes
+returns-else-has_escapes c = sym (value_in-all_plain c.args.bytes.now (c.requires c.if-has_escapes.false))
