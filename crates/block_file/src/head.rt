@@ -1,5 +1,5 @@
 //! The head of a block: its gate, the length of its payload, and CR LF.
-ghost use Rattle.std.specs.Prelude.{◌≡◌, ◌≤◌, ◌++◌, ◌∷◌, length, IfSome, IsNone};
+ghost use Rattle.std.specs.Prelude.{◌≡◌, ◌≤◌, ◌++◌, length, IfSome, IsNone};
 ghost use Rattle.block_file.specs.Blocks as spec;
 ghost use Rattle.block_file.specs.Decode as decode;
 

@@ -1,7 +1,7 @@
 //! Blocks of any length. A block counts if its gate is open and it is whole. A closed gate stands behind the last block, on
 //! the disk before anything is written behind it.
 ghost use Rattle.std.specs.Prelude.{◌≡◌, ◌<◌, ◌≤◌, ◌^◌, ◌++◌, [], ◌∷◌, List, ℕ, length, IfOk, OnOk, IsErrOf};
-ghost use Rattle.block_file.specs.Device.{Only, LeavesOnly};
+ghost use Rattle.block_file.specs.Device.{LeavesOnly};
 ghost use Rattle.block_file.specs.Blocks.{body, block, closed_gate, StandsFor, IsSettled, IsCopying, IsBeforeOrAfter, IsEither, most};
 
 use crate::head::{HEAD, head};

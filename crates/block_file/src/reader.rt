@@ -1,5 +1,5 @@
 //! Reading the blocks of a file, one after another. No more is kept than one call of the source gives and one block.
-ghost use Rattle.std.specs.Prelude.{◌≡◌, ◌<◌, ◌≤◌, ◌++◌, [], ◌∷◌, List, ℕ, length, drop, IfOk, OnOk, IfSome, IsNone, IsErrOf};
+ghost use Rattle.std.specs.Prelude.{◌≡◌, ◌<◌, ◌≤◌, ◌^◌, ◌++◌, [], ◌∷◌, List, ℕ, length, drop, IfOk, OnOk, IfSome, IsNone, IsErrOf};
 ghost use Rattle.block_file.specs.Found.{HasRead, IsReading};
 
 use crate::head::{HEAD, first_block};
@@ -72,6 +72,11 @@ impl<S: Source> Reader<S> {
             → IsReading S.got self.old payloads → IsReading S.got self.new payloads) }
         ensures failed { IsErrOf result DeviceError.Failed
             → S.faults self.old.source < S.faults self.new.source }
+        // The file is longer than one may be, and no block is handed on behind that length. The reader stays where it was.
+        ensures full { IsErrOf result DeviceError.Full → 2 ^ 60 ≤ length (S.got self.new.source) }
+        ensures full_still { IsErrOf result DeviceError.Full → (payloads : List (List ℕ))
+            → IsReading S.got self.old payloads → IsReading S.got self.new payloads }
+        ensures not_full { IfOk result (λ next. IfSome next (λ _. self.old.end < 2 ^ 60)) }
     {
         for _ in 0..u64::MAX {
             if let Some((payload, _)) = first_block(&self.ahead[self.from..]) {
