@@ -107,7 +107,8 @@ fn push_effects(
     nick: &[u8],
     effects: Vec<UpEffect>,
 )
-    requires room_for_changes { vec_len changes.old + length effects.items ≤ vec_capacity changes.old }
+    requires room_for_changes { vec_len changes.old + length effects.items
+        ≤ vec_capacity changes.old }
     requires room_for_parts { vec_len parts.old + length effects.items < vec_capacity parts.old }
     requires agree { posted_count parts.old.items ≡ length changes.old.items }
     ensures entries { entries parts.new.items changes.new.items
