@@ -14,7 +14,8 @@ use std::ops::Bound;
 
 // Whether a key stands before a start bound.
 fn is_before<K: Prefixed, Q: Sought<K>>(key: &K, start: Bound<&Q>) -> bool
-    ensures { result ≡ not (is_from_start K.cmp (bound_map (λ q. Q.key q.now) start.entry) key.now) }
+    ensures { result ≡ not (is_from_start K.cmp
+        (bound_map (λ q. Q.key q.now) start.entry) key.now) }
 {
     match start {
         Bound::Included(limit) => order(key, limit).is_lt(),
@@ -25,7 +26,8 @@ fn is_before<K: Prefixed, Q: Sought<K>>(key: &K, start: Bound<&Q>) -> bool
 
 // Whether the last entry of a page stands before a start bound.
 fn ends_before<K: Prefixed, V, Q: Sought<K>>(page: &Page<K, V>, start: Bound<&Q>) -> bool
-    ensures { result ≡ last_passes (stands_before K.cmp (bound_map (λ q. Q.key q.now) start.entry)) page.now }
+    ensures { result ≡ last_passes
+        (stands_before K.cmp (bound_map (λ q. Q.key q.now) start.entry)) page.now }
 {
     match page.entries.back() {
         Some(entry) => is_before(&entry.0, start),
@@ -40,7 +42,8 @@ pub(super) fn pages_before<K: Prefixed, V, Q: Sought<K>>(
 ) -> usize
     requires { AreInPages K.cmp pages.now.items }
     ensures bound { result ≤ length pages.now.items }
-    ensures cut { IsCutBetween K.cmp (bound_map (λ q. Q.key q.now) start.entry) pages.now.items result }
+    ensures cut { IsCutBetween K.cmp
+        (bound_map (λ q. Q.key q.now) start.entry) pages.now.items result }
 {
     if let Some(front) = pages.front() {
         if !ends_before(front, start) {

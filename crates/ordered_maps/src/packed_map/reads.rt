@@ -2,7 +2,7 @@
 
 ghost use Rattle.std.specs.Prelude.{◌≡◌, [], None, IfSome};
 ghost use Rattle.std.specs.List.{slice_get, filter};
-ghost use Rattle.std.specs.Map.Iter.{deref, deref_pair};
+ghost use Rattle.std.specs.Map.Iter.{deref_pair};
 ghost use Rattle.std.specs.Option.{option_map};
 ghost use Rattle.std.specs.Range.Bound.{bound_map};
 ghost use Rattle.std.specs.BTreeMap.Range.{entries_between};
