@@ -1,5 +1,5 @@
 -- A page that is split: the entries, and those around a place, stay.
-use Rattle.std.proofs.Common.{◌≡◌, ◌≢◌, ℕ, suc, ◌+◌, ◌-◌, ◌<◌, ◌≤◌, Bool, true, false, true≢false, Result, Ok, Err, is_err, OnOk, List, [], ◌∷◌, ◌++◌, length, take, drop, sym, ap, subst, ◌∙◌, append_assoc, append-nil, arith, take-append-drop, length-append, length-drop, length-take-le, take-take, drop-drop, take_at}
+use Rattle.std.proofs.Common.{◌≡◌, ◌≢◌, ℕ, zero, suc, ◌+◌, ◌-◌, ◌/◌, ◌<◌, ◌≤◌, Bool, true, false, true≢false, Result, Ok, Err, is_err, OnOk, List, [], ◌∷◌, ◌++◌, length, take, drop, sym, ap, subst, ◌∙◌, append_assoc, append-nil, arith, take-append-drop, length-append, length-drop, length-take-le, take-take, drop-drop, take_at, set, insert, get_or}
 use Rattle.std.proofs.Math.Seq.{take-add, get_or-append_seam, drop-append-add}
 use Rattle.std.proofs.lemmas.List.{drop-append-le}
 use Rattle.std.proofs.lemmas.List.Concat.{flat_map-append}
@@ -7,7 +7,13 @@ use Rattle.ordered_maps.specs.declared.packed_map.search.Place.{Place}
 use Rattle.ordered_maps.specs.Pages.{entries_of, page_at, AreFilled}
 use Rattle.ordered_maps.specs.Places.{before, after, IsPlace, entered, split_at}
 use Rattle.ordered_maps.proofs.ElementLemmas.{all_append, all_take, all_drop}
-use Rattle.ordered_maps.proofs.PageLemmas.{filled_from_length, whole}
+use Rattle.ordered_maps.proofs.PageLemmas.{filled_from_length, page_read, whole}
+
+-- a full page, of so many entries, has two halves
+pub halves : {K X : Type 0} (pages : List (List (K × X))) (n many : ℕ) (page : List (K × X)) → n < length pages → page ≡ get_or pages n page → many ≡ length page → 64 ≤ length (page_at pages n) → (0 < many / 2) × (many / 2 < length (page_at pages n))
+halves pages n many page within read is full =
+    let at = ap length (page_read pages n page within read) in
+    (omega (arith, is, at), omega (arith, is, at))
 
 -- a fact of a success, where there was no error
 pub ok_from : {T E P : Type 0} (r : Result T E) → is_err r ≡ false → OnOk r P → P
@@ -15,6 +21,12 @@ ok_from (Ok x) e h = h
 ok_from (Err x) e h = absurd (true≢false e)
 
 module _ {K X : Type 0} where
+  -- the end of a page was put behind it, as a page of its own
+  pub inserted_behind : (pages : List (List (K × X))) (n i : ℕ) (page : List (K × X)) → n < length pages → page ≡ page_at pages n → insert (set pages n (take i page)) (suc n) (drop i page) ≡ split_at pages n i
+  inserted_behind [] n i page h e = absurd (omega arith)
+  inserted_behind (p ∷ ps) zero i page h e = ap (λ (q : List (K × X)). take i q ∷ drop i q ∷ ps) e
+  inserted_behind (p ∷ ps) (suc n) i page h e = ap (λ qs. p ∷ qs) (inserted_behind ps n i page (omega arith) e)
+
   -- pages with one in the middle
   module _ (front : List (List (K × X))) (page : List (K × X)) (rest : List (List (K × X))) (n : ℕ) (long : length front ≡ n) where
     pub middle : page_at (front ++ page ∷ rest) n ≡ page

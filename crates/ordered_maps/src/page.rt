@@ -13,8 +13,11 @@ use std::collections::VecDeque;
 use std::marker::Model;
 use std::mem::replace;
 
-/// How many entries a full page has.
+/// How many entries a full page has at least.
 pub(crate) const PAGE: usize = 64;
+
+/// How many entries a full page has where keys come in order, before all others or behind them.
+pub(crate) const END_PAGE: usize = 512;
 
 /// For how many more entries a page takes room at least.
 const LEAST_ROOM: usize = 4;

@@ -8,12 +8,12 @@ ghost use Rattle.ordered_maps.specs.Places.{IsPlace, IsEntryPlace, before, past,
 
 use super::search::Place;
 use crate::keys::Prefixed;
-use crate::page::{PAGE, Page};
+use crate::page::{END_PAGE, PAGE, Page};
 use std::alloc::{AllocError, Global};
 use std::collections::VecDeque;
 
-// How many entries stay in a full page that is split.
-const HALF: usize = PAGE / 2;
+// A full page has an entry for each so many pages of the map, where that is more than [`PAGE`].
+const PAGES_PER_ENTRY: usize = 128;
 
 /// Writes a value over the one of the entry at a place, and answers what stood there.
 pub(crate) fn write<K: Prefixed + Drop, V: Drop>(
@@ -84,16 +84,30 @@ pub(crate) fn enter<K: Prefixed + Drop, V: Drop>(
         return begin(pages, alloc, place.page, entry);
     }
     let len = pages[place.page].len();
-    if len < PAGE {
+    if len < limit(pages.len()) {
         return put_in(pages, place, entry);
     }
     if place.page == 0 && place.index == 0 {
+        if len < END_PAGE {
+            return put_in(pages, place, entry);
+        }
         return begin(pages, alloc, 0, entry);
     }
     if place.page + 1 == pages.len() && place.index == len {
+        if len < END_PAGE {
+            return put_in(pages, place, entry);
+        }
         return begin(pages, alloc, pages.len(), entry);
     }
     enter_in_full(pages, place, entry)
+}
+
+// How many entries a full page has in a map of so many pages. In a large map it is more than in a small one, so that the list of
+// pages stays short, of which all is copied as it grows.
+fn limit(pages: usize) -> usize
+    ensures { PAGE ≤ result }
+{
+    PAGE.max(pages / PAGES_PER_ENTRY)
 }
 
 // Splits a full page and puts an entry in one of the halves.
@@ -109,15 +123,16 @@ fn enter_in_full<K: Prefixed + Drop, V: Drop>(
     ensures entered { entries_of pages.new.items ≡ entered pages.old.items place entry result }
     ensures filled { AreFilled pages.new.items }
 {
-    if split(pages, place.page).is_err() {
+    let half = pages[place.page].len() / 2;
+    if split(pages, place.page, half).is_err() {
         return false;
     }
-    if place.index <= HALF {
+    if place.index <= half {
         return put_in(pages, place, entry);
     }
     let place = Place {
         page: place.page + 1,
-        index: place.index - HALF,
+        index: place.index - half,
     };
     put_in(pages, place, entry)
 }
@@ -149,26 +164,27 @@ fn begin<K: Prefixed + Drop, V: Drop>(
     ensures begun { IsTrue result → pages.new.items ≡ insert pages.old.items page (entry ∷ []) }
     ensures refused { result ≡ false → pages.new.items ≡ pages.old.items }
 {
-    let room = if pages.is_empty() { 0 } else { PAGE };
+    let room = if pages.is_empty() { 0 } else { END_PAGE };
     match Page::begin(alloc, room, entry) {
         Ok(begun) => pages.insert(page, begun).is_ok(),
         Err(_) => false,
     }
 }
 
-// Splits a full page in halves. Where there is no memory it stays whole.
+// Splits a page at an index. Where there is no memory it stays whole.
 fn split<K: Prefixed + Drop, V: Drop>(
     pages: &mut VecDeque<Page<K, V>>,
     page: usize,
+    index: usize,
 ) -> Result<(), AllocError>
     requires within { page < length pages.old.items }
-    requires full { PAGE ≤ length (page_at pages.old.items page) }
-    ensures split { OnOk result (pages.new.items ≡ split_at pages.old.items page HALF) }
+    requires fits { index ≤ length (page_at pages.old.items page) }
+    ensures split { OnOk result (pages.new.items ≡ split_at pages.old.items page index) }
     ensures refused { OnErr result (pages.new.items ≡ pages.old.items) }
 {
     pages.reserve(1)?;
-    let half = pages[page].split_off(HALF)?;
-    match pages.insert(page + 1, half) {
+    let rest = pages[page].split_off(index)?;
+    match pages.insert(page + 1, rest) {
         Ok(()) => Ok(()),
         Err(_) => unreachable!(),
     }

@@ -29,7 +29,7 @@ impl<K: Prefixed + Drop, V: Drop> PackedMap<K, V> {
         retain(&mut self.pages, test);
     }
 
-    /// How many pages it has. A full one has 64 entries.
+    /// How many pages it has. A full one has at least 64 entries, and 512 where the keys came in order.
     pub fn page_count(&self) -> usize {
         self.pages.len()
     }
