@@ -4,7 +4,7 @@
 pub mod Store
 -- what it answers of a message
 pub mod MessageRef
--- how a piece enters it, and a floor takes records away one by one
+-- how a piece enters it, and a floor takes records away
 pub mod Entering
 -- which buffers are sought, and a walk over these
 pub mod Sought

@@ -235,6 +235,7 @@ impl Buffers {
         let held = self.held.get_mut(buffer)?;
         held.messages.remove_first_below(floor)
     }
+
     /// Takes the records of a buffer out that stand before a floor, in one walk over its messages. It takes no memory.
     pub fn remove_below(&mut self, buffer: &Buffer, floor: Moment)
         ensures { IsSwept (extents.OfBuffer buffer.now) floor self.old self.new }
@@ -245,7 +246,7 @@ impl Buffers {
         held.messages.remove_below(floor);
     }
 
-    /// How many pages of 64 or fewer records a buffer has of which some stand before a floor.
+    /// How many pages of records a buffer has of which some stand before a floor.
     pub fn page_count_below(&self, buffer: &Buffer, floor: Moment) -> usize {
         match self.held.get(buffer) {
             Some(held) => held.messages.page_count_below(floor),

@@ -251,7 +251,7 @@ impl Messages {
         self.by_id.remove_below(floor);
     }
 
-    /// How many pages have records that stand before a floor. A full page has 64.
+    /// How many pages have records that stand before a floor.
     pub(crate) fn page_count_below(&self, floor: Moment) -> usize {
         self.by_spot.page_count_below(floor)
     }
