@@ -34,6 +34,11 @@ abbrev pub name_in : Facts → Result Reading LineFault → Option MessageName
 name_in f (Err fault) = None
 name_in f (Ok line) = name_by_command f (command_of line.command) line.parameters
 
+-- the two parts of such a name
+abbrev pub parts_of : Option MessageName → Option (Buffer × List ℕ)
+parts_of None = None
+parts_of (Some m) = Some (m.buffer, m.id)
+
 -- where a step looks, if it does
 abbrev pub name_sought : Stage → List ℕ → Option MessageName
 name_sought (Waiting w) bytes = None

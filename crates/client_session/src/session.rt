@@ -2,15 +2,16 @@
 ghost use Rattle.std.specs.Prelude.{◌≡◌, Bool, Ok, None, IfOk, IfErr, OnErr, IsSome, MatchOption};
 ghost use Rattle.std.specs.Option.{option_copied};
 ghost use Rattle.client_session.specs.Session as spec;
-ghost use Rattle.client_session.specs.Lookup.{name_sought};
+ghost use Rattle.client_session.specs.Lookup.{name_sought, parts_of};
 
 use crate::command::command_of;
 use crate::effect::Effect;
-use crate::lookup::look;
+use crate::lookup::{look, sought};
 use crate::registered;
 use crate::scratch::Scratch;
 use crate::stage::{Continuation, Stage, Waiting};
 use byte_text::{NoMemory, Text};
+use chat_change::{Buffer, MsgId};
 use chat_history::Peek;
 use chat_query::{Answered, Facts, next_reference};
 use cluster_directory::Directory;
@@ -190,14 +191,26 @@ impl Session {
         }
     }
 
-    // One step, where it is known whether the message is shown that a REDACT names.
+    /// The message that a REDACT names, where a [`step`](Session::step) with this line looks whether it is shown.
+    pub fn sought(&self, alloc: Global, bytes: &[u8]) -> Result<Option<(Buffer, MsgId)>, NoMemory>
+        ensures { IfOk result (λ sought. sought ≡ parts_of (name_sought self.now bytes.now)) }
+    {
+        match &self.stage {
+            Stage::Registered(facts) => sought(alloc, facts, bytes),
+            Stage::Waiting(_) => Ok(None),
+            Stage::Closed => Ok(None),
+        }
+    }
+
+    /// What [`step`](Session::step) does, where it is known whether the message is shown that a REDACT names
+    /// ([`sought`](Session::sought)).
     #[tactic(auto, unfolding(crate::specs::Session::step))]
-    fn step_shown(
+    pub fn step_knowing(
         &mut self,
         alloc: Global,
+        bytes: &[u8],
         directory: &Directory,
         shown: bool,
-        bytes: &[u8],
     ) -> Result<Vec<Effect>, NoMemory>
         ensures ok { IfOk result (λ list. record { session = self.new; effects = list.items }
             ≡ spec.step directory.now shown self.old bytes.now) }
@@ -238,7 +251,7 @@ impl Session {
             None => false,
             Some(facts) => look(alloc, facts, bytes, peek)?,
         };
-        Ok(self.step_shown(alloc, directory, shown, bytes)?)
+        Ok(self.step_knowing(alloc, bytes, directory, shown)?)
     }
 
     /// What a line that was too long (`irc_line::Next::TooLong`) does. A refused call leaves the
