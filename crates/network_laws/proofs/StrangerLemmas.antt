@@ -254,7 +254,7 @@ module _
         placed = λ other e. greeted_from (h.message place arrived refl);
         paced = h.paced;
       }
-  stands {facts} {side} (Replies {heard} {session} {noted} {said} place arrived link outcome is taken course) =
+  stands {facts} {side} (Replies {heard} {session} {noted} {said} place arrived link outcome own is taken course) =
       replied_stands facts.terms side session _ noted said _ heard place arrived (stands course)
   stands {facts} {side} (Publishes {heard} {session} {brought} {noted} {said} course) =
       paced_stands facts.terms side session (pace.published session.pace) brought noted said said heard (λ e. e) (inl refl) (stands course)

@@ -1,9 +1,10 @@
 -- The course of a connection with a peer: what its session heard and came to, and all that was said over it.
-use Rattle.std.specs.Prelude.{ℕ, ◌≡◌, true, false, List, [], ◌∷◌, ◌++◌, Option, None, Some}
+use Rattle.std.specs.Prelude.{ℕ, ◌≡◌, true, false, List, [], ◌∷◌, ◌++◌, Option, None, Some, slice_get}
 use Rattle.irc_line.specs.Stream.{Item, line as whole_line, too_long as cut_line}
 use Rattle.chat_change.specs.declared.change.Change.{Change}
 use Rattle.chat_history.specs.Numbering.{delta}
 use Rattle.cluster_directory.specs.Life.{Life}
+use Rattle.cluster_directory.specs.Terms.{names_of}
 use Rattle.cluster_directory.specs.declared.version.TheConstants.Version.{OWN}
 use Rattle.peer_lines.specs.Packet.{Ack, Packet}
 use Rattle.peer_lines.specs.Spelling.{written}
@@ -49,17 +50,26 @@ abbrev pub IsTakenSo : NodeFacts → List Change → Outcome → Type 0
 IsTakenSo facts changes Taken = ∥ IsInNode facts changes ∥₁
 IsTakenSo facts changes _ = Unit {0}
 
--- the packet has what the node held by then and the peer has not acknowledged
-pub record IsOwnPacket (facts : NodeFacts) (packet : Packet) : Type 0 where
+-- ---- what the node knows of the peer
+
+-- the link is this node's, with the peer at that place of its configuration
+pub record IsLinkWith (facts : NodeFacts) (place : ℕ) (link : Link) : Type 0 where
+  pub is_own : link.me ≡ facts.terms.me
+  pub is_name : slice_get (names_of facts.terms) place ≡ Some link.name
+
+-- the packet is for the peer that was noted, and has what the node held by then and that peer has not acknowledged
+pub record IsOwnPacket (facts : NodeFacts) (noted : Option ℕ) (packet : Packet) : Type 0 where
+  pub place : ℕ
   pub link : Link
   pub changes : List Change
-  pub is_own : link.me ≡ facts.terms.me
+  pub is_noted : noted ≡ Some place
+  pub is_link : IsLinkWith facts place link
   pub is_held : facts.held changes
   pub is_packet : Some packet ≡ packet_of OWN link.me link.name link.peer.heard (delta 0 changes link.peer.acked)
 
-abbrev pub IsOwnIfAny : NodeFacts → Option Packet → Type 0
-IsOwnIfAny facts None = Unit {0}
-IsOwnIfAny facts (Some packet) = ∥ IsOwnPacket facts packet ∥₁
+abbrev pub IsOwnIfAny : NodeFacts → Option ℕ → Option Packet → Type 0
+IsOwnIfAny facts noted None = Unit {0}
+IsOwnIfAny facts noted (Some packet) = ∥ IsOwnPacket facts noted packet ∥₁
 
 -- ---- the course
 
@@ -70,8 +80,8 @@ IsOwnIfAny facts (Some packet) = ∥ IsOwnPacket facts packet ∥₁
 --              what the session says to it waits behind the others. A line for which the connection is to be closed ends the
 --              course, and so does want of memory: nothing is said any more
 --   Notes      the peer whose message came is noted as the one at the other end
---   Replies    the message that came is carried out on a link, and the reply to it waits behind the others. It is acknowledged
---              only where the node has it
+--   Replies    the message that came is carried out on the link with its peer, and the reply to it waits behind the others. It is
+--              acknowledged only where the node has it
 --   Publishes  something is published
 --   Ticks      it is that moment
 --   Makes      a packet is made where one is due, or none since nothing is new, and its lines wait behind the others
@@ -91,6 +101,7 @@ pub data PeerCourse (facts : NodeFacts) (side : Side) : List Item → Session �
       → PeerCourse facts side heard session (Message place arrived) (Some place) said
   Replies : {heard : List Item} {session : Session} {noted : Option ℕ} {said : List ℕ}
       (place : ℕ) (arrived : Arrived) (link : Link) (outcome : Outcome)
+      → IsLinkWith facts place link
       → IsOutcome link arrived outcome
       → IsTakenSo facts (changes_of arrived) outcome
       → PeerCourse facts side heard session (Message place arrived) noted said
@@ -105,7 +116,7 @@ pub data PeerCourse (facts : NodeFacts) (side : Side) : List Item → Session �
   Makes : {heard : List Item} {session : Session} {brought : Heard} {noted : Option ℕ} {said : List ℕ}
       (packet : Option Packet) (now : ℕ)
       → pace.is_due session.pace ≡ true
-      → IsOwnIfAny facts packet
+      → IsOwnIfAny facts noted packet
       → PeerCourse facts side heard session brought noted said
       → PeerCourse facts side heard (with_pace session (pace.made (to_of packet) now session.pace)) brought noted
       (said ++ text_of packet)
