@@ -144,25 +144,27 @@ speaks P k w at now None e are = are
 speaks P k w at now (Some g) e are = spoken P k w at now g g.todo (all-get P w.guests at g e are) are
 
 marked : {facts : NodeFacts} {place : ℕ} {config : SessionConfig} (P : Guest → Type 0) → IsKept facts place config P
-    → (w : NetworkState) (at : ℕ) (fits : List Bool) (g : Guest) (todo : List Effect) → P g → AreAll P w.guests → AreAll P (after_marking w at fits g todo).guests
-marked P k w at fits g [] p are = are
-marked P k w at fits g (Send text ∷ more) p are = are
-marked P k w at fits g (Put (Post r) ∷ more) p are = are
-marked P k w at fits g (Put (Redact buffer id moment) ∷ more) p are = are
-marked P k w at fits g (Put (Mark buffer moment) ∷ more) p are =
-    let guests : List Guest = told_by (hears_marker (w.held ++ Mark buffer moment ∷ []) buffer.target) fits w.guests in
-    all-set P guests at (record g { todo = more }) (k.has_done more g p)
-    (all-informed P k (w.held ++ Mark buffer moment ∷ []) buffer.target fits w.guests are)
-marked P k w at fits g (Put (Floor buffer moment) ∷ more) p are = are
-marked P k w at fits g (Put (AccountFloor account moment) ∷ more) p are = are
-marked P k w at fits g (Ask question ∷ more) p are = are
-marked P k w at fits g (Upstream text ∷ more) p are = are
-marked P k w at fits g (Close ∷ more) p are = are
+    → (w : NetworkState) (at : ℕ) (later : List Change) (fits : List Bool) (g : Guest) (todo : List Effect) → P g → AreAll P w.guests
+    → AreAll P (after_marking w at later fits g todo).guests
+marked P k w at later fits g [] p are = are
+marked P k w at later fits g (Send text ∷ more) p are = are
+marked P k w at later fits g (Put (Post r) ∷ more) p are = are
+marked P k w at later fits g (Put (Redact buffer id moment) ∷ more) p are = are
+marked P k w at later fits g (Put (Mark buffer moment) ∷ more) p are =
+    let held : List Change = (w.held ++ Mark buffer moment ∷ []) ++ later in
+    let guests : List Guest = told_by (hears_marker held buffer.target) fits w.guests in
+    all-set P guests at (record g { todo = more }) (k.has_done more g p) (all-informed P k held buffer.target fits w.guests are)
+marked P k w at later fits g (Put (Floor buffer moment) ∷ more) p are = are
+marked P k w at later fits g (Put (AccountFloor account moment) ∷ more) p are = are
+marked P k w at later fits g (Ask question ∷ more) p are = are
+marked P k w at later fits g (Upstream text ∷ more) p are = are
+marked P k w at later fits g (Close ∷ more) p are = are
 
 marks : {facts : NodeFacts} {place : ℕ} {config : SessionConfig} (P : Guest → Type 0) → IsKept facts place config P
-    → (w : NetworkState) (at : ℕ) (fits : List Bool) (o : Option Guest) → slice_get w.guests at ≡ o → AreAll P w.guests → AreAll P (after_marking_of w at fits o).guests
-marks P k w at fits None e are = are
-marks P k w at fits (Some g) e are = marked P k w at fits g g.todo (all-get P w.guests at g e are) are
+    → (w : NetworkState) (at : ℕ) (later : List Change) (fits : List Bool) (o : Option Guest) → slice_get w.guests at ≡ o → AreAll P w.guests
+    → AreAll P (after_marking_of w at later fits o).guests
+marks P k w at later fits None e are = are
+marks P k w at later fits (Some g) e are = marked P k w at later fits g g.todo (all-get P w.guests at g e are) are
 
 mark-waited : {facts : NodeFacts} {place : ℕ} {config : SessionConfig} (P : Guest → Type 0) → IsKept facts place config P
     → (w : NetworkState) (at : ℕ) (g : Guest) (todo : List Effect) → P g → AreAll P w.guests → AreAll P (after_waiting_mark w at g todo).guests
@@ -204,7 +206,7 @@ step-kept P k there (ServerSays now) w at of t are = line-said P w now w.server 
 step-kept P k there ServerSkips w at of t are = are
 step-kept P k there ServerGoes w at of t are = server-goes P w.server w are
 step-kept P k there (Others changes) w at of t are = are
-step-kept P k there (Puts fits) w at of t are = all-hear P k (w.held ++ changes_of w.batch) w.batch fits w.guests are
+step-kept P k there (Puts later fits) w at of t are = all-hear P k ((w.held ++ changes_of w.batch) ++ later) w.batch fits w.guests are
 step-kept P k there (PutsFirst count fits) w at of t are =
     first-put P k count fits w (count == length (changes_of w.batch)) (all-hear P k w.held (first_entries count w.batch) fits w.guests are)
 step-kept P k there Loses w at of t are = server-goes P w.server (record w { batch = [] }) are
@@ -219,7 +221,7 @@ step-kept {facts} P k there (Has at event) w place of t are =
     has P k w.held (λ directory. directory ≡ directory_at facts.accounts w.config (entry_of w)) at event w.guests (slice_get w.guests at)
     (λ directory e. subst (λ (d : Directory). IsDirectory facts d) (sym e) (AtMoment w.place w.config (entry_of w) own)) refl t are
 step-kept P k there (Speaks at now) w place of t are = speaks P k w at now (slice_get w.guests at) refl are
-step-kept P k there (Marks at fits) w place of t are = marks P k w at fits (slice_get w.guests at) refl are
+step-kept P k there (Marks at later fits) w place of t are = marks P k w at later fits (slice_get w.guests at) refl are
 step-kept P k there (MarkWaits at) w place of t are = mark-waits P k w at (slice_get w.guests at) refl are
 step-kept P k there (Informs target fits) w at of t are = all-informed P k w.held target fits w.guests are
 step-kept P k there (Leaves at) w place of t are =

@@ -2,6 +2,7 @@
 use Rattle.std.proofs.Common.{◌≡◌, ◌+◌, ◌==◌, Bool, true, false, ℕ, List, [], ◌∷◌, ◌++◌, Option, Some, None, refl, sym, ap, ◌∙◌, subst, length, append_assoc, length-append, if◌then◌else◌}
 use Rattle.std.specs.Prelude.{slice_get}
 use Rattle.irc_line.specs.Stream.{Item, items, line as whole_line, too_long as cut_line}
+use Rattle.chat_change.specs.declared.change.Change.{Change}
 use Rattle.chat_change.specs.declared.change.Change.TheVariants.{Post, Redact, Mark, Floor, AccountFloor}
 use Rattle.cluster_directory.specs.declared.config.SessionConfig.{SessionConfig}
 use Rattle.client_session.specs.declared.effect.Effect.{Effect}
@@ -204,23 +205,23 @@ speaks-so : (facts : NodeFacts) (w : NetworkState) (at now : ℕ) (o : Option Gu
 speaks-so facts w at now None k = k
 speaks-so facts w at now (Some g) k = spoken-so facts w at now g g.todo k
 
-marked-so : (facts : NodeFacts) (w : NetworkState) (at : ℕ) (fits : List Bool) (g : Guest) (todo : List Effect) → IsServedSo facts w w.server
-    → IsServedSo facts w (after_marking w at fits g todo).server
-marked-so facts w at fits g [] k = k
-marked-so facts w at fits g (Send text ∷ more) k = k
-marked-so facts w at fits g (Put (Post r) ∷ more) k = k
-marked-so facts w at fits g (Put (Redact buffer id moment) ∷ more) k = k
-marked-so facts w at fits g (Put (Mark buffer moment) ∷ more) k = k
-marked-so facts w at fits g (Put (Floor buffer moment) ∷ more) k = k
-marked-so facts w at fits g (Put (AccountFloor account moment) ∷ more) k = k
-marked-so facts w at fits g (Ask question ∷ more) k = k
-marked-so facts w at fits g (Upstream text ∷ more) k = k
-marked-so facts w at fits g (Close ∷ more) k = k
+marked-so : (facts : NodeFacts) (w : NetworkState) (at : ℕ) (later : List Change) (fits : List Bool) (g : Guest) (todo : List Effect) → IsServedSo facts w w.server
+    → IsServedSo facts w (after_marking w at later fits g todo).server
+marked-so facts w at later fits g [] k = k
+marked-so facts w at later fits g (Send text ∷ more) k = k
+marked-so facts w at later fits g (Put (Post r) ∷ more) k = k
+marked-so facts w at later fits g (Put (Redact buffer id moment) ∷ more) k = k
+marked-so facts w at later fits g (Put (Mark buffer moment) ∷ more) k = k
+marked-so facts w at later fits g (Put (Floor buffer moment) ∷ more) k = k
+marked-so facts w at later fits g (Put (AccountFloor account moment) ∷ more) k = k
+marked-so facts w at later fits g (Ask question ∷ more) k = k
+marked-so facts w at later fits g (Upstream text ∷ more) k = k
+marked-so facts w at later fits g (Close ∷ more) k = k
 
-marks-so : (facts : NodeFacts) (w : NetworkState) (at : ℕ) (fits : List Bool) (o : Option Guest) → IsServedSo facts w w.server
-    → IsServedSo facts w (after_marking_of w at fits o).server
-marks-so facts w at fits None k = k
-marks-so facts w at fits (Some g) k = marked-so facts w at fits g g.todo k
+marks-so : (facts : NodeFacts) (w : NetworkState) (at : ℕ) (later : List Change) (fits : List Bool) (o : Option Guest) → IsServedSo facts w w.server
+    → IsServedSo facts w (after_marking_of w at later fits o).server
+marks-so facts w at later fits None k = k
+marks-so facts w at later fits (Some g) k = marked-so facts w at later fits g g.todo k
 
 waited-so : (facts : NodeFacts) (w : NetworkState) (at : ℕ) (g : Guest) (todo : List Effect) → IsServedSo facts w w.server
     → IsServedSo facts w (after_waiting_mark w at g todo).server
@@ -244,13 +245,13 @@ step-so facts (ServerSays now) w t k = line-so facts w now w.server refl k
 step-so facts ServerSkips w t k = skipped-so facts w w.server t k
 step-so facts ServerGoes w t k = gone-so facts w w w.server refl k
 step-so facts (Others changes) w t k = k
-step-so facts (Puts fits) w t k = k
+step-so facts (Puts later fits) w t k = k
 step-so facts (PutsFirst count fits) w t k = first-put-so facts w count fits (count == length (changes_of w.batch)) k
 step-so facts Loses w t k = gone-so facts w (record w { batch = [] }) w.server refl k
 step-so facts (Comes guest) w t k = k
 step-so facts (Has at event) w t k = k
 step-so facts (Speaks at now) w t k = speaks-so facts w at now (slice_get w.guests at) k
-step-so facts (Marks at fits) w t k = marks-so facts w at fits (slice_get w.guests at) k
+step-so facts (Marks at later fits) w t k = marks-so facts w at later fits (slice_get w.guests at) k
 step-so facts (MarkWaits at) w t k = waits-so facts w at (slice_get w.guests at) k
 step-so facts (Informs target fits) w t k = k
 step-so facts (Leaves at) w t k = k

@@ -2,6 +2,7 @@
 use Rattle.std.proofs.Common.{◌≡◌, ◌≤◌, ◌==◌, Bool, true, false, ℕ, List, [], ◌∷◌, Option, Some, None, refl, arith, length, if◌then◌else◌}
 use Rattle.std.specs.Prelude.{slice_get}
 use Rattle.irc_line.specs.Stream.{Item, line as whole_line, too_long as cut_line}
+use Rattle.chat_change.specs.declared.change.Change.{Change}
 use Rattle.chat_change.specs.declared.change.Change.TheVariants.{Post, Redact, Mark, Floor, AccountFloor}
 use Rattle.client_session.specs.declared.effect.Effect.{Effect}
 use Rattle.client_session.specs.declared.effect.Effect.TheVariants.{Send, Put, Ask, Upstream, Close}
@@ -44,21 +45,21 @@ speaks-same : (w : NetworkState) (place now : ℕ) (o : Option Guest) → IsSame
 speaks-same w place now None = (refl, refl, refl)
 speaks-same w place now (Some g) = speaking-same w place now g g.todo
 
-marking-same : (w : NetworkState) (place : ℕ) (fits : List Bool) (g : Guest) (todo : List Effect) → IsSameNetwork w (after_marking w place fits g todo)
-marking-same w place fits g [] = (refl, refl, refl)
-marking-same w place fits g (Send text ∷ more) = (refl, refl, refl)
-marking-same w place fits g (Put (Post r) ∷ more) = (refl, refl, refl)
-marking-same w place fits g (Put (Redact buffer id at) ∷ more) = (refl, refl, refl)
-marking-same w place fits g (Put (Mark buffer at) ∷ more) = (refl, refl, refl)
-marking-same w place fits g (Put (Floor buffer at) ∷ more) = (refl, refl, refl)
-marking-same w place fits g (Put (AccountFloor account at) ∷ more) = (refl, refl, refl)
-marking-same w place fits g (Ask question ∷ more) = (refl, refl, refl)
-marking-same w place fits g (Upstream text ∷ more) = (refl, refl, refl)
-marking-same w place fits g (Close ∷ more) = (refl, refl, refl)
+marking-same : (w : NetworkState) (place : ℕ) (later : List Change) (fits : List Bool) (g : Guest) (todo : List Effect) → IsSameNetwork w (after_marking w place later fits g todo)
+marking-same w place later fits g [] = (refl, refl, refl)
+marking-same w place later fits g (Send text ∷ more) = (refl, refl, refl)
+marking-same w place later fits g (Put (Post r) ∷ more) = (refl, refl, refl)
+marking-same w place later fits g (Put (Redact buffer id at) ∷ more) = (refl, refl, refl)
+marking-same w place later fits g (Put (Mark buffer at) ∷ more) = (refl, refl, refl)
+marking-same w place later fits g (Put (Floor buffer at) ∷ more) = (refl, refl, refl)
+marking-same w place later fits g (Put (AccountFloor account at) ∷ more) = (refl, refl, refl)
+marking-same w place later fits g (Ask question ∷ more) = (refl, refl, refl)
+marking-same w place later fits g (Upstream text ∷ more) = (refl, refl, refl)
+marking-same w place later fits g (Close ∷ more) = (refl, refl, refl)
 
-marks-same : (w : NetworkState) (place : ℕ) (fits : List Bool) (o : Option Guest) → IsSameNetwork w (after_marking_of w place fits o)
-marks-same w place fits None = (refl, refl, refl)
-marks-same w place fits (Some g) = marking-same w place fits g g.todo
+marks-same : (w : NetworkState) (place : ℕ) (later : List Change) (fits : List Bool) (o : Option Guest) → IsSameNetwork w (after_marking_of w place later fits o)
+marks-same w place later fits None = (refl, refl, refl)
+marks-same w place later fits (Some g) = marking-same w place later fits g g.todo
 
 waiting-same : (w : NetworkState) (place : ℕ) (g : Guest) (todo : List Effect) → IsSameNetwork w (after_waiting_mark w place g todo)
 waiting-same w place g [] = (refl, refl, refl)
@@ -98,13 +99,13 @@ step-later facts (ServerSays now) w = same-later (line-same w now w.server)
 step-later facts ServerSkips w = same-later (refl, refl, refl)
 step-later facts ServerGoes w = same-later (server-goes w.server w)
 step-later facts (Others changes) w = same-later (refl, refl, refl)
-step-later facts (Puts fits) w = same-later (refl, refl, refl)
+step-later facts (Puts later fits) w = same-later (refl, refl, refl)
 step-later facts (PutsFirst count fits) w = same-later (first-later count fits w (count == length (changes_of w.batch)))
 step-later facts Loses w = same-later (server-goes w.server (record w { batch = [] }))
 step-later facts (Comes guest) w = record { place = refl; config = refl; joins = omega arith }
 step-later facts (Has place event) w = same-later (refl, refl, refl)
 step-later facts (Speaks place now) w = same-later (speaks-same w place now (slice_get w.guests place))
-step-later facts (Marks place fits) w = same-later (marks-same w place fits (slice_get w.guests place))
+step-later facts (Marks place later fits) w = same-later (marks-same w place later fits (slice_get w.guests place))
 step-later facts (MarkWaits place) w = same-later (waits-same w place (slice_get w.guests place))
 step-later facts (Informs target fits) w = same-later (refl, refl, refl)
 step-later facts (Leaves place) w = same-later (refl, refl, refl)

@@ -22,14 +22,16 @@ use Rattle.network_log.specs.NetworkState.{NetworkState, changes_of, first_entri
 --   ServerSkips  the next line is left out
 --   ServerGoes   the connection is gone
 --   Others       the node is seen to have published these too
---   Puts         the batch is put and published, and told to the clients; one that can't be owed its share is gone
+--   Puts         the batch is put and published, the node is seen to have published these behind it, and the batch is told to the
+--                clients; one that can't be owed its share is gone
 --   PutsFirst    so many of its changes are put and wait to be published, the first ones, and so much of it is told; where that
 --                isn't all, the server's connection is closed
 --   Loses        the batch is let go: nobody is told, and the server's connection is closed
 --   Comes        a client is there, as it was let in
 --   Has          that happens to the client at that place
 --   Speaks       the line for the server, which is next of what the client at that place has to do, is said to it at that moment
---   Marks        the marker, which is next, is put and published, and the other clients are told
+--   Marks        the marker, which is next, is put and published, the node is seen to have published these behind it, and the
+--                other clients are told
 --   MarkWaits    it is put, and waits to be published: nobody is told
 --   Informs      all clients are told a target's marker
 --   Leaves       the client at that place leaves
@@ -40,13 +42,13 @@ pub data NetworkEvent : Type 0 where
   ServerSkips : NetworkEvent
   ServerGoes : NetworkEvent
   Others : (changes : List Change) → NetworkEvent
-  Puts : (fits : List Bool) → NetworkEvent
+  Puts : (later : List Change) (fits : List Bool) → NetworkEvent
   PutsFirst : (count : ℕ) (fits : List Bool) → NetworkEvent
   Loses : NetworkEvent
   Comes : (guest : Guest) → NetworkEvent
   Has : (place : ℕ) (event : GuestEvent) → NetworkEvent
   Speaks : (place now : ℕ) → NetworkEvent
-  Marks : (place : ℕ) (fits : List Bool) → NetworkEvent
+  Marks : (place : ℕ) (later : List Change) (fits : List Bool) → NetworkEvent
   MarkWaits : (place : ℕ) → NetworkEvent
   Informs : (target : List ℕ) (fits : List Bool) → NetworkEvent
   Leaves : (place : ℕ) → NetworkEvent
@@ -87,10 +89,10 @@ with_line_skipped (Some h) = Some (one_heard h)
 
 -- ---- the batch
 
-abbrev pub after_put : List Bool → NetworkState → NetworkState
-after_put fits w =
+abbrev pub after_put : List Change → List Bool → NetworkState → NetworkState
+after_put later fits w =
     let changes = changes_of w.batch in
-    let held = w.held ++ changes in
+    let held = (w.held ++ changes) ++ later in
     record w {
       batch = [];
       puts = w.puts ++ changes;
@@ -137,19 +139,20 @@ after_informing buffer target fits w = record w {
   guests = told_by (hears_marker w.held target) fits w.guests;
 }
 
-abbrev pub with_marker : Change → NetworkState → NetworkState
-with_marker change w = record w { puts = w.puts ++ change ∷ []; held = w.held ++ change ∷ [] }
+abbrev pub with_marker : Change → List Change → NetworkState → NetworkState
+with_marker change later w =
+    record w { puts = w.puts ++ change ∷ []; held = (w.held ++ change ∷ []) ++ later }
 
 -- the one that puts it is told nothing: it has asked
-abbrev pub after_marking : NetworkState → ℕ → List Bool → Guest → List Effect → NetworkState
-after_marking w place fits g (Put (Mark buffer at) ∷ more) =
+abbrev pub after_marking : NetworkState → ℕ → List Change → List Bool → Guest → List Effect → NetworkState
+after_marking w place later fits g (Put (Mark buffer at) ∷ more) =
     with_guest place g more
-    (after_informing buffer buffer.target fits (with_marker (Mark buffer at) w))
-after_marking w place fits g _ = w
+    (after_informing buffer buffer.target fits (with_marker (Mark buffer at) later w))
+after_marking w place later fits g _ = w
 
-abbrev pub after_marking_of : NetworkState → ℕ → List Bool → Option Guest → NetworkState
-after_marking_of w place fits None = w
-after_marking_of w place fits (Some g) = after_marking w place fits g g.todo
+abbrev pub after_marking_of : NetworkState → ℕ → List Change → List Bool → Option Guest → NetworkState
+after_marking_of w place later fits None = w
+after_marking_of w place later fits (Some g) = after_marking w place later fits g g.todo
 
 abbrev pub after_waiting_mark : NetworkState → ℕ → Guest → List Effect → NetworkState
 after_waiting_mark w place g (Put change ∷ more) =
@@ -173,7 +176,7 @@ step facts (ServerSays now) w = after_server_line w now w.server
 step facts ServerSkips w = record w { server = with_line_skipped w.server }
 step facts ServerGoes w = without_server w.server w
 step facts (Others changes) w = record w { held = w.held ++ changes }
-step facts (Puts fits) w = after_put fits w
+step facts (Puts later fits) w = after_put later fits w
 step facts (PutsFirst count fits) w =
     if count == length (changes_of w.batch)
     then after_put_of_first count fits w
@@ -187,7 +190,8 @@ step facts (Has place event) w = record w {
   guests = guests_after w.held place event w.guests (slice_get w.guests place);
 }
 step facts (Speaks place now) w = after_speaking_of w place now (slice_get w.guests place)
-step facts (Marks place fits) w = after_marking_of w place fits (slice_get w.guests place)
+step facts (Marks place later fits) w =
+    after_marking_of w place later fits (slice_get w.guests place)
 step facts (MarkWaits place) w = after_waiting_mark_of w place (slice_get w.guests place)
 step facts (Informs target fits) w =
     after_informing (buffer_of w.config.account w.config.network target) target fits w

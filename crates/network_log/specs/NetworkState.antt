@@ -25,7 +25,7 @@ pub record MarkerTold : Type 0 where
 --   batch    what came of the server's lines and isn't put yet, in order
 --   puts     all that was put for it, in order
 --   held     all that the node was last seen to have published, in order
---   markers  the read markers that all its clients were told, the latest first
+--   markers  the read markers that all its clients were told, of each buffer the latest
 --   guests   its clients
 pub record NetworkState : Type 0 where
   pub place : ℕ
@@ -93,9 +93,16 @@ is_further None was = false
 is_further (Some at) None = true
 is_further (Some at) (Some was) = nat_lt was at
 
+-- the marker of a buffer is told, in place of the one before
+abbrev pub with_told : Buffer → ℕ → List MarkerTold → List MarkerTold
+with_told buffer at [] = record { buffer = buffer; at = at } ∷ []
+with_told buffer at (m ∷ markers) =
+    if same_buffer m.buffer buffer then record m { at = at } ∷ markers
+    else m ∷ with_told buffer at markers
+
 abbrev pub marker_noted : Buffer → Option ℕ → List MarkerTold → List MarkerTold
 marker_noted buffer None markers = markers
-marker_noted buffer (Some at) markers = record { buffer = buffer; at = at } ∷ markers
+marker_noted buffer (Some at) markers = with_told buffer at markers
 
 -- ---- clients
 

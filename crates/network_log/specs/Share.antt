@@ -1,16 +1,18 @@
 -- What a client is told of what comes of its server's lines.
-use Rattle.std.specs.Prelude.{ℕ, ◌||◌, Bool, List, [], ◌∷◌, ◌++◌, codes, Option, None, Some, if◌then◌else◌}
+use Rattle.std.specs.Prelude.{ℕ, ◌||◌, ◌&&◌, Bool, List, [], ◌∷◌, ◌++◌, codes, Option, None, Some, if◌then◌else◌}
 use Rattle.std.specs.Str.{bytes_eq}
 use Rattle.byte_text.specs.Bytes.{line_ending}
-use Rattle.irc_reply.specs.ToClient.{marker_question}
+use Rattle.irc_reply.specs.Reply.{mark_text}
+use Rattle.chat_change.specs.Buffer.{buffer_of}
 use Rattle.chat_change.specs.declared.change.Change.{Change}
 use Rattle.chat_change.specs.declared.change.Change.TheVariants.{Post}
+use Rattle.chat_history.specs.History.{mark}
+use Rattle.chat_query.specs.Buffers.{has_buffer}
 use Rattle.chat_query.specs.declared.facts.Facts.{Facts}
-use Rattle.chat_past.specs.Answers.{Answer}
 use Rattle.chat_past.specs.Message.{live_text}
 use Rattle.client_session.specs.Hearers.{hears_message, is_recipient}
 use Rattle.client_session.specs.Session.{facts_in}
-use Rattle.network_log.specs.Guest.{Guest, answer_to}
+use Rattle.network_log.specs.Guest.{Guest}
 use Rattle.network_log.specs.Host.{BatchEntry, Posted, PassedOn, Renamed, Entered}
 
 -- The line by which a client learns that its nick is another one (RFC 2812, section 3.1.2).
@@ -19,14 +21,11 @@ renaming_line old new = codes ":" ++ old ++ codes " NICK " ++ new ++ line_ending
 
 -- ---- read markers (IRCv3 draft/read-marker)
 
-abbrev pub text_of : Option Answer → List ℕ
-text_of None = []
-text_of (Some answer) = answer.text
-
--- what a session that follows read markers would be answered if it asked for the target's
+-- what a session that follows read markers is told of the target's, where it has one
 abbrev pub marker_text : List Change → Facts → List ℕ → List ℕ
 marker_text held f target =
-    if f.caps.read_marker then text_of (answer_to held (Some f) (marker_question target)) else []
+    if f.caps.read_marker && has_buffer f target
+    then mark_text f.cluster target (mark held (buffer_of f.account f.network target)) else []
 
 -- ---- one entry
 

@@ -136,10 +136,22 @@ abbrev pub IsMarkPut : NodeFacts → NetworkState → List Effect → Type 0
 IsMarkPut facts w (Put change ∷ more) = facts.put w.place (w.puts ++ change ∷ [])
 IsMarkPut facts w _ = Unit {0}
 
--- and published
-abbrev pub IsMarkHeld : NodeFacts → NetworkState → List Effect → Type 0
-IsMarkHeld facts w (Put change ∷ more) = facts.held (w.held ++ change ∷ [])
-IsMarkHeld facts w _ = Unit {0}
+-- the node held these, where they are more than it was known to hold
+abbrev pub AreHeldBehind : NodeFacts → List Change → List Change → Type 0
+AreHeldBehind facts held [] = Unit {0}
+AreHeldBehind facts held later = facts.held (held ++ later)
+
+-- and published, and these behind it
+abbrev pub IsMarkHeld : NodeFacts → NetworkState → List Change → List Effect → Type 0
+IsMarkHeld facts w later (Put change ∷ more) =
+    facts.held (w.held ++ change ∷ []) × AreHeldBehind facts (w.held ++ change ∷ []) later
+IsMarkHeld facts w later _ = Unit {0}
+
+-- These changes are put for the network at that place behind all that was put before, and published behind what the node was last
+-- seen to hold. Where there are none, nothing is to be put.
+abbrev pub ArePut : NodeFacts → ℕ → List Change → List Change → List Change → Type 0
+ArePut facts place puts held [] = Unit {0}
+ArePut facts place puts held changes = facts.put place (puts ++ changes) × facts.held (held ++ changes)
 
 -- A connection joins once, so none is there twice; that of a server was dialed for this network, and comes where none is. Bytes
 -- come only where they came. A client comes only where it was let in at this network. Lines are heard and said at moments of the
@@ -153,10 +165,10 @@ IsTrueEvent facts w (ServerSays now) = facts.clock now
 IsTrueEvent facts w ServerSkips = IsSkipped w.server
 IsTrueEvent facts w ServerGoes = Unit {0}
 IsTrueEvent facts w (Others changes) = facts.held (w.held ++ changes)
-IsTrueEvent facts w (Puts fits) =
+IsTrueEvent facts w (Puts later fits) =
     (length fits ≡ length w.guests)
-    × facts.put w.place (w.puts ++ changes_of w.batch)
-    × facts.held (w.held ++ changes_of w.batch)
+    × ArePut facts w.place w.puts w.held (changes_of w.batch)
+    × AreHeldBehind facts (w.held ++ changes_of w.batch) later
 IsTrueEvent facts w (PutsFirst count fits) =
     (length fits ≡ length w.guests)
     × facts.put w.place (w.puts ++ take count (changes_of w.batch))
@@ -169,9 +181,9 @@ IsTrueEvent facts w (Has place event) =
     (slice_get w.guests place)
 IsTrueEvent facts w (Speaks place now) =
     IsTrueOfOption IsThere (slice_get w.guests place) × facts.clock now
-IsTrueEvent facts w (Marks place fits) =
+IsTrueEvent facts w (Marks place later fits) =
     (length fits ≡ length w.guests)
-    × IsTrueOfOption (λ g. IsThere g × IsMarkPut facts w g.todo × IsMarkHeld facts w g.todo) (slice_get w.guests place)
+    × IsTrueOfOption (λ g. IsThere g × IsMarkPut facts w g.todo × IsMarkHeld facts w later g.todo) (slice_get w.guests place)
 IsTrueEvent facts w (MarkWaits place) =
     IsTrueOfOption (λ g. IsThere g × IsMarkPut facts w g.todo) (slice_get w.guests place)
 IsTrueEvent facts w (Informs target fits) =
