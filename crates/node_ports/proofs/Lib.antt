@@ -1,1 +1,3 @@
 mod PlaceLemmas
+mod UnreadLemmas
+pub mod CallerLemmas

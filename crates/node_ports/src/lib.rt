@@ -7,12 +7,16 @@
 
 mod accounts;
 mod connection;
+mod feeders;
+mod input;
 mod node;
 mod pending;
 mod straight;
 
 pub use accounts::Accounts;
 pub use connection::{Connection, Fresh, Halt};
+pub use feeders::Feeders;
+pub use input::{Filled, Input};
 pub use network_log::Origin;
 pub use node::{NetworkView, NodePass, NotPublished};
 pub use pending::{Pending, ReceiveFault};
