@@ -94,7 +94,7 @@ class Bouncer:
         environment = {**os.environ, **unit, **dict(environment)}
         if kind == "bnc":
             path = os.path.join(self.home, "one.toml")
-            text = configuration("n1", "al", self.port, PEER_PORT, f"127.0.0.1:{self.server_port}", workers)
+            text = self.configured(workers)
             command = [program, "serve", path]
         else:
             path = os.path.join(self.home, "configs", "znc.conf")
@@ -111,6 +111,10 @@ class Bouncer:
                 for name in [folder] + [os.path.join(folder, file) for file in files]:
                     os.chown(name, 65534, 65534)
         self.process = subprocess.Popen([*before, *command], stdout=self.log, stderr=self.log, env=environment, **nobody)
+
+    def configured(self, workers):
+        """The configuration of a node."""
+        return configuration("n1", "al", self.port, PEER_PORT, f"127.0.0.1:{self.server_port}", workers)
 
     def seconds(self):
         """Processor seconds of its threads so far."""
