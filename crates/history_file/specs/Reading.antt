@@ -27,6 +27,12 @@ pub record HasReadPast (file : List ℕ) (past : Past) (end : ℕ) : Type 0 wher
   pub spelled : AreTexts payloads past
   pub torn : IsTornEnd (drop end file)
 
+-- A file has blocks that are so long together, and what stands behind them is no end of an append that was cut short.
+pub record HasDamage (file : List ℕ) (end : ℕ) : Type 0 where
+  pub payloads : List (List ℕ)
+  pub read : HasRead file payloads end
+  pub behind : IsTornEnd (drop end file) → ⊥
+
 -- a payload that is the text of no entry
 abbrev pub IsNoEntry : List ℕ → Type 0
 IsNoEntry payload = (e : Entry) → IsLawfulEntry e → payload ≡ entry_text e → ⊥

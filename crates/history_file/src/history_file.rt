@@ -55,6 +55,7 @@ impl<D: Device> HistoryFile<D> {
             → D.faults self.old.journal.device < D.faults self.new.journal.device }
         ensures full { IsErrOf result FileFault.Full → 2 ^ 60 ≤ self.old.journal.end }
         ensures changes { IsErrOf result FileFault.NoChanges → ⊥ }
+        ensures damaged { IsErrOf result FileFault.Damaged → ⊥ }
     {
         let text = text_of(alloc, changes)?;
         match self.journal.append(alloc, &text) {
@@ -74,7 +75,9 @@ impl<D: Device> HistoryFile<D> {
             (λ c. HasPast c past) }
         ensures failed { IsErrOf result FileFault.Failed
             → D.faults self.old.journal.device < D.faults self.new.journal.device }
+        ensures full { IsErrOf result FileFault.Full → ⊥ }
         ensures changes { IsErrOf result FileFault.NoChanges → ⊥ }
+        ensures damaged { IsErrOf result FileFault.Damaged → ⊥ }
     {
         match self.journal.begin_copy() {
             Ok(()) => Ok(()),
@@ -95,7 +98,9 @@ impl<D: Device> HistoryFile<D> {
             (λ c. HasPast c past) }
         ensures failed { IsErrOf result FileFault.Failed
             → D.faults self.old.journal.device < D.faults self.new.journal.device }
+        ensures full { IsErrOf result FileFault.Full → 2 ^ 60 ≤ self.old.journal.copied }
         ensures changes { IsErrOf result FileFault.NoChanges → ⊥ }
+        ensures damaged { IsErrOf result FileFault.Damaged → ⊥ }
     {
         let text = text_of(alloc, changes)?;
         match self.journal.copy(alloc, &text) {
@@ -117,7 +122,9 @@ impl<D: Device> HistoryFile<D> {
             (IsEither before after) }
         ensures failed { IsErrOf result FileFault.Failed
             → D.faults self.old.journal.device < D.faults self.new.journal.device }
+        ensures full { IsErrOf result FileFault.Full → ⊥ }
         ensures changes { IsErrOf result FileFault.NoChanges → ⊥ }
+        ensures damaged { IsErrOf result FileFault.Damaged → ⊥ }
     {
         match self.journal.end_copy() {
             Ok(()) => Ok(()),
@@ -139,7 +146,9 @@ impl<D: Device> HistoryFile<D> {
             (IsEither past (with_life past number)) }
         ensures failed { IsErrOf result FileFault.Failed
             → D.faults self.old.journal.device < D.faults self.new.journal.device }
+        ensures full { IsErrOf result FileFault.Full → 2 ^ 60 ≤ self.old.journal.end }
         ensures changes { IsErrOf result FileFault.NoChanges → ⊥ }
+        ensures damaged { IsErrOf result FileFault.Damaged → ⊥ }
     {
         let line = life_text(alloc, node, number)?;
         match self.journal.append(alloc, &line) {
@@ -159,7 +168,11 @@ impl<D: Device> HistoryFile<D> {
         ensures any_moment { (past : Past) → IsKept D.seen D.may_leave self.old past
             → LeavesOnly D.moment D.left_since self.old.journal.device self.new.journal.device
             (λ c. HasPast c past) }
+        ensures failed { IsErrOf result FileFault.Failed
+            → D.faults self.old.journal.device < D.faults self.new.journal.device }
+        ensures full { IsErrOf result FileFault.Full → 2 ^ 60 ≤ self.old.journal.copied }
         ensures changes { IsErrOf result FileFault.NoChanges → ⊥ }
+        ensures damaged { IsErrOf result FileFault.Damaged → ⊥ }
     {
         let line = life_text(alloc, node, number)?;
         match self.journal.copy(alloc, &line) {
@@ -188,6 +201,7 @@ pub fn resume<D: Device>(device: D, end: usize) -> Result<HistoryFile<D>, (FileF
     ensures failed { IfErr result (λ e. e.0 ≡ FileFault.Failed → D.faults device < D.faults e.1) }
     ensures changes { IfErr result (λ e. e.0 ≡ FileFault.NoChanges → ⊥) }
     ensures full { IfErr result (λ e. e.0 ≡ FileFault.Full → ⊥) }
+    ensures damaged { IfErr result (λ e. e.0 ≡ FileFault.Damaged → ⊥) }
 {
     let mut device = device;
     match repair(&mut device, end) {

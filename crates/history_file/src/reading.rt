@@ -1,11 +1,10 @@
 //! Reading the changes and the lives of a file, block after block.
-ghost use Rattle.std.specs.Prelude.{◌≡◌, ◌<◌, ◌++◌, [], ◌∷◌, List, ℕ, max, drop, IfSome, IfOk, OnOk, IsNone, IsErrOf};
+ghost use Rattle.std.specs.Prelude.{◌≡◌, ◌<◌, ◌≤◌, ◌^◌, ◌++◌, [], ◌∷◌, List, ℕ, length, max, IfSome, IfOk, OnOk, IsNone, IsErrOf};
 ghost use Rattle.std.specs.Prelude.{Ok};
-ghost use Rattle.block_file.specs.Ending.{IsTornEnd};
 ghost use Rattle.block_file.specs.Found.{IsReading};
 ghost use Rattle.change_lines.specs.ChangeLine as spec;
 ghost use Rattle.chat_change.specs.declared.change.Change.{Change as Piece};
-ghost use Rattle.history_file.specs.Reading.{IsReadingPast, HasReadPast, IsNoEntry};
+ghost use Rattle.history_file.specs.Reading.{IsReadingPast, HasReadPast, HasDamage, IsNoEntry};
 ghost use Rattle.history_file.specs.Changes.{AreLines, Past, Entry, IsLawfulEntry, entry_text, changes_in, life_in, with_changes, with_life, nothing};
 
 use crate::FileFault;
@@ -13,11 +12,23 @@ use crate::cutting::first_line;
 use crate::history_file::fault_of;
 use crate::life::life_number;
 use block_file::{Reader, Source, is_torn_end};
-use change_lines::{ChangeLineFault, laws, read_change};
-use chat_change::Change;
+use change_lines::{ChangeLineFault, laws, read_change_in};
+use chat_change::{Buffer, Change, Extent};
 use std::alloc::Global;
 
-fn change_of(alloc: Global, line: &[u8]) -> Result<Change, FileFault>
+// The buffer of the last of these changes, or else the one that is known.
+fn latest_buffer<'a>(changes: &'a [Change], known: Option<&'a Buffer>) -> Option<&'a Buffer> {
+    let Some(change) = changes.last() else {
+        return known;
+    };
+    match change.key().extent() {
+        Extent::Account(_) => None,
+        Extent::Buffer(buffer) => Some(buffer),
+    }
+}
+
+// The change that a line spells. One of the known buffer shares its memory.
+fn change_of(alloc: Global, known: Option<&Buffer>, line: &[u8]) -> Result<Change, FileFault>
     ensures read { IfOk result (λ change. spec.read_change line.now ≡ Ok change) }
     ensures refused { IsErrOf result FileFault.NoChanges → (change : Piece)
         → spec.read_change line.now ≡ Ok change → ⊥ }
@@ -25,7 +36,7 @@ fn change_of(alloc: Global, line: &[u8]) -> Result<Change, FileFault>
     ensures full { IsErrOf result FileFault.Full → ⊥ }
     ensures damaged { IsErrOf result FileFault.Damaged → ⊥ }
 {
-    match read_change(alloc, line) {
+    match read_change_in(alloc, known, line) {
         Ok(change) => Ok(change),
         Err(ChangeLineFault::NoMemory) => Err(FileFault::Memory),
         Err(_) => Err(FileFault::NoChanges),
@@ -33,7 +44,12 @@ fn change_of(alloc: Global, line: &[u8]) -> Result<Change, FileFault>
 }
 
 // Reads the changes whose lines these bytes are, behind those that were read before.
-fn read_lines(alloc: Global, payload: &[u8], changes: &mut Vec<Change>) -> Result<(), FileFault>
+fn read_lines(
+    alloc: Global,
+    known: Option<&Buffer>,
+    payload: &[u8],
+    changes: &mut Vec<Change>,
+) -> Result<(), FileFault>
     ensures read { OnOk result ((more : List Piece) × AreLines payload.now more
         × (changes.new.items ≡ changes.old.items ++ more)) }
     ensures refused { IsErrOf result FileFault.NoChanges → (more : List Piece)
@@ -47,7 +63,7 @@ fn read_lines(alloc: Global, payload: &[u8], changes: &mut Vec<Change>) -> Resul
         let Some((line, after)) = first_line(rest) else {
             return Err(FileFault::NoChanges);
         };
-        let change = change_of(alloc, line)?;
+        let change = change_of(alloc, latest_buffer(changes, known), line)?;
         changes.push(change)?;
         rest = after;
     }
@@ -61,10 +77,17 @@ pub struct PastReader<S: Source> {
     pub blocks: Reader<S>,
     /// The greatest number of a life so far.
     pub life: u64,
+    /// The buffer of the change that was read last. The next one is mostly of the same, and shares its memory.
+    pub latest: Option<Buffer>,
 }
 
 // Reads an entry. The answer is the number of its life, or 0.
-fn read_entry(alloc: Global, payload: &[u8], changes: &mut Vec<Change>) -> Result<u64, FileFault>
+fn read_entry(
+    alloc: Global,
+    known: Option<&Buffer>,
+    payload: &[u8],
+    changes: &mut Vec<Change>,
+) -> Result<u64, FileFault>
     ensures read { IfOk result (λ n. (e : Entry) × IsLawfulEntry e × (payload.now ≡ entry_text e)
         × (changes.new.items ≡ changes.old.items ++ changes_in e) × (n ≡ life_in e)) }
     ensures refused { IsErrOf result FileFault.NoChanges → IsNoEntry payload.now }
@@ -75,7 +98,7 @@ fn read_entry(alloc: Global, payload: &[u8], changes: &mut Vec<Change>) -> Resul
     if let Some(n) = life_number(payload) {
         return Ok(n);
     }
-    read_lines(alloc, payload, changes)?;
+    read_lines(alloc, known, payload, changes)?;
     Ok(0)
 }
 
@@ -94,6 +117,20 @@ impl<S: Source> PastReader<S> {
         PastReader {
             blocks: Reader::new(alloc, source),
             life: 0,
+            latest: None,
+        }
+    }
+
+    // Keeps the buffer of the last of these changes, unless it has too many owners.
+    fn keep_buffer(&mut self, changes: &[Change])
+        ensures blocks { self.new.blocks ≡ self.old.blocks }
+        ensures life { self.new.life ≡ self.old.life }
+    {
+        let Some(buffer) = latest_buffer(changes, None) else {
+            return;
+        };
+        if let Ok(buffer) = buffer.try_clone() {
+            self.latest = Some(buffer);
         }
     }
 
@@ -113,11 +150,16 @@ impl<S: Source> PastReader<S> {
             × IsNoEntry payload
             × ((payloads : List (List ℕ)) → IsReading S.got self.old.blocks payloads
             → IsReading S.got self.new.blocks (payloads ++ payload ∷ [])) }
-        // What stands behind the last whole block is no end of an append.
+        // All has been read, and what stands behind the last whole block is no end of an append.
         ensures damaged { IsErrOf result FileFault.Damaged
-            → IsTornEnd (drop self.new.blocks.from self.new.blocks.ahead.items) → ⊥ }
+            → HasDamage (S.got self.new.blocks.source) self.new.blocks.end }
         ensures failed { IsErrOf result FileFault.Failed
             → S.faults self.old.blocks.source < S.faults self.new.blocks.source }
+        // The file is longer than one may be. The reader stays where it was.
+        ensures full { IsErrOf result FileFault.Full
+            → 2 ^ 60 ≤ length (S.got self.new.blocks.source) }
+        ensures full_still { IsErrOf result FileFault.Full → (past : Past)
+            → IsReadingPast S.got self.old past → IsReadingPast S.got self.new past }
     {
         let payload = match self.blocks.next(alloc) {
             Ok(Some(payload)) => payload,
@@ -131,7 +173,8 @@ impl<S: Source> PastReader<S> {
             Err(error) => return Err(fault_of(error)),
         };
         let mut changes = Vec::new(alloc);
-        let life = read_entry(alloc, &payload, &mut changes)?;
+        let life = read_entry(alloc, self.latest.as_ref(), &payload, &mut changes)?;
+        self.keep_buffer(&changes);
         self.life = greater(self.life, life);
         Ok(Some(changes))
     }
