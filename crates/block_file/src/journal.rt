@@ -65,6 +65,7 @@ impl<D: Device> Journal<D> {
         // It doesn't give up by itself.
         ensures failed { IsErrOf result DeviceError.Failed
             → D.faults self.old.device < D.faults self.new.device }
+        ensures later { D.faults self.old.device ≤ D.faults self.new.device }
         ensures full { IsErrOf result DeviceError.Full → 2 ^ 60 ≤ self.old.end }
     {
         if self.end >= LONGEST_FILE {
@@ -93,6 +94,7 @@ impl<D: Device> Journal<D> {
             payloads) }
         ensures failed { IsErrOf result DeviceError.Failed
             → D.faults self.old.device < D.faults self.new.device }
+        ensures later { D.faults self.old.device ≤ D.faults self.new.device }
         ensures full { IsErrOf result DeviceError.Full → ⊥ }
     {
         self.copied = 0;
@@ -115,6 +117,7 @@ impl<D: Device> Journal<D> {
             payloads) }
         ensures failed { IsErrOf result DeviceError.Failed
             → D.faults self.old.device < D.faults self.new.device }
+        ensures later { D.faults self.old.device ≤ D.faults self.new.device }
         ensures full { IsErrOf result DeviceError.Full → 2 ^ 60 ≤ self.old.copied }
     {
         if self.copied >= LONGEST_FILE {
@@ -141,6 +144,7 @@ impl<D: Device> Journal<D> {
             after) }
         ensures failed { IsErrOf result DeviceError.Failed
             → D.faults self.old.device < D.faults self.new.device }
+        ensures later { D.faults self.old.device ≤ D.faults self.new.device }
         ensures full { IsErrOf result DeviceError.Full → ⊥ }
     {
         self.device.add_to_side(b"-")?;

@@ -72,6 +72,7 @@ impl<S: Source> Reader<S> {
             → IsReading S.got self.old payloads → IsReading S.got self.new payloads) }
         ensures failed { IsErrOf result DeviceError.Failed
             → S.faults self.old.source < S.faults self.new.source }
+        ensures later { S.faults self.old.source ≤ S.faults self.new.source }
         // The file is longer than one may be, and no block is handed on behind that length. The reader stays where it was.
         ensures full { IsErrOf result DeviceError.Full → 2 ^ 60 ≤ length (S.got self.new.source) }
         ensures full_still { IsErrOf result DeviceError.Full → (payloads : List (List ℕ))
