@@ -53,6 +53,7 @@ impl<D: Device> HistoryFile<D> {
         // It doesn't give up by itself.
         ensures failed { IsErrOf result FileFault.Failed
             → D.faults self.old.journal.device < D.faults self.new.journal.device }
+        ensures later { D.faults self.old.journal.device ≤ D.faults self.new.journal.device }
         ensures full { IsErrOf result FileFault.Full → 2 ^ 60 ≤ self.old.journal.end }
         ensures changes { IsErrOf result FileFault.NoChanges → ⊥ }
         ensures damaged { IsErrOf result FileFault.Damaged → ⊥ }
@@ -75,6 +76,7 @@ impl<D: Device> HistoryFile<D> {
             (λ c. HasPast c past) }
         ensures failed { IsErrOf result FileFault.Failed
             → D.faults self.old.journal.device < D.faults self.new.journal.device }
+        ensures later { D.faults self.old.journal.device ≤ D.faults self.new.journal.device }
         ensures full { IsErrOf result FileFault.Full → ⊥ }
         ensures changes { IsErrOf result FileFault.NoChanges → ⊥ }
         ensures damaged { IsErrOf result FileFault.Damaged → ⊥ }
@@ -98,6 +100,7 @@ impl<D: Device> HistoryFile<D> {
             (λ c. HasPast c past) }
         ensures failed { IsErrOf result FileFault.Failed
             → D.faults self.old.journal.device < D.faults self.new.journal.device }
+        ensures later { D.faults self.old.journal.device ≤ D.faults self.new.journal.device }
         ensures full { IsErrOf result FileFault.Full → 2 ^ 60 ≤ self.old.journal.copied }
         ensures changes { IsErrOf result FileFault.NoChanges → ⊥ }
         ensures damaged { IsErrOf result FileFault.Damaged → ⊥ }
@@ -122,6 +125,7 @@ impl<D: Device> HistoryFile<D> {
             (IsEither before after) }
         ensures failed { IsErrOf result FileFault.Failed
             → D.faults self.old.journal.device < D.faults self.new.journal.device }
+        ensures later { D.faults self.old.journal.device ≤ D.faults self.new.journal.device }
         ensures full { IsErrOf result FileFault.Full → ⊥ }
         ensures changes { IsErrOf result FileFault.NoChanges → ⊥ }
         ensures damaged { IsErrOf result FileFault.Damaged → ⊥ }
@@ -146,6 +150,7 @@ impl<D: Device> HistoryFile<D> {
             (IsEither past (with_life past number)) }
         ensures failed { IsErrOf result FileFault.Failed
             → D.faults self.old.journal.device < D.faults self.new.journal.device }
+        ensures later { D.faults self.old.journal.device ≤ D.faults self.new.journal.device }
         ensures full { IsErrOf result FileFault.Full → 2 ^ 60 ≤ self.old.journal.end }
         ensures changes { IsErrOf result FileFault.NoChanges → ⊥ }
         ensures damaged { IsErrOf result FileFault.Damaged → ⊥ }
@@ -170,6 +175,7 @@ impl<D: Device> HistoryFile<D> {
             (λ c. HasPast c past) }
         ensures failed { IsErrOf result FileFault.Failed
             → D.faults self.old.journal.device < D.faults self.new.journal.device }
+        ensures later { D.faults self.old.journal.device ≤ D.faults self.new.journal.device }
         ensures full { IsErrOf result FileFault.Full → 2 ^ 60 ≤ self.old.journal.copied }
         ensures changes { IsErrOf result FileFault.NoChanges → ⊥ }
         ensures damaged { IsErrOf result FileFault.Damaged → ⊥ }

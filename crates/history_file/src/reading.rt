@@ -145,6 +145,8 @@ impl<S: Source> PastReader<S> {
             → IsReadingPast S.got self.old past
             → HasReadPast (S.got self.new.blocks.source) past self.new.blocks.end
             × (self.new.life ≡ past.life)) }
+        ensures still { IfOk result (λ next. IsNone next → (past : Past)
+            → IsReadingPast S.got self.old past → IsReadingPast S.got self.new past) }
         // A whole block has other bytes than changes or a life.
         ensures refused { IsErrOf result FileFault.NoChanges → (payload : List ℕ)
             × IsNoEntry payload
@@ -155,6 +157,7 @@ impl<S: Source> PastReader<S> {
             → HasDamage (S.got self.new.blocks.source) self.new.blocks.end }
         ensures failed { IsErrOf result FileFault.Failed
             → S.faults self.old.blocks.source < S.faults self.new.blocks.source }
+        ensures later { S.faults self.old.blocks.source ≤ S.faults self.new.blocks.source }
         // The file is longer than one may be. The reader stays where it was.
         ensures full { IsErrOf result FileFault.Full
             → 2 ^ 60 ≤ length (S.got self.new.blocks.source) }
