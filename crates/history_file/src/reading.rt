@@ -154,7 +154,7 @@ impl<S: Source> PastReader<S> {
             → IsReading S.got self.new.blocks (payloads ++ payload ∷ [])) }
         // All has been read, and what stands behind the last whole block is no end of an append.
         ensures damaged { IsErrOf result FileFault.Damaged
-            → HasDamage (S.got self.new.blocks.source) self.new.blocks.end }
+            → HasDamage (S.got self.new.blocks.source) self.old.blocks.end }
         ensures failed { IsErrOf result FileFault.Failed
             → S.faults self.old.blocks.source < S.faults self.new.blocks.source }
         ensures later { S.faults self.old.blocks.source ≤ S.faults self.new.blocks.source }
