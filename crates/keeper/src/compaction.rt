@@ -1,5 +1,5 @@
 //! Writing the pieces of a state into a new file.
-ghost use Rattle.std.specs.Prelude.{◌≡◌, ℕ, List, true, OnOk, IsErrOf};
+ghost use Rattle.std.specs.Prelude.{◌≡◌, ◌<◌, ◌≤◌, ℕ, List, true, OnOk, IsErrOf};
 ghost use Rattle.block_file.specs.Device.{LeavesOnly};
 ghost use Rattle.chat_change.specs.declared.change.Change.{Change as Piece};
 ghost use Rattle.chat_change.specs.Words.{is_name};
@@ -32,7 +32,11 @@ pub(crate) fn copy_pieces<D: Device>(
     ensures any_moment { (past : Past) → IsKept D.seen D.may_leave file.old past
         → LeavesOnly D.moment D.left_since file.old.journal.device file.new.journal.device (λ c.
         HasPast c past) }
+    ensures failed { IsErrOf result FileFault.Failed
+        → D.faults file.old.journal.device < D.faults file.new.journal.device }
+    ensures later { D.faults file.old.journal.device ≤ D.faults file.new.journal.device }
     ensures changes { IsErrOf result FileFault.NoChanges → ⊥ }
+    ensures damaged { IsErrOf result FileFault.Damaged → ⊥ }
 {
     file.begin_copy()?;
     file.copy_life(alloc, node, life)?;

@@ -1,10 +1,10 @@
 //! A file of changes and a state.
-ghost use Rattle.std.specs.Prelude.{◌≡◌, ◌<◌, ◌≤◌, ◌++◌, ℕ, List, [], true, take, IfOk, IfErr, OnOk, OnErr};
+ghost use Rattle.std.specs.Prelude.{◌≡◌, ◌⊎◌, ◌<◌, ◌≤◌, ◌^◌, ◌++◌, ℕ, List, [], true, take, IfOk, IfErr, OnOk, OnErr, IsErrOf};
 ghost use Rattle.block_file.specs.Device.{Only, LeavesOnly};
 ghost use Rattle.chat_change.specs.declared.change.Change.{Change as Piece};
-ghost use Rattle.chat_history.specs.Growth.{AfterOthers};
 ghost use Rattle.chat_history.specs.Numbering.{delta};
 ghost use Rattle.history_file.specs.Changes.{IsKept};
+ghost use Rattle.history_file.specs.Lives.{most};
 ghost use Rattle.keeper.specs.Found.{IsFound};
 ghost use Rattle.keeper.specs.Keeper.{Says, Covers, IsCovering, HasTaken, ArePieces, only};
 ghost use Rattle.chat_change.specs.Words.{is_name};
@@ -95,6 +95,7 @@ impl<D: Device> Keeper<D> {
         ensures clock { IfOk result (λ n. clock ≤ n) }
         ensures life { IfOk result (λ n. self.new.life ≡ n) }
         ensures same { OnErr result (self.new.life ≡ self.old.life) }
+        ensures open { OnOk result (self.new.is_open ≡ true) }
 
         // Nothing that was taken is lost, and what a crash leaves from now on knows this life.
         ensures taken { (start : ℕ) (list : List Piece)
@@ -104,6 +105,14 @@ impl<D: Device> Keeper<D> {
             → IsCovering D.seen D.may_leave self.old.file said n
             → LeavesOnly D.moment D.left_since self.old.file.journal.device
             self.new.file.journal.device (Covers said n) }
+
+        // It doesn't give up by itself.
+        ensures failed { IsErrOf result FileFault.Failed
+            → D.faults self.old.file.journal.device < D.faults self.new.file.journal.device }
+        ensures full { IsErrOf result FileFault.Full
+            → (self.old.life ≡ most) ⊎ (2 ^ 60 ≤ self.old.file.journal.end) }
+        ensures changes { IsErrOf result FileFault.NoChanges → ⊥ }
+        ensures damaged { IsErrOf result FileFault.Damaged → ⊥ }
     {
         if self.life == u64::MAX {
             return Err(FileFault::Full);
@@ -142,6 +151,13 @@ impl<D: Device> Keeper<D> {
             self.old.life)
             × ArePieces list pieces) }
         ensures life { self.new.life ≡ self.old.life }
+        ensures open { OnOk result (self.new.is_open ≡ true) }
+
+        // It doesn't give up by itself.
+        ensures failed { IsErrOf result FileFault.Failed
+            → D.faults self.old.file.journal.device < D.faults self.new.file.journal.device }
+        ensures changes { IsErrOf result FileFault.NoChanges → ⊥ }
+        ensures damaged { IsErrOf result FileFault.Damaged → ⊥ }
     {
         let count = copy_pieces(alloc, &mut self.file, &self.state, node, self.life)?;
         match self.file.end_copy() {
@@ -217,6 +233,7 @@ impl<D: Device> Source for Keeper<D> {
         ensures given { IfOk result (λ d. (start : ℕ) (list : List Piece)
             → HasTaken D.seen D.may_leave self.old start list
             → d ≡ delta start list from) }
+        ensures memory { IfErr result (λ fault. fault ≡ DeltaFault.NoMemory) }
         ensures same { self.new ≡ self.old }
     {
         match delta_since(alloc, &self.state, from) {
@@ -248,6 +265,12 @@ pub fn open<D: Device>(device: D, found: Found) -> Result<Keeper<D>, (FileFault,
     ensures any_moment_err { IfErr result (λ e. (said : List Piece) (n : ℕ)
         → Covers said n (D.seen device)
         → LeavesOnly D.moment D.left_since device e.1 (Covers said n)) }
+
+    // It doesn't give up by itself.
+    ensures failed { IfErr result (λ e. e.0 ≡ FileFault.Failed → D.faults device < D.faults e.1) }
+    ensures full { IfErr result (λ e. e.0 ≡ FileFault.Full → ⊥) }
+    ensures changes { IfErr result (λ e. e.0 ≡ FileFault.NoChanges → ⊥) }
+    ensures damaged { IfErr result (λ e. e.0 ≡ FileFault.Damaged → ⊥) }
 {
     match resume(device, found.end) {
         Ok(file) => Ok(Keeper {

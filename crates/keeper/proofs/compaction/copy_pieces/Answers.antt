@@ -1,8 +1,7 @@
-use Rattle.std.proofs.Common.{◌≡◌, ℕ, max, ◌++◌, ◌∙◌, ◌≤◌, arith, List, [], length, sym, ap, subst}
-use Rattle.chat_change.specs.declared.change.Change.{Change}
+use Rattle.std.proofs.Common.{◌≡◌, ℕ, max, ◌++◌, ◌∙◌, arith, [], sym, subst}
 use Rattle.history_file.specs.Changes.{HasPast, IsCopied, nothing}
 use Rattle.keeper.specs.Keeper.{only}
-use Rattle.keeper.proofs.PiecesLemmas.{PiecesTo, pieces_begin, pieces_go_on, pieces_end, few_changes, no_changes}
+use Rattle.keeper.proofs.PiecesLemmas.{PiecesTo, pieces_begin, pieces_go_on, pieces_end, no_changes}
 use Rattle.keeper.proofs.TakenLemmas.{leaves_on}
 use Rattle.keeper.proofs.compaction.copy_pieces.Goals as goal
 
@@ -21,6 +20,7 @@ loop-init g c = (
   λ past k.
       leaves_on g.D.Device.moment g.D.Device.left_since c.args.file.now.journal.device c.begin_copy.new.self.journal.device c.copy_life.new.self.journal.device (λ f. HasPast f past)
       (c.begin_copy.ensures.any_moment past k) (c.copy_life.ensures.any_moment past (c.begin_copy.ensures.kept past k)),
+  omega (arith, c.begin_copy.ensures.later, c.copy_life.ensures.later),
 )
 
 pub returns-then-is_empty-clause-copied : goal.returns-then-is_empty-clause-copied
@@ -49,4 +49,5 @@ loop-preserved g c =
       λ past k. c.copy.ensures.kept past (c.loop.invariant.1 past k),
       λ past k. leaves_on g.D.Device.moment g.D.Device.left_since c.args.file.now.journal.device c.loop.file.journal.device c.copy.new.self.journal.device (λ f. HasPast f past)
           (c.loop.invariant.2 past k) (c.copy.ensures.any_moment past (c.loop.invariant.1 past k)),
+      omega (arith, c.loop.invariant.3, c.copy.ensures.later),
     )

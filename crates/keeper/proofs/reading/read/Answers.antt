@@ -1,16 +1,35 @@
-use Rattle.std.proofs.Common.{ℕ, List, ◌++◌, ◌∙◌, ap, subst, rules}
-use Rattle.std.specs.Prelude.{IfSome}
+use Rattle.std.proofs.Common.{◌≡◌, ℕ, List, ◌++◌, ◌∙◌, length, drop, sym, ap, subst, arith, rules}
+use Rattle.std.specs.Prelude.{IfSome, Err}
 use Rattle.chat_change.specs.declared.change.Change.{Change}
 use Rattle.chat_history.specs.StateValue.{state_after}
 use Rattle.history_file.specs.Changes.{Past, with_changes, with_life}
-use Rattle.history_file.specs.Reading.{IsReadingPast}
+use Rattle.history_file.specs.Reading.{IsReadingPast, HasDamage}
+use Rattle.keeper.specs.Found.{HasNoEntryAt}
+use Rattle.keeper.proofs.FoundLemmas.{left_behind, from_source, no_entry_at}
 use Rattle.keeper.proofs.reading.read.Goals as goal
 
 pub returns-in-None-clause-found : goal.returns-in-None-clause-found
 returns-in-None-clause-found g c =
     let now = c.loop.invariant in
+    let new = c.next.new.self.blocks in
     let done = c.in-Ok.ensures.last (search rules) now.past now.reading in
-    record { past = now.past; read = done.0; state = now.state; life = done.1 }
+    let still = c.in-Ok.ensures.still (search rules) now.past now.reading in
+    let left : c.saturating_sub-left.result ≡ length (drop new.end (g.S.Source.got new.source)) =
+    omega (arith, left_behind g.S.Source.got new still.payloads still.reading, c.len.ensures, c.saturating_sub-left.ensures) in
+    from_source g.S.Source.got c.source_of-in-None.result new.source c.source_of-in-None.ensures
+    (record { past = now.past; read = done.0; state = now.state; life = done.1; left = left })
+
+pub returns-in-Err-clause-refused : goal.returns-in-Err-clause-refused
+returns-in-Err-clause-refused g c = λ is.
+    let now = c.loop.invariant.reading in
+    let end = c.loop.reader.blocks.end in
+    let found = c.in-Err.ensures.refused (ap Err is) in
+    subst (λ source. HasNoEntryAt (g.S.Source.got source) end) (sym c.source_of.ensures)
+    (no_entry_at g.S.Source.got c.next.new.self.blocks now.payloads found.0 end (found.2 now.payloads now.reading) now.reading.end found.1)
+
+pub returns-in-Err-clause-damaged : goal.returns-in-Err-clause-damaged
+returns-in-Err-clause-damaged g c = λ is.
+    subst (λ source. HasDamage (g.S.Source.got source) c.loop.reader.blocks.end) (sym c.source_of.ensures) (c.in-Err.ensures.damaged (ap Err is))
 
 pub loop-preserved : goal.loop-preserved
 loop-preserved g c =
