@@ -29,6 +29,7 @@ def calls(program, test_state, keeper):
         (("tags.py", program), False),
         (("ids.py", program, "9"), True),
         (("floors.py", program, "5"), True),
+        (("longest_put.py", program, "3"), True),
         (("joining.py", program), True),
         (("keeping.py", program, keeper), True),
         (("keeping.py", "--full", program, keeper), False),
