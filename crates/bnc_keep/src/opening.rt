@@ -135,7 +135,7 @@ pub(crate) fn open_file(
     let source = real_file::open(rt, path, &first)?;
     let (source, found) = match read(alloc, source, 0) {
         Ok(found) => found,
-        Err(unread) => return Err(fault_of_reading(rt, path, unread)),
+        Err((unread, _source)) => return Err(fault_of_reading(rt, path, unread)),
     };
     let count = found.count;
     // (a file at rest has the closed gate alone there)

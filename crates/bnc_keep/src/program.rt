@@ -1,5 +1,5 @@
 //! What the program does by its words, and how it ends.
-ghost use Rattle.std.specs.Prelude.{◌≡◌, map, string_bytes};
+ghost use Rattle.std.specs.Prelude.{map, string_bytes};
 ghost use Rattle.std.specs.Fn.{FnOnceReturnsAt};
 ghost use Rattle.bnc_keep.specs.Words.{spelled_path};
 ghost use Rattle.bnc_keep.specs.Program.{IsConfigOf, IsEndOfKeeping, Keeps, EndsAs};
