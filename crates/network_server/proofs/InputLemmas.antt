@@ -1,38 +1,12 @@
 -- What of a stream is unread, and its next line.
-use Rattle.std.proofs.Common.{◌≡◌, ◌<◌, ◌≤◌, ◌+◌, ℕ, zero, suc, Bool, true, false, List, [], ◌∷◌, ◌++◌, Option, None, Some, length, take, drop, position, refl, sym, ap, ◌∙◌, subst, append_assoc, append-nil, arith}
-use Rattle.std.specs.Prelude.{slice_get, if◌then◌else◌}
-use Rattle.std.specs.Io.BufRead.{strip_last}
-use Rattle.std.proofs.lemmas.Bool.{cond-true, cond-false, lt-ltb, le-ltb}
-use Rattle.std.proofs.lemmas.List.{drop-drop, length-take}
-use Rattle.irc_line.specs.Stream.{Item, line, too_long, is_lf, Held, holding, skipping, bytes_of, held_past, held_with, held_without, first_item, next_item, items, items_from}
+use Rattle.std.proofs.Common.{◌≡◌, ◌+◌, ℕ, zero, suc, List, [], ◌∷◌, ◌++◌, Option, Some, drop, refl, sym, ap, ◌∙◌, subst, append_assoc, append-nil}
+use Rattle.std.specs.Prelude.{slice_get}
+use Rattle.std.proofs.lemmas.List.{drop-drop}
+use Rattle.irc_line.specs.Stream.{Item, line, too_long, Held, holding, skipping, bytes_of, held_past, held_with, held_without, first_item, next_item, items, items_from}
 use Rattle.irc_line.specs.Calls.{with_first}
-use Rattle.irc_line.proofs.CallerLemmas.{items_line, items_rest, taken-append, step}
+use Rattle.irc_line.proofs.CallerLemmas.{taken-append, step}
 use Rattle.network_log.specs.Guest.{next_item as next_of}
 use Rattle.network_server.specs.Unread.{IsUnread}
-
--- ---- the bytes that are held, and the next item of them
-
-pub bytes-held : (flag : Bool) (bytes : List ℕ) (held : Held) → (if flag then skipping else holding bytes) ≡ held → (flag ≡ true → bytes ≡ []) → bytes_of held ≡ bytes
-bytes-held false bytes held view none = ap bytes_of (sym view)
-bytes-held true bytes held view none = ap bytes_of (sym view) ∙ sym (none refl)
-
-pub line-next : (bytes : List ℕ) (at : ℕ) → position is_lf bytes ≡ Some at → at < 8703 → Some (line (strip_last 13 (take at bytes))) ≡ first_item (items bytes)
-line-next bytes at e h =
-    let size = length-take at bytes in
-    sym (ap first_item (items_line bytes at e) ∙ ap Some (cond-true _ _ _ (lt-ltb (length (take at bytes)) 8703 (omega (arith, size, h)))))
-
-pub long-next : (bytes : List ℕ) (at : ℕ) → position is_lf bytes ≡ Some at → 8703 ≤ at → at < length bytes → Some too_long ≡ first_item (items bytes)
-long-next bytes at e h within =
-    let size = length-take at bytes in
-    sym (ap first_item (items_line bytes at e) ∙ ap Some (cond-false _ _ _ (le-ltb (length (take at bytes)) 8703 (omega (arith, size, h, within)))))
-
-pub rest-next : (bytes : List ℕ) → position is_lf bytes ≡ None → 8703 ≤ length bytes → Some too_long ≡ first_item (items bytes)
-rest-next bytes e h = sym (ap first_item (items_rest bytes e ∙ cond-false _ _ _ (le-ltb (length bytes) 8703 h)))
-
-pub none-next : (bytes : List ℕ) → position is_lf bytes ≡ None → length bytes < 8703 → None ≡ first_item (items bytes)
-none-next bytes e h = sym (ap first_item (items_rest bytes e ∙ cond-true _ _ _ (lt-ltb (length bytes) 8703 h)))
-
--- ---- what is unread
 
 pub more-unread : (received : List ℕ) (heard : ℕ) (held : Held) (bytes : List ℕ) → IsUnread received heard held → IsUnread (received ++ bytes) heard (held_with held bytes)
 more-unread received heard held bytes is rest =

@@ -9,7 +9,6 @@
 
 mod batch;
 mod dialogue;
-mod input;
 mod opening;
 mod retry;
 mod server;

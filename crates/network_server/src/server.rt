@@ -17,12 +17,11 @@ ghost use Rattle.network_server.specs.declared.server.SayFault.TheVariants as sa
 
 use crate::batch::Batch;
 use crate::dialogue::{Dialogue, StepFault};
-use crate::input::Input;
 use crate::opening::{Site, begin, bound_for};
 use byte_text::NoMemory;
 use chat_change::Moment;
 use irc_line::Next;
-use node_ports::{Connection, Fresh, Halt, ReceiveFault};
+use node_ports::{Connection, Fresh, Halt, LineBuffer, ReceiveFault};
 use std::alloc::Global;
 use std::marker::Model;
 use upstream_session::{Upstream, is_passed_on};
@@ -90,7 +89,7 @@ pub struct Server<C: Connection> {
     network: usize,
     connection: C,
     dialogue: Dialogue,
-    input: Input,
+    input: LineBuffer,
     // how many of the server's lines were heard or left out
     heard: u64,
     // so many bytes may be owed before the next line is taken
@@ -168,7 +167,7 @@ impl<C: Connection> Server<C> {
             network: site.place,
             connection,
             dialogue,
-            input: Input::new(alloc),
+            input: LineBuffer::new(alloc),
             heard: 0,
             bound: bound_for(site.config.channels.names()),
             heard_at: now,

@@ -1,3 +1,4 @@
+mod LineBufferLemmas
 mod PlaceLemmas
 mod UnreadLemmas
 pub mod CallerLemmas

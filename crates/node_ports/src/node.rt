@@ -1,9 +1,11 @@
 //! What the node holds, which its workers share with each other and with their peers.
+ghost use mathlib.Core.List.{IsPrefix};
 ghost use Rattle.std.specs.Prelude.{◌≡◌, ◌↔◌, ◌≤◌, ◌+◌, ◌++◌, ℕ, Err, List, [], IsTrue, IfOk, IfErr, OnOk, OnErr, take};
 ghost use Rattle.byte_text.specs.Writes.{Writes};
 ghost use Rattle.chat_change.specs.declared.change.Change.{Change as Piece};
 ghost use Rattle.chat_history.specs.History.{mark, norm};
 ghost use Rattle.chat_history.specs.Lookups.{IsShown};
+ghost use Rattle.chat_history.specs.Numbering as numbering;
 ghost use Rattle.chat_history.specs.Retention.{due_floors};
 ghost use Rattle.chat_past.specs.Answers.{answer_of};
 ghost use Rattle.network_log.specs.Peer.{IsInNode};
@@ -12,7 +14,7 @@ ghost use Rattle.network_log.specs.Putting.{AreBrought, AreDueFloors, ArePublish
 use crate::connection::Connection;
 use byte_text::NoMemory;
 use chat_change::{Buffer, Change, Moment, MsgId};
-use chat_history::{DeltaFault, NoEntry};
+use chat_history::{Delta, DeltaFault, NoEntry};
 use chat_past::AskFault;
 use chat_query::{Answered, Facts};
 use irc_line::Line;
@@ -137,6 +139,13 @@ pub trait NodePass: Drop {
         requires { ∥ AreDueFloors Self.Connection.facts (seen self.old) floors.now ∥₁ }
         ensures published { OnOk result ∥ ArePublished Self.Connection.facts
             (seen self.old) floors.now (seen self.new) ∥₁ }
+        ensures given { given self.new ≡ given self.old };
+
+    /// The delta since a number of all that the node holds, for a peer.
+    fn delta(&mut self, alloc: Global, from: u64) -> Result<Delta, DeltaFault>
+        ensures delta { IfOk result (λ d. d ≡ numbering.delta 0 (seen self.new) from) }
+        ensures seen { IsPrefix (seen self.old) (seen self.new) }
+        ensures held { ∥ Self.Connection.facts.held (seen self.new) ∥₁ }
         ensures given { given self.new ≡ given self.old };
 
     /// Takes what a peer sent, and publishes it with all that waits.

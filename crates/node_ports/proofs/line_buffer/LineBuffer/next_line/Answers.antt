@@ -1,7 +1,7 @@
 use Rattle.std.proofs.Common.{ℕ, List, Some, sym, ap, ◌∙◌}
 use Rattle.irc_line.specs.Stream.{line, first_item, items}
-use Rattle.network_server.proofs.InputLemmas.{bytes-held, line-next, long-next, rest-next, none-next}
-use Rattle.network_server.proofs.input.Input.next_line.Goals as goal
+use Rattle.node_ports.proofs.LineBufferLemmas.{bytes-held, line-next, long-next, rest-next, none-next}
+use Rattle.node_ports.proofs.line_buffer.LineBuffer.next_line.Goals as goal
 
 pub returns-in-Some : goal.returns-in-Some
 returns-in-Some c =

@@ -5,9 +5,10 @@ ghost use Rattle.byte_text.specs.Bytes.{cr};
 ghost use Rattle.irc_line.specs.Next.{value_of};
 ghost use Rattle.irc_line.specs.Stream.{holding, skipping, bytes_of, held_past, held_with, next_item};
 
+use crate::connection::Connection;
+use crate::pending::{Pending, ReceiveFault};
 use byte_text::find_byte;
 use irc_line::Next;
-use node_ports::{Connection, Pending, ReceiveFault};
 use std::alloc::Global;
 use std::marker::Model;
 
@@ -17,13 +18,13 @@ const MAX_LINE: usize = 8703;
 /// What came over a connection, and was not taken as lines yet. Contracts see what is held of the stream, as with a
 /// [`Feeder`](irc_line::Feeder). In place of that it gives a line before it is taken out, so that a line can be tried again.
 #[derive(Drop)]
-pub(crate) struct Input {
+pub struct LineBuffer {
     bytes: Pending,
     // The rest of a line that was too long is still to come.
     is_skipping: bool,
 }
 
-impl Model for Input {
+impl Model for LineBuffer {
     ghost use Rattle.std.specs.Prelude.{◌≡◌, [], true, if◌then◌else◌};
     ghost use Rattle.irc_line.specs.Stream.{Held, holding, skipping};
 
@@ -63,19 +64,19 @@ fn skip(bytes: &mut Pending) -> bool
     }
 }
 
-impl Input {
+impl LineBuffer {
     /// Nothing came yet. It takes no memory.
-    pub(crate) fn new(alloc: Global) -> Input
+    pub fn new(alloc: Global) -> LineBuffer
         ensures { result ≡ holding [] }
     {
-        Input {
+        LineBuffer {
             bytes: Pending::new(alloc),
             is_skipping: false,
         }
     }
 
     /// Takes in bytes that come over the connection ([`Pending::receive`]).
-    pub(crate) fn receive<C: Connection>(
+    pub fn receive<C: Connection>(
         &mut self,
         connection: &mut C,
         chunk: &mut [u8],
@@ -99,7 +100,7 @@ impl Input {
     }
 
     /// The next line: LF ends a line, and one CR directly before it is dropped (RFC 1459 and RFC 2812, section 2.3).
-    pub(crate) fn next_line(&self) -> Next<'_>
+    pub fn next_line(&self) -> Next<'_>
         ensures { value_of result ≡ next_item self.now }
     {
         let bytes = self.bytes.as_bytes();
@@ -112,7 +113,7 @@ impl Input {
     }
 
     /// The next line is taken out.
-    pub(crate) fn take_line(&mut self)
+    pub fn take_line(&mut self)
         ensures { self.new ≡ held_past (bytes_of self.old) }
     {
         self.is_skipping = skip(&mut self.bytes);
