@@ -1,0 +1,3 @@
+mod LinkLemmas
+mod ServedLemmas
+mod TalkLemmas
