@@ -1,4 +1,5 @@
-pub mod UnreadLemmas
 pub mod RingLemmas
 pub mod StepLemmas
 pub mod NewcomerLemmas
+pub mod EnterLemmas
+pub mod AskLemmas

@@ -17,7 +17,7 @@ use Rattle.network_log.specs.Truth.{AreTrueOfGuest, IsTrueOfGuest, IsDirectory, 
 use Rattle.network_log.specs.Telling.{IsToldToClient, AsNewcomer}
 use Rattle.network_log.specs.declared.origin.Origin.{Origin}
 use Rattle.network_log.specs.declared.origin.Origin.TheVariants.{ClientCame}
-use Rattle.network_client.specs.Steps.{IsFilled, Same, Got, Fell, Lost, IsHeard, saying, all_said}
+use Rattle.network_client.specs.Steps.{IsFilled, Same, Got, Fell, Lost, saying, all_said}
 
 -- ---- one event more
 
@@ -107,11 +107,15 @@ pub says_or_falls : {facts : NodeFacts} {T E : Type 0} (r : Result T E) {g next 
 says_or_falls (Ok x) {g} there ok err k = alike ok (says-all g.todo g refl there k)
 says_or_falls (Err x) there ok err k = falls err k
 
-either-way : {facts : NodeFacts} {g next : Guest} → (next ≡ g) ⊎ (next ≡ fallen g) → IsNewcomer facts g → IsNewcomer facts next
-either-way (inl e) k = alike e k
+pub same_or_falls : {facts : NodeFacts} {T E : Type 0} (r : Result T E) {g next : Guest} → IfOk r (λ _. next ≡ g) → OnErr r (next ≡ fallen g) → IsNewcomer facts g → IsNewcomer facts next
+same_or_falls (Ok x) ok err k = alike ok k
+same_or_falls (Err x) ok err k = falls err k
+
+either-way : {facts : NodeFacts} {Q : Type 0} {g next : Guest} → ((next ≡ g) × Q) ⊎ (next ≡ fallen g) → IsNewcomer facts g → IsNewcomer facts next
+either-way (inl e) k = alike e.0 k
 either-way (inr e) k = falls e k
 
-pub stays_or_falls : {facts : NodeFacts} {g next : Guest} (flag : Bool) → (flag ≡ false → ∥ (next ≡ g) ⊎ (next ≡ fallen g) ∥₁) → (flag ≡ true → next ≡ g) → ∥ IsNewcomer facts g ∥₁ → ∥ IsNewcomer facts next ∥₁
+pub stays_or_falls : {facts : NodeFacts} {Q : Type 0} {g next : Guest} (flag : Bool) → (flag ≡ false → ∥ ((next ≡ g) × Q) ⊎ (next ≡ fallen g) ∥₁) → (flag ≡ true → next ≡ g) → ∥ IsNewcomer facts g ∥₁ → ∥ IsNewcomer facts next ∥₁
 stays_or_falls true other same k = ∥∥₁_map k (alike (same refl))
 stays_or_falls false other same k = ∥∥₁_map₂ (other refl) k either-way
 
@@ -136,12 +140,12 @@ never-sought (Waiting w) bytes e = refl
 never-sought (Registered f) bytes e = absurd (cc e)
 never-sought Closed bytes e = refl
 
-is-sought : (shown : Bool) (session : Stage) (next : Option Item) → facts_in session ≡ None → IsSought [] shown session next
-is-sought shown session None e = tt
-is-sought shown session (Some (whole_line bytes)) e = subst (λ o. IsShownIn [] shown o) (sym (never-sought session bytes e)) tt
-is-sought shown session (Some cut_line) e = tt
+pub is_sought : (shown : Bool) (session : Stage) (next : Option Item) → facts_in session ≡ None → IsSought [] shown session next
+is_sought shown session None e = tt
+is_sought shown session (Some (whole_line bytes)) e = subst (λ o. IsShownIn [] shown o) (sym (never-sought session bytes e)) tt
+is_sought shown session (Some cut_line) e = tt
 
-pub hears : {facts : NodeFacts} {directory : Directory} {known : Bool} {g next : Guest} → IsDirectory facts directory → g.is_gone ≡ false → g.todo ≡ [] → facts_in next.session ≡ None
-    → IsHeard directory known g next → IsNewcomer facts g → IsNewcomer facts next
-hears {facts} {directory} {known} {g} is there done outside h k =
-    happens (Hears directory h.shown) (there, done, is, is-sought h.shown g.session (next_item g.received g.heard) (is_outside k)) outside h.is_after k
+pub hears : {facts : NodeFacts} {directory : Directory} {g next : Guest} (shown : Bool) → IsDirectory facts directory → g.is_gone ≡ false → g.todo ≡ [] → facts_in next.session ≡ None
+    → next ≡ guest_step [] (Hears directory shown) g → IsNewcomer facts g → IsNewcomer facts next
+hears {facts} {directory} {g} shown is there done outside e k =
+    happens (Hears directory shown) (there, done, is, is_sought shown g.session (next_item g.received g.heard) (is_outside k)) outside e k

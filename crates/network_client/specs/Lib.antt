@@ -2,7 +2,5 @@
 -- is said of its lines
 pub mod Naming
 pub mod Steps
--- ---- what only the proofs use of the code: what of a stream isn't heard yet
-pub mod Unread
 -- ---- what the tests stand on: a node in memory
 pub mod Memory

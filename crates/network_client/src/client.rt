@@ -1,15 +1,16 @@
 //! One client.
-ghost use Rattle.std.specs.Prelude.{◌≡◌, ◌==◌, not, length};
+ghost use mathlib.Core.List.{IsPrefix};
+ghost use Rattle.std.specs.Prelude.{◌≡◌, ◌+◌, ◌==◌, None, Some, not, length};
 ghost use Rattle.std.specs.Option.{option_copied};
 ghost use Rattle.client_session.specs.Session.{facts_in};
 ghost use Rattle.network_log.specs.Guest.{fallen};
+ghost use Rattle.network_log.specs.declared.origin.Origin.TheVariants.{ClientCame};
 
-use crate::input::Input;
 use byte_text::Text;
 use chat_query::Facts;
 use client_places::{Attachment, RingClient};
 use client_session::{Effect, Session};
-use node_ports::{Connection, Pending};
+use node_ports::{Connection, Input, Pending};
 use std::marker::Model;
 
 /// A client with its connection and its session, and what it is owed.
@@ -35,7 +36,7 @@ impl<C: Connection> Model for Client<C> {
     ghost use Rattle.std.specs.Prelude.{◌≡◌, ◌++◌, drop, false};
     ghost use Rattle.network_log.specs.Guest.{Guest};
     ghost use Rattle.network_log.specs.declared.origin.Origin.TheVariants.{ClientCame};
-    ghost use Rattle.network_client.specs.Unread.{AreLeft};
+    ghost use Rattle.node_ports.specs.Unread.{AreLeft};
 
     ghost Value = { Guest };
 
@@ -57,16 +58,31 @@ impl<C: Connection> Model for Client<C> {
 }
 
 impl<C: Connection> Client<C> {
-    /// Its connection.
+    /// Its connection. What went out over it is the first of what it was told.
     pub fn connection(&self) -> &C
-        ensures { C.serial result.now ≡ self.now.serial }
+        ensures serial { C.serial result.now ≡ self.now.serial }
+        ensures joined { C.joined result.now ≡ self.now.joined }
+        ensures received { C.received result.now ≡ self.now.received }
+        ensures origin { C.origin result.now ≡ ClientCame }
+        ensures told { IsPrefix (C.sent result.now) self.now.told }
     {
         &self.connection
     }
 
-    /// The number of its place.
-    pub fn place(&self) -> usize {
-        self.ring.place()
+    /// How many bytes are owed: all that it was told but for what went out over its connection, which is lent beside.
+    pub fn owed(&self) -> (usize, &C)
+        ensures { length (C.sent result.1.now) + result.0 ≡ length self.now.told }
+    {
+        (self.ring.owed(), &self.connection)
+    }
+
+    /// It joins the network at that place, behind so many others.
+    pub fn join(&mut self, place: usize, joins: u64)
+        requires { self.old.joined ≡ None }
+        ensures joined { self.new ≡ record self.old { joined = Some joins } }
+        ensures evidence { ∥ C.facts.joined self.old.serial place joins ∥₁ }
+    {
+        self.connection.join(place, joins);
     }
 
     /// What is known of its session, where that is registered.

@@ -1,63 +1,43 @@
 //! What a client hears, and what its session says to that.
-ghost use Rattle.std.specs.Prelude.{◌≡◌, ◌↔◌, ◌⊎◌, [], IfOk, OnErr, IfSome, IsSome, IsTrue, MatchBool, MatchOption, Some, None, true, false, slice_get, if◌then◌else◌};
+ghost use Rattle.std.specs.Prelude.{◌≡◌, ◌↔◌, ◌⊎◌, [], IfOk, OnErr, IsSome, IsTrue, MatchOption, None, Some, is_some, true, false, slice_get, if◌then◌else◌};
 ghost use Rattle.std.specs.Option.{option_copied};
 ghost use Rattle.client_session.specs.Session.{facts_in};
 ghost use Rattle.client_session.specs.declared.effect.Effect.TheVariants.{Close};
-ghost use Rattle.network_log.specs.Guest.{Closes, Says, fallen, guest_step, next_item, nick_after};
+ghost use Rattle.network_log.specs.Guest.{Closes, Hears, Says, fallen, guest_step, next_item, nick_after};
 ghost use Rattle.network_client.specs.Naming.{place_in_item};
 ghost use Rattle.network_client.specs.Steps as spec;
-ghost use Rattle.network_client.specs.Unread.{next_of, without_next};
+ghost use Rattle.node_ports.specs.Unread.{next_of, without_next};
 
 use crate::client::Client;
-use crate::feeders::Feeders;
-use crate::input::{Filled, Input};
-use crate::naming::place_in;
+use crate::naming::place_ahead;
 use byte_text::NoMemory;
-use chat_change::{Buffer, MsgId};
-use chat_history::{NoEntry, Peek};
-use client_session::{Directory, Effect, Session, StepFault};
+use client_session::{Directory, Effect, Session};
 use irc_line::Next;
-use node_ports::{Accounts, Connection};
+use node_ports::{Accounts, Connection, Feeders, Filled, Input};
 use std::alloc::Global;
+use std::mem;
 
-// It is known whether the message is shown that a line names.
-#[derive(Drop)]
-struct Known {
-    shown: bool,
-}
-
-impl Peek for Known {
-    ghost use Rattle.std.specs.Prelude.{◌≡◌};
-
-    ghost peeks = { λ k _ _ shown _. shown ≡ k.shown };
-
-    fn shown(&mut self, _buffer: &Buffer, _id: &MsgId) -> Result<bool, NoEntry> {
-        Ok(self.shown)
-    }
-}
-
-// What the next line comes to. None where no line is there. For want of memory the line is lost.
+// What the next line comes to, where it is known whether the message is shown that it names. None where no line is there. For want of
+// memory the line is lost.
 fn next_effects(
     input: &mut Input,
     session: &mut Session,
     alloc: Global,
     directory: &Directory,
-    known: bool,
-) -> Result<Option<Vec<Effect>>, StepFault>
+    shown: bool,
+) -> Result<Option<Vec<Effect>>, NoMemory>
     ensures next { IfOk result (λ effects. MatchOption effects
-        ((input.new ≡ input.old) × (session.new ≡ session.old))
-        (λ list. ∥ spec.IsStep directory.now known session.old (next_of input.old)
-        (record { session = session.new; effects = list.items }) ∥₁)) }
+        ((next_of input.old ≡ None) × (session.new ≡ session.old))
+        (λ list. spec.step_if directory.now shown session.old (next_of input.old)
+        ≡ Some (record { session = session.new; effects = list.items }))) }
     ensures input { IfOk result (λ effects. IsSome effects → input.new ≡ without_next input.old) }
+    ensures same { IfOk result (λ effects. effects ≡ None → input.new ≡ input.old) }
     ensures err { OnErr result (session.new ≡ session.old) }
 {
     match input.next_line() {
         Next::More => Ok(None),
         Next::TooLong => Ok(Some(session.too_long(alloc, directory)?)),
-        Next::Line(bytes) => {
-            let mut peek = Known { shown: known };
-            Ok(Some(session.step(alloc, bytes, directory, &mut peek)?))
-        }
+        Next::Line(bytes) => Ok(Some(session.step_knowing(alloc, bytes, directory, shown)?)),
     }
 }
 
@@ -88,54 +68,71 @@ impl<C: Connection> Client<C> {
     /// Whether there is a line to be heard, and all that the last one came to is done. It is gone where there is no memory for
     /// the line.
     pub(crate) fn has_line(&mut self) -> bool
-        ensures none { result ≡ false → ∥ (self.new ≡ self.old) ⊎ (self.new ≡ fallen self.old) ∥₁ }
-        ensures some { result ≡ true → self.new ≡ self.old }
+        ensures same { result ≡ true → self.new ≡ self.old }
         ensures next { result ≡ true → IsSome (next_item self.old.received self.old.heard) }
         ensures there { result ≡ true → self.old.is_gone ≡ false }
         ensures done { result ≡ true → self.old.todo ≡ [] }
+        ensures none { result ≡ false → ∥ ((self.new ≡ self.old) × spec.IsQuiet self.old)
+            ⊎ (self.new ≡ fallen self.old) ∥₁ }
     {
         if self.is_gone || self.is_busy() {
             return false;
         }
-        let Ok(()) = self.input.look() else {
+        match self.input.look() {
+            Ok(is_there) => is_there,
+            Err(NoMemory) => {
+                self.is_gone = true;
+                self.fall();
+                false
+            }
+        }
+    }
+
+    /// The place of the network that its next line names, where that is one of these. It is gone where there is no memory for the
+    /// line.
+    pub(crate) fn network_named(&mut self, accounts: &Accounts) -> Result<Option<usize>, NoMemory>
+        requires { self.old.is_gone ≡ false }
+        ensures named { IfOk result (λ place. place
+            ≡ place_in_item accounts.now (next_item self.old.received self.old.heard)) }
+        ensures same { IfOk result (λ _. self.new ≡ self.old) }
+        ensures fell { OnErr result (self.new ≡ fallen self.old) }
+    {
+        let Ok(_) = self.input.look() else {
             self.is_gone = true;
             self.fall();
-            return false;
+            return Err(NoMemory);
         };
-        self.input.has_line()
+        Ok(place_ahead(accounts, &self.input))
     }
 
-    /// The place of the network that its next line names, where that is one of these.
-    pub(crate) fn network_named(&self, accounts: &Accounts) -> Option<usize>
-        requires { self.now.is_gone ≡ false }
-        ensures { IfSome result (λ place.
-            place_in_item accounts.now (next_item self.now.received self.now.heard) ≡ Some place) }
-    {
-        let Some(bytes) = self.input.line_ahead() else {
-            return None;
-        };
-        place_in(accounts, bytes)
-    }
-
-    // Its session hears the next line, where there is one. Where it can't, the client is gone.
+    // Its session hears the next line, where there is one: whether there was. Where it can't, the client is gone.
     pub(crate) fn step(
         &mut self,
         alloc: Global,
         directory: &Directory,
-        known: bool,
-    ) -> Result<bool, StepFault>
-        requires { self.old.is_gone ≡ false }
-        ensures heard { IfOk result (λ heard. MatchBool heard
-            ∥ spec.IsHeard directory.now known self.old self.new ∥₁ (self.new ≡ self.old)) }
+        shown: bool,
+    ) -> Result<bool, NoMemory>
+        requires there { self.old.is_gone ≡ false }
+        requires done { self.old.todo ≡ [] }
+        ensures heard { IfOk result (λ _.
+            self.new ≡ guest_step [] (Hears directory.now shown) self.old) }
+        ensures next { IfOk result (λ heard.
+            heard ≡ is_some (next_item self.old.received self.old.heard)) }
         ensures fell { OnErr result
             (IsSome (facts_in self.old.session) → self.new ≡ fallen self.old) }
     {
+        self.recycle(alloc);
+        let was_outside = self.session.facts().is_none();
         let Some(heard) = self.heard.checked_add(1) else {
             self.fall();
-            return Err(StepFault::NoMemory);
+            return Err(NoMemory);
         };
-        let was_outside = self.session.facts().is_none();
-        match next_effects(&mut self.input, &mut self.session, alloc, directory, known) {
+        let Ok(_) = self.input.look() else {
+            self.is_gone = true;
+            self.fall();
+            return Err(NoMemory);
+        };
+        match next_effects(&mut self.input, &mut self.session, alloc, directory, shown) {
             Ok(None) => Ok(false),
             Ok(Some(effects)) => {
                 self.effects = effects;
@@ -144,17 +141,26 @@ impl<C: Connection> Client<C> {
                 self.know_nick(alloc, was_outside)?;
                 Ok(true)
             }
-            Err(fault) => {
+            Err(NoMemory) => {
                 self.is_gone = true;
                 self.fall();
-                Err(fault)
+                Err(NoMemory)
             }
         }
     }
 
+    // All that its last line came to is done. The room of that serves the next one.
+    fn recycle(&mut self, alloc: Global)
+        requires { self.old.todo ≡ [] }
+        ensures { self.new ≡ self.old }
+    {
+        let effects = mem::replace(&mut self.effects, Vec::new(alloc));
+        self.session.recycle(effects);
+    }
+
     // It has heard a line. Where its session wasn't registered before and is now, it knows the nick of that as its own. Where there
     // is no memory for that, it is gone.
-    fn know_nick(&mut self, alloc: Global, was_outside: bool) -> Result<(), StepFault>
+    fn know_nick(&mut self, alloc: Global, was_outside: bool) -> Result<(), NoMemory>
         ensures known { IfOk result (λ _. self.new ≡ record self.old {
           nick =
               (if was_outside then nick_after None (facts_in self.old.session) self.old.nick
@@ -167,7 +173,7 @@ impl<C: Connection> Client<C> {
         }
         if self.learn_nick(alloc).is_err() {
             self.fall();
-            return Err(StepFault::NoMemory);
+            return Err(NoMemory);
         }
         Ok(())
     }

@@ -7,10 +7,9 @@
 
 #[cfg(test)]
 mod accounts;
+mod asking;
 mod client;
-mod feeders;
 mod hearing;
-mod input;
 #[cfg(test)]
 mod memory;
 mod naming;
@@ -21,6 +20,5 @@ mod telling;
 mod tests;
 
 pub use client::Client;
-pub use feeders::Feeders;
-pub use input::Filled;
-pub use newcomer::{Arrival, Newcomer};
+pub use newcomer::{Arrival, Gone, Newcomer};
+pub use node_ports::{Feeders, Filled};

@@ -1,9 +1,16 @@
-//! A connection in memory.
+//! A connection in memory, and a node that can't be asked.
 ghost use Rattle.std.specs.Prelude.{◌≡◌, [], None};
 ghost use Rattle.network_client.specs.Memory.{own_facts};
 
-use node_ports::{Connection, Halt, Origin};
+use byte_text::NoMemory;
+use chat_change::{Buffer, Change, Moment, MsgId};
+use chat_history::{DeltaFault, NoEntry};
+use chat_past::AskFault;
+use chat_query::{Answered, Facts};
+use irc_line::Line;
+use node_ports::{Connection, Halt, NetworkView, NodePass, NotPublished, Origin};
 use std::alloc::Global;
+use std::io::Write;
 use std::net::SocketAddr;
 
 /// A connection over which these bytes come, in pieces, and which keeps what goes out.
@@ -96,5 +103,101 @@ impl Connection for MemoryConnection {
 
     fn join(&mut self, _place: usize, joins: u64) {
         self.joined = Some(joins);
+    }
+}
+
+/// A way into a node that holds nothing, takes nothing, and can't be asked.
+#[derive(Drop)]
+pub struct NoPass {
+    given: usize,
+}
+
+impl NoPass {
+    /// No view was given.
+    pub fn new() -> NoPass {
+        NoPass { given: 0 }
+    }
+}
+
+/// What a network has seen of it.
+#[derive(Drop)]
+pub struct NoView {
+    place: usize,
+}
+
+impl NetworkView for NoView {
+    ghost use Rattle.std.specs.Prelude.{[]};
+
+    ghost place = { λ v. v.place };
+
+    ghost puts = { λ v. [] };
+
+    ghost held = { λ v. [] };
+
+    fn place(&self) -> usize {
+        self.place
+    }
+}
+
+impl NodePass for NoPass {
+    ghost use Rattle.std.specs.Prelude.{[]};
+
+    type Connection = MemoryConnection;
+
+    type View = NoView;
+
+    ghost given = { λ p. p.given };
+
+    ghost seen = { λ p. [] };
+
+    fn view(&mut self, place: usize) -> Result<NoView, NoMemory> {
+        let Some(given) = place.checked_add(1) else {
+            return Err(NoMemory);
+        };
+        self.given = given;
+        Ok(NoView { place })
+    }
+
+    fn put(&mut self, _view: &mut NoView, _changes: &[Change]) -> Result<(), NotPublished> {
+        Err(NotPublished { count: 0 })
+    }
+
+    fn ask<W: Write>(
+        &mut self,
+        _view: &mut NoView,
+        _facts: &Facts,
+        _line: &Line<'_>,
+        _writer: &mut W,
+    ) -> Result<Answered, AskFault> {
+        Err(AskFault::NoEntry)
+    }
+
+    fn shown(
+        &mut self,
+        _view: &mut NoView,
+        _buffer: &Buffer,
+        _id: &MsgId,
+    ) -> Result<bool, NoEntry> {
+        Err(NoEntry)
+    }
+
+    fn marker(&mut self, _view: &mut NoView, _buffer: &Buffer) -> Result<Option<Moment>, NoEntry> {
+        Err(NoEntry)
+    }
+
+    fn due_floors(&mut self, _alloc: Global, _now: Moment) -> Result<Vec<Change>, DeltaFault> {
+        Err(DeltaFault::NoEntry)
+    }
+
+    fn put_floors(&mut self, _floors: &[Change]) -> Result<(), NotPublished> {
+        Err(NotPublished { count: 0 })
+    }
+
+    fn take(&mut self, _changes: &[Change]) -> Result<(), NotPublished> {
+        Err(NotPublished { count: 0 })
+    }
+
+    fn publish(&mut self) -> Result<(), NotPublished> {
+        Ok(())
     }
 }

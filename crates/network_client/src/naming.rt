@@ -8,7 +8,7 @@ ghost use Rattle.network_client.specs.Naming as spec;
 
 use byte_text::find_byte;
 use irc_line::{Line, TagLimit, read_line};
-use node_ports::Accounts;
+use node_ports::{Accounts, Input};
 
 // The account and the network of `account/network`, cut at the first `/`.
 fn split_user(user: &[u8]) -> (&[u8], &[u8])
@@ -52,8 +52,8 @@ fn user_in(bytes: &[u8]) -> Option<&[u8]>
     }
 }
 
-/// The place of the network that the line names, where it is one of these.
-pub(crate) fn place_in(accounts: &Accounts, bytes: &[u8]) -> Option<usize>
+// The place of the network that the line names, where it is one of these.
+fn place_in(accounts: &Accounts, bytes: &[u8]) -> Option<usize>
     ensures { result ≡ spec.place_in accounts.now bytes.now }
 {
     let Some(user) = user_in(bytes) else {
@@ -61,4 +61,14 @@ pub(crate) fn place_in(accounts: &Accounts, bytes: &[u8]) -> Option<usize>
     };
     let (account, network) = split_user(user);
     accounts.place_of(account, network)
+}
+
+/// The same of the line that was looked at, where there is one.
+pub(crate) fn place_ahead(accounts: &Accounts, input: &Input) -> Option<usize>
+    ensures { result ≡ spec.place_in_item accounts.now input.now.ahead }
+{
+    match input.line_ahead() {
+        Some(bytes) => place_in(accounts, bytes),
+        None => None,
+    }
 }

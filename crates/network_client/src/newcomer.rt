@@ -1,19 +1,21 @@
 //! Clients that came and aren't let in yet.
-ghost use Rattle.std.specs.Prelude.{◌≡◌, ◌≢◌, ◌↔◌, ◌⊎◌, [], Some, IfOk, IfErr, OnErr, IfSome, IsSome, IsTrue, true, false, slice_get};
+ghost use Rattle.std.specs.Prelude.{◌≡◌, ◌≢◌, ◌↔◌, ◌⊎◌, [], Err, None, Some, IfOk, IfErr, OnErr, IsSome, IsTrue, true, false, slice_get};
+ghost use Rattle.client_session.specs.Session.{facts_in};
 ghost use Rattle.client_session.specs.declared.effect.Effect.TheVariants.{Close};
-ghost use Rattle.network_log.specs.Guest.{Closes, Offers, fallen, guest_step, new_guest, next_item};
-ghost use Rattle.network_log.specs.Truth.{IsDirectory, AreWholeLines};
+ghost use Rattle.cluster_directory.specs.Entry.{Entry};
+ghost use Rattle.network_log.specs.Guest.{Closes, Hears, Offers, fallen, guest_step, new_guest, next_item};
+ghost use Rattle.network_log.specs.Truth.{AreWholeLines, IsArrived, IsDirectory};
 ghost use Rattle.network_log.specs.declared.origin.Origin.TheVariants.{ClientCame};
 ghost use Rattle.network_client.specs.Naming.{place_in_item};
 ghost use Rattle.network_client.specs.Steps as spec;
 
 use crate::client::Client;
-use crate::feeders::Feeders;
-use crate::input::{Filled, Input};
 use byte_text::{NoMemory, Text};
+use chat_query::Facts;
 use client_places::{Overrun, RingClient};
 use client_session::{Directory, Session};
-use node_ports::{Accounts, Connection, Fresh, Halt, Pending};
+use cluster_directory::SessionConfig;
+use node_ports::{Accounts, Connection, Feeders, Filled, Fresh, Halt, Input, Pending};
 use std::alloc::Global;
 use std::marker::Model;
 
@@ -41,6 +43,23 @@ pub struct Arrival<C: Connection> {
     pub newcomer: Newcomer<C>,
     pub ghost is_named: { place_in_item C.facts.accounts
         (next_item newcomer.received newcomer.heard) ≡ Some network },
+}
+
+// Whether a session is registered with that account and network.
+fn is_at(facts: &Facts, config: &SessionConfig) -> bool
+    ensures { result ≡ spec.is_at config.now facts.now }
+{
+    facts.account.as_bytes() == config.account.as_bytes()
+        && facts.network.as_bytes() == config.network.as_bytes()
+}
+
+/// Why a newcomer is gone that was to hear a line.
+#[derive(Clone, Copy, Debug, PartialEq, Eq)]
+pub enum Gone {
+    /// There was no memory.
+    NoMemory,
+    /// The line registers its session, and not where it is: with another network, or before it moved to one.
+    Elsewhere,
 }
 
 impl<C: Connection> Newcomer<C> {
@@ -107,57 +126,102 @@ impl<C: Connection> Newcomer<C> {
     /// Whether there is a line to be heard, and all that the last one came to is done. It is gone where there is no memory for
     /// the line.
     pub fn has_line(&mut self) -> bool
-        ensures none { result ≡ false → ∥ (self.new ≡ self.old) ⊎ (self.new ≡ fallen self.old) ∥₁ }
-        ensures some { result ≡ true → self.new ≡ self.old }
+        ensures same { result ≡ true → self.new ≡ self.old }
         ensures next { result ≡ true → IsSome (next_item self.old.received self.old.heard) }
         ensures there { result ≡ true → self.old.is_gone ≡ false }
         ensures done { result ≡ true → self.old.todo ≡ [] }
+        ensures none { result ≡ false → ∥ ((self.new ≡ self.old) × spec.IsQuiet self.old)
+            ⊎ (self.new ≡ fallen self.old) ∥₁ }
     {
         self.client.has_line()
     }
 
-    /// It moves to the network that its next line names, where that is one of these.
-    pub fn arrive(self, accounts: &Accounts) -> Result<Arrival<C>, Newcomer<C>>
+    /// It moves to the network that its next line names, where that is one of these. It is gone where there is no memory for the
+    /// line.
+    pub fn arrive(mut self, accounts: &Accounts) -> Result<Arrival<C>, Newcomer<C>>
         requires accounts { accounts.now ≡ C.facts.accounts }
         requires there { self.is_gone ≡ false }
         ensures moves { IfOk result (λ arrival. arrival.newcomer ≡ self) }
-        ensures stays { IfErr result (λ newcomer. newcomer ≡ self) }
+        ensures stays { IfErr result (λ newcomer. ∥ ((newcomer ≡ self)
+            × (place_in_item accounts.now (next_item self.received self.heard) ≡ None))
+            ⊎ (newcomer ≡ fallen self) ∥₁) }
     {
         match self.network_named(accounts) {
-            Some(network) => Ok(Arrival {
+            Ok(Some(network)) => Ok(Arrival {
                 network,
                 newcomer: self,
             }),
-            None => Err(self),
+            Ok(None) => Err(self),
+            Err(NoMemory) => Err(self),
         }
     }
 
-    /// The place of the network that its next line names, where that is one of these.
-    pub fn network_named(&self, accounts: &Accounts) -> Option<usize>
-        requires { self.now.is_gone ≡ false }
-        ensures { IfSome result (λ place.
-            place_in_item accounts.now (next_item self.now.received self.now.heard) ≡ Some place) }
+    // The place of the network that its next line names, where that is one of these.
+    fn network_named(&mut self, accounts: &Accounts) -> Result<Option<usize>, NoMemory>
+        requires { self.old.is_gone ≡ false }
+        ensures named { IfOk result (λ place. place
+            ≡ place_in_item accounts.now (next_item self.old.received self.old.heard)) }
+        ensures same { IfOk result (λ _. self.new ≡ self.old) }
+        ensures fell { OnErr result (self.new ≡ fallen self.old) }
     {
         self.client.network_named(accounts)
     }
 
-    /// Its next line is heard by these accounts. None where it is gone: for want of memory, or since the line let it in, which no
-    /// line does that is heard before it moved to its network.
-    pub fn hear(self, alloc: Global, directory: &Directory) -> Option<Newcomer<C>>
+    /// Its next line is heard by these accounts, where there is one. It is gone where that lets it in, which no line does that is
+    /// heard before it moved to its network.
+    pub fn hear(self, alloc: Global, directory: &Directory) -> Result<Newcomer<C>, Gone>
         requires directory { ∥ IsDirectory C.facts directory.now ∥₁ }
         requires there { self.is_gone ≡ false }
         requires done { self.todo ≡ [] }
-        ensures { IfSome result (λ newcomer.
-            ∥ spec.IsHeard directory.now false self newcomer ∥₁) }
+        ensures heard { IfOk result (λ newcomer.
+            newcomer ≡ guest_step [] (Hears directory.now false) self) }
+        ensures elsewhere { result ≡ Err Gone.Elsewhere
+            → IsSome (facts_in (guest_step [] (Hears directory.now false) self).session) }
     {
         let Newcomer { mut client } = self;
-        let Ok(true) = client.step(alloc, directory, false) else {
-            return None;
+        let Ok(_) = client.step(alloc, directory, false) else {
+            return Err(Gone::NoMemory);
         };
         if client.facts().is_some() {
-            return None;
+            return Err(Gone::Elsewhere);
         }
-        Some(Newcomer { client })
+        Ok(Newcomer { client })
+    }
+
+    /// Its next line is heard at a network, by these accounts, where there is one. It is a client of the network once its session is
+    /// registered with that account and network, and a newcomer until then. It is gone where its session is registered with another.
+    pub fn enter(
+        self,
+        alloc: Global,
+        directory: &Directory,
+        config: &SessionConfig,
+    ) -> Result<Result<Client<C>, Newcomer<C>>, Gone>
+        requires directory { ∥ spec.IsByAccounts C.facts directory.now self ∥₁ }
+        requires there { self.is_gone ≡ false }
+        requires done { self.todo ≡ [] }
+        ensures heard { IfOk result (λ entered. IfOk entered (λ client.
+            client ≡ guest_step [] (Hears directory.now false) self)) }
+        ensures arrived { IfOk result (λ entered. IfOk entered (λ client. (entry : Entry)
+            → spec.IsAlikeAt C.facts config.now entry directory.now self
+            → ∥ IsArrived C.facts config.now entry client ∥₁)) }
+        ensures free { IfOk result (λ entered. IfOk entered (λ client. client.joined ≡ None)) }
+        ensures stays { IfOk result (λ entered. IfErr entered (λ newcomer.
+            newcomer ≡ guest_step [] (Hears directory.now false) self)) }
+        ensures elsewhere { result ≡ Err Gone.Elsewhere → spec.IsElsewhere config.now
+            (guest_step [] (Hears directory.now false) self) }
+    {
+        let Newcomer { mut client } = self;
+        let Ok(_) = client.step(alloc, directory, false) else {
+            return Err(Gone::NoMemory);
+        };
+        let Some(facts) = client.facts() else {
+            return Ok(Err(Newcomer { client }));
+        };
+        if is_at(facts, config) {
+            Ok(Ok(client))
+        } else {
+            Err(Gone::Elsewhere)
+        }
     }
 
     /// All that its session says waits for it. It is gone where there is no memory for that.

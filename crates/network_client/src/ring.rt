@@ -65,11 +65,6 @@ pub(crate) fn send_owed<C: Connection>(
 }
 
 impl<C: Connection> Client<C> {
-    /// How many bytes are owed, and are in the ring.
-    pub fn owed(&self) -> usize {
-        self.ring.owed()
-    }
-
     /// Whether something waits until there is room in the ring.
     pub fn waits(&self) -> bool
         ensures { result ≡ not (length self.now.waiting == 0) }

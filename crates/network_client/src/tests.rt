@@ -1,12 +1,11 @@
-ghost use Rattle.std.specs.Prelude.{◌≡◌, [], None};
-
 use crate::accounts::accounts;
-use crate::feeders::Feeders;
-use crate::memory::MemoryConnection;
-use crate::newcomer::Newcomer;
+use crate::client::Client;
+use crate::memory::{MemoryConnection, NoPass};
+use crate::newcomer::{Arrival, Newcomer};
 use byte_text::{NoMemory, Text};
 use client_places::{Places, RingClient};
-use node_ports::{Fresh, Origin};
+use client_session::Effect;
+use node_ports::{Feeders, Fresh, NodePass, Origin};
 use std::alloc::Global;
 use std::test::Fail;
 
@@ -27,17 +26,38 @@ fn newcomer(
     Ok(Newcomer::new(alloc, fresh, ring, cluster, 100)?)
 }
 
+// Its next line is heard, unless that names a network.
+fn hear(
+    alloc: Global,
+    newcomer: Newcomer<MemoryConnection>,
+) -> Result<Newcomer<MemoryConnection>, Fail> {
+    let accounts = accounts(alloc)?;
+    if newcomer.client().is_gone() {
+        return Ok(newcomer);
+    }
+    let newcomer = match newcomer.arrive(&accounts) {
+        Ok(Arrival { newcomer, .. }) => return Ok(newcomer),
+        Err(newcomer) => newcomer,
+    };
+    if newcomer.client().is_gone() || newcomer.client().is_busy() {
+        return Ok(newcomer);
+    }
+    let Ok(newcomer) = newcomer.hear(alloc, accounts.directory()) else {
+        return Err(Fail::new("it is gone"));
+    };
+    Ok(newcomer)
+}
+
 // Its turn: what comes is taken in, its next line is heard unless that names a network, and what it is owed goes out.
 fn turn(
     alloc: Global,
     mut newcomer: Newcomer<MemoryConnection>,
     feeders: &mut Feeders,
 ) -> Result<Newcomer<MemoryConnection>, Fail> {
-    let accounts = accounts(alloc)?;
     let mut chunk = [0; 64];
     let _ = newcomer.fill(&mut chunk, feeders);
-    if newcomer.has_line() && newcomer.network_named(&accounts).is_none() {
-        newcomer = newcomer.hear(alloc, accounts.directory()).ok_or(NoMemory)?;
+    if newcomer.has_line() {
+        newcomer = hear(alloc, newcomer)?;
     }
     if !newcomer.client().is_gone() {
         newcomer.say_all()?;
@@ -72,7 +92,7 @@ fn a_newcomer_hears_its_session_until_it_names_a_network(rt: HostRuntime) -> Res
         told,
         b":bnc.example 451 * :You have not registered\r\n".as_slice()
     );
-    assert_eq!(rt; newcomer.network_named(&accounts), Some(0));
+    assert!(rt; !newcomer.client().is_gone());
     let arrival = newcomer.arrive(&accounts).ok().expect(&rt, "an arrival");
     assert_eq!(rt; arrival.network, 0);
     Ok(())
@@ -108,7 +128,7 @@ fn what_waits_goes_line_by_line(rt: HostRuntime) -> Result<(), Fail> {
     let told = newcomer.client().connection().outgoing();
     assert_eq!(rt; told.len(), 3 * line.len());
     assert_eq!(rt; &told[2 * line.len()..], line.as_slice());
-    assert_eq!(rt; newcomer.client().owed(), 0);
+    assert_eq!(rt; newcomer.client().owed().0, 0);
     assert!(rt; !newcomer.client().waits());
     Ok(())
 }
@@ -121,5 +141,67 @@ fn one_that_is_owed_more_than_its_bound_is_gone(rt: HostRuntime) -> Result<(), F
     assert!(rt; !newcomer.client().waits());
     assert!(rt; newcomer.pump().is_ok());
     assert!(rt; newcomer.client().connection().outgoing().is_empty());
+    Ok(())
+}
+
+// A client that was let in at the network, and has these lines behind its login.
+fn client(alloc: Global, lines: &[u8]) -> Result<Client<MemoryConnection>, Fail> {
+    let accounts = accounts(alloc)?;
+    let mut incoming = Vec::from_slice(
+        alloc,
+        b"PASS key\r\nNICK ann\r\nUSER ann/net 0 * :Ann\r\n",
+    )?;
+    incoming.extend_from_slice(lines)?;
+    let newcomer = turns(alloc, newcomer(alloc, &incoming, 64, 4096)?, 10)?;
+    if newcomer.client().is_gone() || newcomer.client().is_busy() {
+        return Err(Fail::new("a newcomer that isn't idle"));
+    }
+    let Some(config) = accounts.network(0) else {
+        return Err(Fail::new("no network"));
+    };
+    match newcomer.enter(alloc, accounts.directory(), config) {
+        Ok(Ok(client)) => Ok(client),
+        Ok(Err(_)) => Err(Fail::new("a newcomer still")),
+        Err(_) => Err(Fail::new("gone")),
+    }
+}
+
+#[test]
+fn a_newcomer_is_let_in_at_its_network(rt: HostRuntime) -> Result<(), Fail> {
+    let mut client = client(rt.alloc(), b"")?;
+    assert_eq!(rt; client.nick(), b"ann".as_slice());
+    let facts = client.facts().expect(&rt, "a registered session");
+    assert_eq!(rt; facts.account.as_bytes(), b"ann".as_slice());
+    assert!(rt; client.is_busy() && !client.waits());
+    assert!(rt; matches!(client.next_effect(), Some(Effect::Send(_))));
+    client.say_all()?;
+    assert!(rt; !client.is_busy() && client.waits());
+    assert!(rt; client.offer().is_ok());
+    assert!(rt; !client.waits() && client.owed().0 > 0);
+    Ok(())
+}
+
+#[test]
+fn a_client_hears_at_its_network(rt: HostRuntime) -> Result<(), Fail> {
+    let alloc = rt.alloc();
+    let mut client = client(alloc, b"PRIVMSG #a :hi\r\nQUIT\r\n")?;
+    let accounts = accounts(alloc)?;
+    let mut pass = NoPass::new();
+    let mut view = pass.view(0)?;
+    assert!(rt; client.hear(alloc, accounts.directory(), &mut pass, &mut view) == Ok(false));
+    client.say_all()?;
+    assert!(rt; client.hear(alloc, accounts.directory(), &mut pass, &mut view) == Ok(true));
+    assert!(rt;
+        matches!(
+            client.next_effect(),
+            Some(Effect::Send(_) | Effect::Upstream(_))
+        )
+    );
+    client.say_all()?;
+    client.effect_done();
+    assert!(rt; client.hear(alloc, accounts.directory(), &mut pass, &mut view) == Ok(true));
+    client.say_all()?;
+    assert!(rt; client.close());
+    assert!(rt; client.hear(alloc, accounts.directory(), &mut pass, &mut view) == Ok(false));
     Ok(())
 }

@@ -1,5 +1,5 @@
 use Rattle.std.proofs.Common.{◌≡◌, false, [], None, ap, ◌∙◌, rules}
-use Rattle.std.proofs.Math.Logic.{∥∥₁_elim, ∥∥₁_prop, ∥∥₁_map₂}
+use Rattle.std.proofs.Math.Logic.{∥∥₁_map₂}
 use Rattle.client_session.specs.Session.{facts_in}
 use Rattle.network_log.specs.Guest.{Guest}
 use Rattle.network_client.proofs.NewcomerLemmas.{hears}
@@ -10,5 +10,4 @@ invariant_of-result g c =
     let there : c.self.inside.client.is_gone ≡ false = ap (λ (x : Guest). x.is_gone) c.self.view_is ∙ c.requires.there in
     let done : c.self.inside.client.todo ≡ [] = ap (λ (x : Guest). x.todo) c.self.view_is ∙ c.requires.done in
     let outside : facts_in c.step.new.self.session ≡ None = search rules in
-    let heard = rw c.in-Ok-true.field-0-test at c.in-Ok-true.ensures.heard in
-    ∥∥₁_elim c.requires.directory ∥∥₁_prop (λ is. ∥∥₁_map₂ heard c.self.invariant (hears is there done outside))
+    ∥∥₁_map₂ c.requires.directory c.self.invariant (λ is k. hears false is there done outside c.in-Ok.ensures.heard k)

@@ -3,7 +3,7 @@ use Rattle.cluster_directory.specs.Directory.{Directory}
 use Rattle.network_log.specs.Accounts.{Accounts}
 use Rattle.network_log.specs.Truth.{IsDirectory, AtStart}
 use Rattle.network_client.specs.Memory.{own_accounts, own_facts}
-use Rattle.network_client.proofs.tests.turn.Goals as goal
+use Rattle.network_client.proofs.tests.hear.Goals as goal
 
 pub hear-requires-clause-directory : goal.hear-requires-clause-directory
 hear-requires-clause-directory c =
