@@ -4,7 +4,7 @@ ghost use Rattle.network_client.specs.Memory.{own_facts};
 
 use byte_text::NoMemory;
 use chat_change::{Buffer, Change, Moment, MsgId};
-use chat_history::{DeltaFault, NoEntry};
+use chat_history::{Delta, DeltaFault, NoEntry};
 use chat_past::AskFault;
 use chat_query::{Answered, Facts};
 use irc_line::Line;
@@ -191,6 +191,10 @@ impl NodePass for NoPass {
 
     fn put_floors(&mut self, _floors: &[Change]) -> Result<(), NotPublished> {
         Err(NotPublished { count: 0 })
+    }
+
+    fn delta(&mut self, _alloc: Global, _from: u64) -> Result<Delta, DeltaFault> {
+        Err(DeltaFault::NoEntry)
     }
 
     fn take(&mut self, _changes: &[Change]) -> Result<(), NotPublished> {
