@@ -2,5 +2,3 @@
 -- is said of its lines
 pub mod Naming
 pub mod Steps
--- ---- what the tests stand on: a node in memory
-pub mod Memory

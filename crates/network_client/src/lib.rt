@@ -5,19 +5,13 @@
 //! either as a `Guest` of `network_log`, and each method says which of its events happens.
 #![tactic(auto)]
 
-#[cfg(test)]
-mod accounts;
 mod asking;
 mod client;
 mod hearing;
-#[cfg(test)]
-mod memory;
 mod naming;
 mod newcomer;
 mod ring;
 mod telling;
-#[cfg(test)]
-mod tests;
 
 pub use client::Client;
 pub use newcomer::{Arrival, Gone, Newcomer};
