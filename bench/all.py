@@ -32,6 +32,7 @@ def calls(program, test_state, keeper):
         (("longest_put.py", program, "3"), True),
         (("joining.py", program), True),
         (("keeping.py", program, keeper), True),
+        (("keeping.py", "--rewriting", program, keeper), True),
         (("keeping.py", "--full", program, keeper), False),
     )
 
