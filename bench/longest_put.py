@@ -11,6 +11,7 @@ chrt --rr 30 bench/longest_put.py PROGRAM
 """
 import array
 import os
+import socket
 import statistics
 import sys
 import time
@@ -26,6 +27,8 @@ def times(program, name):
     bouncer, server, clients, _ = held(program, name, FIRST)
     try:
         line, found = spelled(name, FIRST), array.array("d")
+        # (else a piece may wait until what went before it is acknowledged, for 40 ms)
+        server.socket.setsockopt(socket.IPPROTO_TCP, socket.TCP_NODELAY, 1)
         clients.reset()
         for first in range(0, LAST - FIRST, PIECE):
             data = b"".join(line(number) for number in range(first, first + PIECE))
