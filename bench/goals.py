@@ -40,6 +40,7 @@ GOALS = (
     ("a floor that lets 1,000,000 messages with rising ids go", "a floor that lets 1,000,000 messages go", "processor time", "rising.*",
      "0.1 s"),
     ("the same with random ids", "a floor that lets 1,000,000 messages go", "processor time", "random.*", "0.15 s"),
+    ("the longest put while 1 to 4 million messages are taken", "while 1 to 4 million messages are taken", "the longest put", ".*", "1 ms"),
     ("a keeper appends 1,000,000 messages", "what", "figure", "1,000,000 messages of 40.*", "60 s"),
     ("a keeper reads them at its start", "what", "figure", "read at the start", "5 s"),
     ("in its file, a message", "what", "figure", "in the file.*", "200 bytes"),
