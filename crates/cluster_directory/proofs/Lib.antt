@@ -2,4 +2,5 @@ mod SecretLemmas
 mod FirstLemmas
 mod NameLemmas
 mod TermsLemmas
+mod AloneLemmas
 pub mod CallerLemmas

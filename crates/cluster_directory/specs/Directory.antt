@@ -68,3 +68,22 @@ account_with account network entry =
 abbrev pub directory_with : Directory → List ℕ → List ℕ → Entry → Directory
 directory_with directory name network entry =
     with_first (λ a. bytes_eq a.name name) (λ a. account_with a network entry) directory
+
+-- ---- a part
+
+-- the network alone, if it is there
+abbrev pub networks_alone : Option Network → List Network
+networks_alone None = []
+networks_alone (Some network) = network ∷ []
+
+abbrev pub account_alone : Account → List ℕ → Account
+account_alone account network =
+    record account { networks = networks_alone (network_in account.networks network) }
+
+abbrev pub accounts_alone : Option Account → List ℕ → Directory
+accounts_alone None network = []
+accounts_alone (Some account) network = account_alone account network ∷ []
+
+-- that account alone, with that network alone
+abbrev pub alone : Directory → List ℕ → List ℕ → Directory
+alone directory account network = accounts_alone (account_in directory account) network

@@ -28,6 +28,17 @@ impl Model for Account {
     ghost view = { λ a. record { name = a.name; secret = a.secret; networks = a.networks.items } };
 }
 
+// A copy of the network, as a list.
+fn copy_of(alloc: Global, network: &Network) -> Result<Vec<Network>, NoMemory>
+    ensures { IfOk result (λ networks. networks.items ≡ network.now ∷ []) }
+{
+    let mut networks = Vec::new(alloc);
+    match networks.push(network.try_clone(alloc)?) {
+        Ok(()) => Ok(networks),
+        Err(_) => Err(NoMemory),
+    }
+}
+
 impl Account {
     /// An account of that name and with that secret, which has no network yet.
     pub fn new(alloc: Global, name: Text, secret: Text) -> Account
@@ -90,6 +101,23 @@ impl Account {
         ensures within { IfSome result (λ at. at < length self.now.networks) }
     {
         self.networks.iter().position(|n| n.has_name(network))
+    }
+
+    /// The account with that network alone, or with none where that isn't one of its own.
+    pub(crate) fn alone(&self, alloc: Global, network: &[u8]) -> Result<Account, NoMemory>
+        ensures { IfOk result (λ alone. alone ≡ spec.account_alone self.now network.now) }
+    {
+        let name = self.name.try_clone(alloc)?;
+        let secret = self.secret.try_clone(alloc)?;
+        let networks = match self.network(network) {
+            None => Vec::new(alloc),
+            Some(found) => copy_of(alloc, found)?,
+        };
+        Ok(Account {
+            name,
+            secret,
+            networks,
+        })
     }
 
     /// How the session with the server of that network stands.

@@ -103,6 +103,23 @@ impl Directory {
         }
     }
 
+    /// That account alone, with that network alone, as far as they are there.
+    pub fn alone(
+        &self,
+        alloc: Global,
+        account: &[u8],
+        network: &[u8],
+    ) -> Result<Directory, NoMemory>
+        ensures { IfOk result (λ alone.
+            alone ≡ spec.alone self.now account.now network.now) }
+    {
+        let mut alone = Directory::new(alloc);
+        if let Some(found) = self.account(account) {
+            alone.add(found.alone(alloc, network)?)?;
+        }
+        Ok(alone)
+    }
+
     /// The session of that account with the server of that network stands so now. Nothing changes where there is no such
     /// network.
     pub fn set_entry(&mut self, account: &[u8], network: &[u8], entry: Entry)

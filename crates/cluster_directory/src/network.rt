@@ -1,10 +1,11 @@
 //! Networks of an account.
-ghost use Rattle.std.specs.Prelude.{◌≡◌};
+ghost use Rattle.std.specs.Prelude.{◌≡◌, IfOk};
 ghost use Rattle.std.specs.Str.{bytes_eq};
 ghost use Rattle.cluster_directory.specs.Directory as spec;
 
 use crate::entry::Entry;
-use byte_text::Text;
+use byte_text::{NoMemory, Text};
+use std::alloc::Global;
 use std::marker::Model;
 
 /// A network of an account, by its name.
@@ -49,6 +50,17 @@ impl Network {
         ensures { self.new ≡ record self.old { entry = entry } }
     {
         self.entry = entry;
+    }
+
+    /// An equal network.
+    pub(crate) fn try_clone(&self, alloc: Global) -> Result<Network, NoMemory>
+        ensures { IfOk result (λ copy. copy ≡ self.now) }
+    {
+        let name = self.name.try_clone(alloc)?;
+        Ok(Network {
+            name,
+            entry: self.entry.try_clone(alloc)?,
+        })
     }
 
     pub(crate) fn has_name(&self, name: &[u8]) -> bool

@@ -1,8 +1,9 @@
 //! Secrets of accounts.
-ghost use Rattle.std.specs.Prelude.{◌≡◌, ◌↔◌, IsTrue};
+ghost use Rattle.std.specs.Prelude.{◌≡◌, ◌↔◌, IfOk, IsTrue};
 ghost use Rattle.cluster_directory.specs.Secret as spec;
 
-use byte_text::Text;
+use byte_text::{NoMemory, Text};
+use std::alloc::Global;
 use std::marker::Model;
 
 /// A secret. Contracts see it as the list of its bytes.
@@ -28,6 +29,15 @@ impl Secret {
         ensures { result ≡ text }
     {
         Secret { text }
+    }
+
+    /// An equal secret.
+    pub(crate) fn try_clone(&self, alloc: Global) -> Result<Secret, NoMemory>
+        ensures { IfOk result (λ copy. copy ≡ self.now) }
+    {
+        Ok(Secret {
+            text: self.text.try_clone(alloc)?,
+        })
     }
 
     /// In how many places what was given differs from the secret: where both have a byte, and another one, and where only
