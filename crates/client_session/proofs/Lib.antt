@@ -3,6 +3,7 @@ mod RegistrationLemmas
 mod RegisteredLemmas
 mod EventLemmas
 mod SightLemmas
+mod DirectoryLemmas
 mod LinesLemmas
 mod SentLemmas
 pub mod CallerLemmas

@@ -3,6 +3,7 @@
 pub mod Command
 pub mod Step
 pub mod Registration
+pub mod Naming
 pub mod Registered
 pub mod Session
 pub mod Lookup

@@ -7,9 +7,10 @@ ghost use Rattle.irc_reply.specs.ToClient.{no_nick, not_registered};
 
 use crate::command::ClientCommand;
 use crate::effect::Effect;
+use crate::naming::split_user;
 use crate::shared::{answer, closing, nick_refusal, ping, push, refusal};
 use crate::stage::{Stage, Waiting};
-use byte_text::{NoMemory, Text, find_byte};
+use byte_text::{NoMemory, Text};
 use chat_query::Facts;
 use cluster_directory::{Directory, Entry};
 use irc_caps::CapSet;
@@ -23,17 +24,6 @@ use std::alloc::Global;
 
 /// The nick of a session before registration.
 const NO_NICK: &[u8] = b"*";
-
-/// The account and the network of `account/network`, cut at the first `/`.
-fn split_user(user: &[u8]) -> (&[u8], &[u8])
-    ensures account { result.0.now ≡ spec.account_of user.now }
-    ensures network { result.1.now ≡ spec.network_of user.now }
-{
-    match find_byte(user, b'/') {
-        Some(at) => (&user[..at], &user[at + 1..]),
-        None => (user, &user[user.len()..]),
-    }
-}
 
 /// The first of the four parameters of USER.
 pub(crate) fn user_name<'a>(parameters: &[&'a [u8]]) -> Option<&'a [u8]>

@@ -3,6 +3,7 @@ ghost use Rattle.std.specs.Prelude.{◌≡◌, Bool, Ok, None, IfOk, IfErr, OnEr
 ghost use Rattle.std.specs.Option.{option_copied};
 ghost use Rattle.client_session.specs.Session as spec;
 ghost use Rattle.client_session.specs.Lookup.{name_sought, parts_of};
+ghost use Rattle.client_session.specs.Naming.{user_after};
 
 use crate::command::command_of;
 use crate::effect::Effect;
@@ -199,6 +200,18 @@ impl Session {
             Stage::Registered(facts) => sought(alloc, facts, bytes),
             Stage::Waiting(_) => Ok(None),
             Stage::Closed => Ok(None),
+        }
+    }
+
+    /// The user (RFC 2812, section 3.1.3) that it is to be registered as once it has heard that line: the last that was named. None
+    /// once it is registered, or closed.
+    pub fn user_after<'a>(&'a self, bytes: &'a [u8]) -> Option<&'a [u8]>
+        ensures { option_copied result ≡ user_after self.now bytes.now }
+    {
+        match &self.stage {
+            Stage::Waiting(waiting) => waiting.user_after(bytes),
+            Stage::Registered(_) => None,
+            Stage::Closed => None,
         }
     }
 
