@@ -4,14 +4,15 @@ ghost use Rattle.std.specs.Option.{option_copied};
 ghost use Rattle.client_session.specs.Session.{facts_in};
 ghost use Rattle.client_session.specs.declared.effect.Effect.TheVariants.{Close};
 ghost use Rattle.network_log.specs.Guest.{Closes, Hears, Says, fallen, guest_step, next_item, nick_after};
-ghost use Rattle.network_client.specs.Naming.{place_in_item};
+ghost use Rattle.network_client.specs.Naming.{is_for_item, place_in_item};
 ghost use Rattle.network_client.specs.Steps as spec;
 ghost use Rattle.node_ports.specs.Unread.{next_of, without_next};
 
 use crate::client::Client;
-use crate::naming::place_ahead;
+use crate::naming::{is_for_ahead, place_ahead};
 use byte_text::NoMemory;
 use client_session::{Directory, Effect, Session};
+use cluster_directory::SessionConfig;
 use irc_line::Next;
 use node_ports::{Accounts, Connection, Feeders, Filled, Input};
 use std::alloc::Global;
@@ -103,6 +104,23 @@ impl<C: Connection> Client<C> {
             return Err(NoMemory);
         };
         Ok(place_ahead(accounts, &self.input))
+    }
+
+    /// Whether its session is to be registered with that account and network once it has heard its next line. It is gone where there
+    /// is no memory for the line.
+    pub(crate) fn is_for(&mut self, config: &SessionConfig) -> Result<bool, NoMemory>
+        requires { self.old.is_gone ≡ false }
+        ensures named { IfOk result (λ is. is ≡ is_for_item config.now self.old.session
+            (next_item self.old.received self.old.heard)) }
+        ensures same { IfOk result (λ _. self.new ≡ self.old) }
+        ensures fell { OnErr result (self.new ≡ fallen self.old) }
+    {
+        let Ok(_) = self.input.look() else {
+            self.is_gone = true;
+            self.fall();
+            return Err(NoMemory);
+        };
+        Ok(is_for_ahead(config, &self.session, &self.input))
     }
 
     // Its session hears the next line, where there is one: whether there was. Where it can't, the client is gone.

@@ -6,7 +6,7 @@ ghost use Rattle.cluster_directory.specs.Entry.{Entry};
 ghost use Rattle.network_log.specs.Guest.{Closes, Hears, Offers, fallen, guest_step, new_guest, next_item};
 ghost use Rattle.network_log.specs.Truth.{AreWholeLines, IsArrived, IsDirectory};
 ghost use Rattle.network_log.specs.declared.origin.Origin.TheVariants.{ClientCame};
-ghost use Rattle.network_client.specs.Naming.{place_in_item};
+ghost use Rattle.network_client.specs.Naming.{is_for_item, place_in_item};
 ghost use Rattle.network_client.specs.Steps as spec;
 
 use crate::client::Client;
@@ -165,6 +165,18 @@ impl<C: Connection> Newcomer<C> {
         ensures fell { OnErr result (self.new ≡ fallen self.old) }
     {
         self.client.network_named(accounts)
+    }
+
+    /// Whether its session is to be registered with that account and network once it has heard its next line. It is gone where there
+    /// is no memory for the line.
+    pub fn is_for(&mut self, config: &SessionConfig) -> Result<bool, NoMemory>
+        requires { self.old.is_gone ≡ false }
+        ensures named { IfOk result (λ is. is ≡ is_for_item config.now self.old.session
+            (next_item self.old.received self.old.heard)) }
+        ensures same { IfOk result (λ _. self.new ≡ self.old) }
+        ensures fell { OnErr result (self.new ≡ fallen self.old) }
+    {
+        self.client.is_for(config)
     }
 
     /// Its next line is heard by these accounts, where there is one. It is gone where that lets it in, which no line does that is
