@@ -19,7 +19,7 @@ use Rattle.network_log.specs.Host.{Host, BatchEntry}
 use Rattle.network_log.specs.Share.{hears_batch, hears_marker, with_batch, with_text, marker_text, told_to, nick_by_all}
 use Rattle.network_log.specs.NetworkState.{NetworkState, beginning, changes_of, entry_of, first_entries, told_by}
 use Rattle.network_log.specs.Log.{NetworkEvent, ServerComes, ServerGets, ServerSays, ServerSkips, ServerGoes, Others, Puts, PutsFirst, Loses, Comes, Has, Speaks, Marks, MarkWaits, Informs, Leaves, step, run, guests_after, without_server, after_server_item, after_server_line, after_saying_to, after_speaking, after_speaking_of, after_marking, after_marking_of, after_waiting_mark, after_waiting_mark_of, after_put_of_first}
-use Rattle.network_log.specs.Truth.{AreTrue, AtMoment, IsArrived, IsDirectory, IsReached, IsTrueEvent, IsTrueOfGuest, IsTrueOfOption}
+use Rattle.network_log.specs.Truth.{AreTrue, AtMoment, IsArrived, IsDirectory, IsReached, IsTrueEvent, IsTrueOfGuest, IsTrueOfOption, Leads}
 use Rattle.network_laws.proofs.StepLemmas.{IsLater, step-later}
 
 -- it holds of each of these
@@ -257,3 +257,19 @@ each-guest facts P k w r =
     let Q : ℕ → SessionConfig → Type 0 = λ place config. AreAll (P place config) last.guests in
     let R : NetworkState → Type 0 = λ v. AreAll (P v.place v.config) v.guests in
     subst R (sym r.leads.is_run) (subst (λ p. Q p last.config) (sym l.place) (subst (λ c. Q r.place c) (sym l.config) are))
+
+-- a network that is reached is as it is configured
+pub is-configured : (facts : NodeFacts) (w : NetworkState) → IsReached facts w → slice_get facts.accounts.networks w.place ≡ Some w.config
+is-configured facts w r =
+    let first : NetworkState = beginning r.place r.config r.held in
+    let last : NetworkState = run facts r.leads.log first in
+    let l : IsLater first last = run-later facts r.leads.log first in
+    let R : NetworkState → Type 0 = λ v. slice_get facts.accounts.networks v.place ≡ Some v.config in
+    subst R (sym r.leads.is_run)
+    (ap (slice_get facts.accounts.networks) l.place ∙ r.is_there ∙ ap Some (sym l.config))
+
+-- whatever happens to a network, its place and its configuration stay
+pub stays-configured : (facts : NodeFacts) (old new : NetworkState) → Leads facts old new → (new.place ≡ old.place) × (new.config ≡ old.config)
+stays-configured facts old new k =
+    let l : IsLater old (run facts k.log old) = run-later facts k.log old in
+    (ap (λ (w : NetworkState). w.place) k.is_run ∙ l.place, ap (λ (w : NetworkState). w.config) k.is_run ∙ l.config)

@@ -3,5 +3,6 @@ mod OnceLemmas
 mod GuestsLemmas
 mod HeardLemmas
 mod LetInLemmas
+mod OwnLemmas
 mod ServerLemmas
 mod StrangerLemmas

@@ -5,6 +5,8 @@ use Rattle.cluster_directory.specs.Directory.{Account, account_in}
 use Rattle.cluster_directory.specs.declared.config.SessionConfig.{SessionConfig}
 use Rattle.client_session.specs.Events.{ClientEvent, claim_after, no_claim}
 use Rattle.client_session.specs.Registration.{account_of, network_of}
+use Rattle.client_session.specs.declared.stage.Stage.{Stage}
+use Rattle.client_session.specs.declared.stage.Stage.TheVariants.{Waiting, Registered, Closed}
 use Rattle.network_log.specs.Facts.{NodeFacts}
 use Rattle.network_log.specs.Guest.{Guest}
 use Rattle.network_laws.specs.Heard.{lines_in}
@@ -22,3 +24,9 @@ pub record HasLoggedIn (facts : NodeFacts) (config : SessionConfig) (g : Guest) 
   pub is_user : (claim_after no_claim events).user ≡ Some user
   pub names_account : account_of user ≡ config.account
   pub names_network : network_of user ≡ config.network
+
+-- The session is registered with that account and network, or closed.
+abbrev pub IsOfNetwork : SessionConfig → Stage → Type 0
+IsOfNetwork config (Waiting w) = ⊥
+IsOfNetwork config (Registered f) = (f.account ≡ config.account) × (f.network ≡ config.network)
+IsOfNetwork config Closed = Unit {0}

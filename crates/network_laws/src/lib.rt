@@ -14,15 +14,25 @@ ghost use Rattle.network_log.specs.NetworkState.{NetworkState};
 ghost use Rattle.network_log.specs.Putting.{AreBrought};
 ghost use Rattle.network_log.specs.Telling.{MayBeTold};
 ghost use Rattle.network_log.specs.declared.origin.Origin.TheVariants.{PeerCame, PeerDialed};
-ghost use Rattle.network_log.specs.Truth.{AreTrue, IsReached};
+ghost use Rattle.network_log.specs.Truth.{AreTrue, IsReached, Leads};
 ghost use Rattle.network_laws.specs.Heard.{IsHeardOverItsConnection, ServerIsHeardOverItsConnection};
-ghost use Rattle.network_laws.specs.LetIn.{HasLoggedIn};
+ghost use Rattle.network_laws.specs.LetIn.{HasLoggedIn, IsOfNetwork};
 ghost use Rattle.network_laws.specs.Once.{AreDifferent, JoinsOnce, comers};
 ghost use Rattle.network_laws.specs.Stranger.{AreOfAPeer, IsGreeted};
 
-use client_session::laws::nobody_enters_without_the_secret;
+use client_session::laws::{
+    each_reaches_its_own_past_alone, nobody_enters_without_the_secret, nothing_follows_close,
+};
 use gossip_link::laws::connections::messages_come_from_peers;
 use node_ports::Connection;
+
+/// A network is one of this node's: the one that its configuration has at that place. Whatever happens to it, it stays that.
+pub fn a_network_is_as_configured<C: Connection>()
+    ensures is { (w : NetworkState) → IsReached C.facts w
+        → slice_get C.facts.accounts.networks w.place ≡ Some w.config }
+    ensures stays { (old new : NetworkState) → Leads C.facts old new
+        → (new.place ≡ old.place) × (new.config ≡ old.config) }
+{}
 
 /// Where a connection joins a network once, none comes twice: to whatever a network came, in no true log from there on is the
 /// connection of a client or a server the one of an earlier client or server.
@@ -48,6 +58,17 @@ pub fn a_client_is_let_in_by_its_secret<C: Connection>()
         → HasLoggedIn C.facts w.config g }
 {
     nobody_enters_without_the_secret();
+}
+
+/// A client stays in the network that it was let in to: its session is registered with the account and the network that this node's
+/// configuration has there, until it is closed. So all that it hears, asks and puts is of these.
+pub fn a_client_stays_in_its_network<C: Connection>()
+    ensures { (w : NetworkState) (place : ℕ) (g : Guest)
+        → IsReached C.facts w → slice_get w.guests place ≡ Some g
+        → IsOfNetwork w.config g.session }
+{
+    each_reaches_its_own_past_alone();
+    nothing_follows_close();
 }
 
 /// The server of a network is heard over its own connection alone, which was dialed for that network: of the lines that came over
