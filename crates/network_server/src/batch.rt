@@ -167,7 +167,8 @@ impl Batch {
 
     /// What is to be told, in order, each change in its place.
     pub fn parts(&self) -> &[BatchPart]
-        ensures { entries result.now (changes_of self.now) ≡ self.now }
+        ensures entries { entries result.now (changes_of self.now) ≡ self.now }
+        ensures agree { posted_count result.now ≡ length (changes_of self.now) }
     {
         self.parts.as_slice()
     }

@@ -16,5 +16,5 @@ mod standing;
 
 pub use batch::{Batch, BatchPart};
 pub use opening::Site;
-pub use retry::Retry;
+pub use retry::{RETRY, Retry};
 pub use server::{HearFault, Hearing, Loss, SayFault, Server};

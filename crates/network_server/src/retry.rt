@@ -6,7 +6,7 @@ ghost use Rattle.network_server.specs.declared.retry.TheConstants.{RETRY};
 use std::marker::Model;
 
 /// So many milliseconds after a connection ended, or could not be made, the server is dialed again.
-const RETRY: u64 = 60_000;
+pub const RETRY: u64 = 60_000;
 
 /// When a network's server is dialed: at once at first, and some time after each connection that ended or could not be made.
 /// Contracts see that moment, in milliseconds, or that there is none: a connection is there, or is being made.
