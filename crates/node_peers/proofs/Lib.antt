@@ -1,3 +1,4 @@
 mod LinkLemmas
 mod ServedLemmas
+mod TableLemmas
 mod TalkLemmas

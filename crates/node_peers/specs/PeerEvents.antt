@@ -22,12 +22,13 @@ pub record IsHeard (facts : NodeFacts) (now : ℕ) (old new : PeerState) : Type 
     talk = after_step (step facts.terms old.talk.session line) now old.talk;
   }
 
--- It is lost: nothing is said any more, and nothing was that isn't owed or sent.
+-- It is lost: nothing is said any more, and nothing was that isn't owed or sent. The peer that was noted still is.
 pub record IsLost (old new : PeerState) : Type 0 where
   pub has_loss : is_some new.loss ≡ true
   pub received : new.received ≡ old.received
   pub sent : new.sent ≡ old.sent
   pub owed : new.talk.owed ≡ old.talk.owed
+  pub noted : new.talk.noted ≡ old.talk.noted
 
 -- The first bytes of what was owed went out, or none, and nothing else changed. Where the other node is gone it is lost.
 pub record IsSent (old new : PeerState) : Type 0 where

@@ -95,6 +95,11 @@ IsAdvanced facts now old new =
     (pace.is_due old.session.pace ≡ false → new ≡ old)
     × (pace.is_due old.session.pace ≡ true → IsMade facts now old new)
 
+-- It ended, for want of memory or because of a line: what was owed still is, and so is the peer that was noted.
+pub record IsEnded (old new : Talk) : Type 0 where
+  pub owed : new.owed ≡ old.owed
+  pub noted : new.noted ≡ old.noted
+
 -- the own hello is said again to the peer at that place
 abbrev pub repeating : Terms → ℕ → ℕ → Talk → Talk
 repeating terms place now t = saying (own_hello terms place) now t

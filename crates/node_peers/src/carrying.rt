@@ -68,7 +68,7 @@ impl Dialogue {
             spec.IsCarriedOut N.Connection.facts link.old carried.message carried.outcome
             turn.now.at self.old self.new)) }
         ensures name { spec.IsSameTie link.old link.new }
-        ensures err { OnErr result (self.new.owed ≡ self.old.owed) }
+        ensures err { OnErr result (spec.IsEnded self.old self.new) }
     {
         let Heard::Message(_, arrived) = &self.brought else {
             return Ok(None);

@@ -128,7 +128,7 @@ impl Dialogue {
         ensures heard { OnOk result (AfterBytes turn.now.terms.now self.old.session
             (option_map deref bytes.entry) (λ step. (is_close step.heard ≡ false)
             × (self.new ≡ spec.after_step step turn.now.at self.old))) }
-        ensures err { OnErr result (self.new.owed ≡ self.old.owed) }
+        ensures err { OnErr result (spec.IsEnded self.old self.new) }
     {
         room.clear();
         let Ok(heard) = self.session.hear(turn.alloc, turn.terms, bytes, room) else {
@@ -251,7 +251,7 @@ impl Dialogue {
     ) -> Result<(), Loss>
         ensures said { OnOk result
             (self.new ≡ spec.repeating turn.now.terms.now place turn.now.at self.old) }
-        ensures err { OnErr result (self.new.owed ≡ self.old.owed) }
+        ensures err { OnErr result (spec.IsEnded self.old self.new) }
     {
         room.clear();
         let Ok(()) = say_hello_again(turn.terms, place, room) else {
@@ -269,7 +269,7 @@ impl Dialogue {
     ) -> Result<(), Loss>
         ensures said { OnOk result
             (self.new ≡ spec.reminding turn.now.terms.now.me life.now turn.now.at self.old) }
-        ensures err { OnErr result (self.new.owed ≡ self.old.owed) }
+        ensures err { OnErr result (spec.IsEnded self.old self.new) }
     {
         room.clear();
         let Ok(()) = acknowledge_nothing(turn, life, room) else {

@@ -25,7 +25,7 @@ impl Dialogue {
         ensures made { OnOk result
             (spec.IsAdvanced N.Connection.facts turn.now.at self.old self.new) }
         ensures name { spec.IsSameTie link.old link.new }
-        ensures err { OnErr result (self.new.owed ≡ self.old.owed) }
+        ensures err { OnErr result (spec.IsEnded self.old self.new) }
     {
         room.clear();
         let mut source = NodeSource { pass };

@@ -9,7 +9,7 @@ ghost use Rattle.node_ports.specs.declared.pending.ReceiveFault.TheVariants as u
 ghost use Rattle.node_peers.specs.PeerEvents.{IsHeard, IsLost};
 ghost use Rattle.node_peers.specs.PeerState.{new_peer, origin_of, talked, with_received};
 ghost use Rattle.node_peers.specs.Served.{IsConfigured, IsHeardSo};
-ghost use Rattle.node_peers.specs.Talk.{IsAdvanced, IsCarriedOut, at_pace, noting};
+ghost use Rattle.node_peers.specs.Talk.{IsAdvanced, IsCarriedOut, IsEnded, at_pace, noting};
 ghost use Rattle.node_peers.specs.declared.sending.TheConstants.{MOST_OWED};
 ghost use Rattle.node_peers.specs.declared.peer.Hearing.TheVariants as hearing;
 
@@ -93,8 +93,7 @@ fn hear_next<C: Connection>(
     ensures unheard { IfNone result ((dialogue.new ≡ dialogue.old) × (input.new ≡ input.old)) }
     ensures heard { IfSome result (λ answer. OnOk answer (IsHeardSo turn.now.terms.now turn.now.at
         input.old input.new dialogue.old dialogue.new)) }
-    ensures err { IfSome result (λ answer. OnErr answer
-        (dialogue.new.owed ≡ dialogue.old.owed)) }
+    ensures err { IfSome result (λ answer. OnErr answer (IsEnded dialogue.old dialogue.new)) }
 {
     let heard = match input.next_line() {
         Next::Line(bytes) => dialogue.hear(turn, Some(bytes), room),

@@ -44,6 +44,7 @@ impl<C: Connection> Peer<C> {
             → self.old.talk.said_at + HELLO_AGAIN ≤ turn.now.at
             → self.new ≡ talked (repeating C.facts.terms place turn.now.at self.old.talk) self.old }
         ensures early { turn.now.at < self.old.talk.said_at + HELLO_AGAIN → self.new ≡ self.old }
+        ensures noted { self.new.talk.noted ≡ self.old.talk.noted }
         ensures stranger { self.old.talk.noted ≡ None → self.new ≡ self.old }
         ensures lost { is_some self.new.loss ≡ true → IsLost self.old self.new }
     {
