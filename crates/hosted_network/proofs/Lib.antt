@@ -1,0 +1,12 @@
+mod LogLemmas
+mod ServerLemmas
+mod GuestLemmas
+mod TellingLemmas
+mod PuttingLemmas
+mod WrittenLemmas
+mod StandingLemmas
+mod ArrivingLemmas
+mod HearingLemmas
+mod InformingLemmas
+mod MarkingLemmas
+mod PutMarkLemmas

@@ -1,0 +1,9 @@
+use Rattle.std.proofs.Common.{ap}
+use Rattle.std.proofs.Math.Logic.{∥∥₁_map}
+use Rattle.hosted_network.specs.Parts.{host_of}
+use Rattle.hosted_network.proofs.ServerLemmas.{to_server}
+use Rattle.hosted_network.proofs.parts.NetworkParts.server_sends.Goals as goal
+
+pub send-requires : goal.send-requires
+send-requires g c =
+    ∥∥₁_map c.requires (to_server c.a_server_is_heard_over_its_own_connection.ensures c.self.view_is (ap host_of c.in-Some.is))

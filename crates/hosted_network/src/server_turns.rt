@@ -1,0 +1,268 @@
+//! The turns of a network's server.
+ghost use Rattle.std.specs.Prelude.{◌≡◌, ◌≢◌, ℕ, List, None, [], true, false, is_some, not};
+ghost use Rattle.network_log.specs.Log.{ServerComes, ServerGets, run, step, without_server};
+ghost use Rattle.network_log.specs.Truth.{IsReached, Leads};
+ghost use Rattle.network_log.specs.declared.origin.Origin.TheVariants.{NetworkDialed};
+ghost use Rattle.hosted_network.specs.Turns.{events_of, is_over};
+
+use crate::parts::NetworkParts;
+use chat_change::Moment;
+use network_laws::a_server_is_heard_over_its_own_connection;
+use network_server::{HearFault, Hearing, Loss, Server, Site};
+use node_ports::{Connection, Fresh, NetworkView, NodePass};
+
+/// So many lines of a server are taken in one turn: about as many as one read brings, so that what they come to is put, and written to
+/// each client, at once.
+const LINES: usize = 128;
+
+/// What the clocks of a node read.
+#[derive(Clone, Copy)]
+pub struct Clocks {
+    /// The moment (IRCv3 server-time).
+    pub moment: Moment,
+    /// Milliseconds, which only go on.
+    pub now: u64,
+}
+
+/// Why the connection to a server ended.
+#[derive(Clone, Copy, Debug, PartialEq, Eq)]
+pub enum Ending {
+    /// The connection is lost, or the session is over.
+    Lost(Loss),
+    /// There was no memory for what a line comes to, or the node didn't take all of it.
+    NoMemory,
+}
+
+/// What a step of a server's turn came to.
+#[derive(Clone, Copy, PartialEq, Eq)]
+pub(crate) enum Step {
+    /// There may be more to do.
+    Again,
+    /// There is nothing more for now.
+    Rest,
+    /// The connection is to be ended.
+    Over(Ending),
+}
+
+impl<'a, C: Connection, V: NetworkView> NetworkParts<'a, C, V> {
+    /// The connection to the server is closed, if one is there.
+    pub(crate) fn server_goes(&mut self)
+        ensures { self.new ≡ without_server self.old.server self.old }
+    {
+        let Some(server) = self.server.take() else {
+            return;
+        };
+        self.ended = Some(server.end());
+    }
+
+    /// A connection is there that was dialed for this network's server, in place of the one before. False for want of memory: it is
+    /// let go.
+    pub(crate) fn server_comes(&mut self, fresh: Fresh<C>, now: u64) -> bool
+        requires { C.origin fresh.connection ≡ NetworkDialed self.old.place }
+        ensures comes { result ≡ true → self.new ≡ step C.facts
+            (ServerComes (C.serial fresh.connection)) (without_server self.old.server self.old) }
+        ensures none { result ≡ false → self.new ≡ without_server self.old.server self.old }
+        ensures leads { ∥ Leads C.facts self.old self.new ∥₁ }
+    {
+        self.server_goes();
+        self.server_begins(fresh, now)
+    }
+
+    // The same where none is there.
+    fn server_begins(&mut self, fresh: Fresh<C>, now: u64) -> bool
+        requires origin { C.origin fresh.connection ≡ NetworkDialed self.old.place }
+        requires none { self.old.server ≡ None }
+        ensures comes { result ≡ true → self.new ≡ step C.facts
+            (ServerComes (C.serial fresh.connection)) self.old }
+        ensures none { result ≡ false → self.new ≡ self.old }
+        ensures leads { ∥ Leads C.facts self.old self.new ∥₁ }
+    {
+        let Some(joins) = self.joins.checked_add(1) else {
+            return false;
+        };
+        let site = Site {
+            place: self.view.place(),
+            config: self.config,
+            me: self.me,
+        };
+        let first = self.serial();
+        let Ok(server) = Server::new(self.alloc, &site, first, self.joins, now, fresh) else {
+            return false;
+        };
+        self.joins = joins;
+        self.server = Some(server);
+        true
+    }
+
+    // Takes in bytes that come over the server's connection. False where none is there.
+    fn server_reads(&mut self, chunk: &mut [u8], now: u64) -> bool
+        ensures got { result ≡ true → (bytes : List ℕ)
+            × (self.new ≡ step C.facts (ServerGets bytes) self.old) }
+        ensures none { result ≡ false → self.new ≡ self.old }
+        ensures leads { ∥ Leads C.facts self.old self.new ∥₁ }
+    {
+        let Some(server) = &mut self.server else {
+            return false;
+        };
+        let Ok(_) = server.receive(chunk, now) else {
+            return false;
+        };
+        true
+    }
+
+    // What came of the server's lines is let go: nobody is told, nothing is put, and the connection is closed.
+    pub(crate) fn lose(&mut self)
+        ensures { self.new ≡ without_server self.old.server (record self.old { batch = [] }) }
+    {
+        self.batch.clear();
+        self.server_goes();
+    }
+
+    // Its session hears the server's next line.
+    fn server_hears(&mut self, moment: Moment) -> Result<Hearing, HearFault>
+        requires { ∥ C.facts.clock moment ∥₁ }
+        ensures heard { self.new ≡ run C.facts (events_of moment result) self.old }
+        ensures leads { ∥ Leads C.facts self.old self.new ∥₁ }
+    {
+        let Some(server) = &mut self.server else {
+            return Ok(Hearing::More);
+        };
+        let heard = server.hear(self.alloc, moment, &mut self.batch);
+        if heard == Err(HearFault::Lost) {
+            self.lose();
+        }
+        heard
+    }
+
+    // What is owed to the server goes out, where that is too much.
+    fn make_room(&mut self)
+        requires { ∥ IsReached C.facts self.old ∥₁ }
+        ensures { self.new ≡ self.old }
+    {
+        a_server_is_heard_over_its_own_connection::<C>();
+        let Some(server) = &mut self.server else {
+            return;
+        };
+        server.make_room();
+    }
+
+    // Takes the server's next line, or more bytes where there is none.
+    fn server_step(&mut self, chunk: &mut [u8], clocks: Clocks) -> Step
+        requires clock { ∥ C.facts.clock clocks.moment ∥₁ }
+        requires reached { ∥ IsReached C.facts self.old ∥₁ }
+        ensures { ∥ Leads C.facts self.old self.new ∥₁ }
+    {
+        match self.server_hears(clocks.moment) {
+            Ok(Hearing::Line | Hearing::LeftOut) => Step::Again,
+            Ok(Hearing::Full) => {
+                self.make_room();
+                Step::Again
+            }
+            Ok(Hearing::More) => {
+                if self.server_reads(chunk, clocks.now) {
+                    Step::Again
+                } else {
+                    Step::Rest
+                }
+            }
+            Err(HearFault::Again) => Step::Rest,
+            Err(HearFault::GivenUp | HearFault::Lost) => Step::Over(Ending::NoMemory),
+        }
+    }
+
+    // The same. What came of the lines is put and told once a channel was entered, so that its marker is told as the channel is
+    // (IRCv3 draft/read-marker).
+    fn server_line<N: NodePass<Connection = C, View = V>>(
+        &mut self,
+        pass: &mut N,
+        chunk: &mut [u8],
+        clocks: Clocks,
+    ) -> Step
+        requires clock { ∥ C.facts.clock clocks.moment ∥₁ }
+        requires reached { ∥ IsReached C.facts self.old ∥₁ }
+        ensures { ∥ Leads C.facts self.old self.new ∥₁ }
+    {
+        let step = self.server_step(chunk, clocks);
+        if !self.has_entered() {
+            return step;
+        }
+        self.flush(pass);
+        step
+    }
+
+    // Takes the server's lines, so many at most.
+    fn server_lines<N: NodePass<Connection = C, View = V>>(
+        &mut self,
+        pass: &mut N,
+        chunk: &mut [u8],
+        clocks: Clocks,
+    ) -> Step
+        requires clock { ∥ C.facts.clock clocks.moment ∥₁ }
+        requires reached { ∥ IsReached C.facts self.old ∥₁ }
+        ensures { ∥ Leads C.facts self.old self.new ∥₁ }
+    {
+        // (the clocks themselves would be moved in the loop)
+        let Clocks { moment, now } = clocks;
+        for _ in 0..LINES {
+            let step = self.server_line(pass, chunk, Clocks { moment, now });
+            if step != Step::Again {
+                return step;
+            }
+        }
+        Step::Again
+    }
+
+    /// Sends what is owed to the server, by one write.
+    pub(crate) fn server_sends(&mut self)
+        requires { ∥ IsReached C.facts self.old ∥₁ }
+        ensures { self.new ≡ self.old }
+    {
+        a_server_is_heard_over_its_own_connection::<C>();
+        let Some(server) = &mut self.server else {
+            return;
+        };
+        server.send();
+    }
+
+    // Why the connection to the server is to be ended after such a step, where it is.
+    fn server_ending(&self, step: Step, now: u64) -> Option<Ending>
+        ensures open { result ≡ None → is_over step ≡ false }
+        ensures there { result ≡ None → is_some self.now.server ≡ true }
+    {
+        if let Step::Over(ending) = step {
+            return Some(ending);
+        }
+        let Some(server) = &self.server else {
+            return Some(Ending::NoMemory);
+        };
+        match server.is_over(now) {
+            Some(loss) => Some(Ending::Lost(loss)),
+            None => None,
+        }
+    }
+
+    /// The server has its turn: its lines are heard, what comes of them is put by one call and told, and what is owed to it goes out.
+    /// `Over` where the connection is closed, and where there was none.
+    pub(crate) fn server_turn<N: NodePass<Connection = C, View = V>>(
+        &mut self,
+        pass: &mut N,
+        chunk: &mut [u8],
+        clocks: Clocks,
+    ) -> Step
+        requires clock { ∥ C.facts.clock clocks.moment ∥₁ }
+        requires reached { ∥ IsReached C.facts self.old ∥₁ }
+        ensures leads { ∥ Leads C.facts self.old self.new ∥₁ }
+        ensures put { self.new.batch ≡ [] }
+        ensures over { is_some self.new.server ≡ not (is_over result) }
+    {
+        let now = clocks.now;
+        let step = self.server_lines(pass, chunk, clocks);
+        self.flush(pass);
+        self.server_sends();
+        let Some(ending) = self.server_ending(step, now) else {
+            return step;
+        };
+        self.server_goes();
+        Step::Over(ending)
+    }
+}
