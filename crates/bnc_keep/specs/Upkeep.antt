@@ -1,11 +1,9 @@
 -- When the file is written anew. Moments are milliseconds.
-use Rattle.std.specs.Prelude.{ℕ, ◌+◌, ◌-◌, ◌*◌, ◌^◌, max, min, nat_le, nat_lt, Bool, false, ◌&&◌, ◌||◌, Option, None, Some, if◌then◌else◌}
+use Rattle.std.specs.Prelude.{ℕ, ◌+◌, ◌-◌, ◌*◌, max, nat_le, nat_lt, Bool, false, ◌&&◌, ◌||◌, Option, None, Some, if◌then◌else◌}
+use Rattle.keeper.specs.Found.{capped}
+use Rattle.keeper.specs.declared.found.Count.{Count}
 use Rattle.bnc_keep.specs.declared.upkeep.Upkeep.{Upkeep}
 use Rattle.bnc_keep.specs.declared.upkeep.TheConstants.{SMALL, SOON, LATER, FLOOR, LEAST, APART}
-
--- sums and products end at the greatest number of 64 bits
-abbrev capped : ℕ → ℕ
-capped n = min n (2 ^ 64 - 1)
 
 -- so many milliseconds have passed since that moment, if there was one
 abbrev pub has_passed : Option ℕ → ℕ → ℕ → Bool
@@ -16,6 +14,17 @@ has_passed (Some since) now wait = nat_le wait (now - since)
 abbrev pub first : Option ℕ → Bool → ℕ → Option ℕ
 first None is_so now = if is_so then Some now else None
 first (Some before) is_so now = Some before
+
+-- Of a file with so many changes, and a state with so many pieces: where some changes take others away, these may still be there.
+abbrev pub found : Count → ℕ → ℕ → ℕ → Upkeep
+found count front pieces now = record {
+  changes = count.changes;
+  front = front;
+  pieces = pieces;
+  redacted_at = first None (nat_lt 0 count.removals && nat_lt pieces count.changes) now;
+  floored_at = None;
+  not_before = 0;
+}
 
 -- how long the text of a redacted message stays in a file of so many bytes before it is written anew
 abbrev pub patience : ℕ → ℕ

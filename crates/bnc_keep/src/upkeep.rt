@@ -96,7 +96,9 @@ fn puts_a_floor(state: &State, changes: &[Change]) -> bool {
 impl Upkeep {
     /// Of a file that was read at that moment, with so many changes, and of a state with that front and so many pieces. Where
     /// some of the changes take others away, what they took away may still be in the file.
-    pub(crate) fn new(count: Count, front: u64, pieces: u64, now: u64) -> Upkeep {
+    pub(crate) fn new(count: Count, front: u64, pieces: u64, now: u64) -> Upkeep
+        ensures { result ≡ spec.found count front pieces now }
+    {
         let is_left = count.removals > 0 && count.changes > pieces;
         Upkeep {
             changes: count.changes,

@@ -140,6 +140,9 @@ impl<S: Source> PastReader<S> {
         ensures next { IfOk result (λ next. IfSome next (λ more. (past : Past)
             → IsReadingPast S.got self.old past
             → (n : ℕ) × IsReadingPast S.got self.new (with_life (with_changes past more.items) n))) }
+        // It has gone on by a block.
+        ensures on { IfOk result (λ next. IfSome next (λ _.
+            self.old.blocks.end < self.new.blocks.end)) }
         // All has been read.
         ensures last { IfOk result (λ next. IsNone next → (past : Past)
             → IsReadingPast S.got self.old past

@@ -1,10 +1,11 @@
 //! Writing the pieces of a state into a new file.
-ghost use Rattle.std.specs.Prelude.{◌≡◌, ◌<◌, ◌≤◌, ℕ, List, true, OnOk, IsErrOf};
+ghost use Rattle.std.specs.Prelude.{◌≡◌, ◌<◌, ◌≤◌, ℕ, List, true, length, IfOk, OnOk, IsErrOf};
 ghost use Rattle.block_file.specs.Device.{LeavesOnly};
 ghost use Rattle.chat_change.specs.declared.change.Change.{Change as Piece};
 ghost use Rattle.chat_change.specs.Words.{is_name};
 ghost use Rattle.chat_history.specs.StateValue.{state_after};
 ghost use Rattle.history_file.specs.Changes.{Past, HasPast, IsKept, IsCopied};
+ghost use Rattle.keeper.specs.Found.{capped};
 ghost use Rattle.keeper.specs.Keeper.{ArePieces, only};
 
 use chat_state::{State, delta_since};
@@ -21,10 +22,10 @@ pub(crate) fn copy_pieces<D: Device>(
     life: u64,
 ) -> Result<u64, FileFault>
     requires node { is_name node.now ≡ true }
-    ensures copied { OnOk result ((start : ℕ) (list : List Piece)
+    ensures copied { IfOk result (λ count. (start : ℕ) (list : List Piece)
         → state.now ≡ state_after start list
         → (pieces : List Piece) × IsCopied D.side file.new (only pieces life)
-        × ArePieces list pieces) }
+        × ArePieces list pieces × (count ≡ capped (length pieces))) }
     ensures some { OnOk result ((pieces : List Piece)
         × IsCopied D.side file.new (only pieces life)) }
     ensures kept { (past : Past) → IsKept D.seen D.may_leave file.old past

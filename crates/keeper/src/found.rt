@@ -1,4 +1,7 @@
 //! What is found in a file when it is read.
+ghost use Rattle.std.specs.Prelude.{◌≡◌, []};
+ghost use Rattle.keeper.specs.Found as spec;
+
 use chat_change::Change;
 use chat_state::State;
 use history_file::FileFault;
@@ -13,7 +16,9 @@ pub struct Count {
 }
 
 /// Whether a change takes something away.
-pub fn is_removal(change: &Change) -> bool {
+pub fn is_removal(change: &Change) -> bool
+    ensures { result ≡ spec.is_removal change.now }
+{
     match change {
         Change::Redact { .. } | Change::Floor { .. } | Change::AccountFloor { .. } => true,
         Change::Post(_) | Change::Mark { .. } => false,
@@ -22,7 +27,9 @@ pub fn is_removal(change: &Change) -> bool {
 
 impl Count {
     /// Of a file with no changes.
-    pub(crate) fn new() -> Count {
+    pub(crate) fn new() -> Count
+        ensures { result ≡ spec.count_of [] }
+    {
         Count {
             changes: 0,
             removals: 0,
@@ -30,15 +37,14 @@ impl Count {
     }
 
     /// With some more changes.
-    pub(crate) fn with(self, changes: &[Change]) -> Count {
-        let mut count = self;
-        for change in changes {
-            count.changes = count.changes.saturating_add(1);
-            if is_removal(change) {
-                count.removals = count.removals.saturating_add(1);
-            }
+    pub(crate) fn with(self, changes: &[Change]) -> Count
+        ensures { result ≡ spec.with_more self changes.now }
+    {
+        let removals = changes.iter().filter(|change| is_removal(change)).count();
+        Count {
+            changes: self.changes.saturating_add(changes.len() as u64),
+            removals: self.removals.saturating_add(removals as u64),
         }
-        count
     }
 }
 

@@ -1,11 +1,11 @@
 //! A file of changes and a state.
-ghost use Rattle.std.specs.Prelude.{◌≡◌, ◌⊎◌, ◌<◌, ◌≤◌, ◌^◌, ◌++◌, ℕ, List, [], true, take, IfOk, IfErr, OnOk, OnErr, IsErrOf};
+ghost use Rattle.std.specs.Prelude.{◌≡◌, ◌⊎◌, ◌<◌, ◌≤◌, ◌+◌, ◌^◌, ◌++◌, ℕ, List, [], true, max, take, length, IfOk, IfErr, OnOk, OnErr, IsErrOf};
 ghost use Rattle.block_file.specs.Device.{Only, LeavesOnly};
 ghost use Rattle.chat_change.specs.declared.change.Change.{Change as Piece};
 ghost use Rattle.chat_history.specs.Numbering.{delta};
 ghost use Rattle.history_file.specs.Changes.{IsKept};
 ghost use Rattle.history_file.specs.Lives.{most};
-ghost use Rattle.keeper.specs.Found.{IsFound};
+ghost use Rattle.keeper.specs.Found.{IsFound, capped};
 ghost use Rattle.keeper.specs.Keeper.{Says, Covers, IsCovering, HasTaken, ArePieces, only};
 ghost use Rattle.chat_change.specs.Words.{is_name};
 
@@ -85,14 +85,14 @@ impl<D: Device> Keeper<D> {
         self.life
     }
 
-    /// Begins a life, above each that the file knows and not below the clock's milliseconds. At `Ok` it is on the disk, and may
-    /// be said to others. At `Err` the file may no longer be open.
+    /// Begins a life: its number is the clock's milliseconds, or the next one above all that the file knows, whichever is
+    /// greater. At `Ok` it is on the disk, and may be said to others. At `Err` the file may no longer be open.
     pub fn begin_life(&mut self, alloc: Global, node: &[u8], clock: u64) -> Result<u64, FileFault>
         requires open { self.old.is_open ≡ true }
         requires node { is_name node.now ≡ true }
 
         ensures above { IfOk result (λ n. self.old.life < n) }
-        ensures clock { IfOk result (λ n. clock ≤ n) }
+        ensures number { IfOk result (λ n. n ≡ max clock (self.old.life + 1)) }
         ensures life { IfOk result (λ n. self.new.life ≡ n) }
         ensures same { OnErr result (self.new.life ≡ self.old.life) }
         ensures open { OnOk result (self.new.is_open ≡ true) }
@@ -145,11 +145,11 @@ impl<D: Device> Keeper<D> {
             → LeavesOnly D.moment D.left_since self.old.file.journal.device
             self.new.file.journal.device (Covers list self.old.life) }
 
-        ensures pieces { OnOk result ((start : ℕ) (list : List Piece)
+        ensures pieces { IfOk result (λ count. (start : ℕ) (list : List Piece)
             → HasTaken D.seen D.may_leave self.old start list
             → (pieces : List Piece) × IsKept D.seen D.may_leave self.new.file (only pieces
             self.old.life)
-            × ArePieces list pieces) }
+            × ArePieces list pieces × (count ≡ capped (length pieces))) }
         ensures life { self.new.life ≡ self.old.life }
         ensures open { OnOk result (self.new.is_open ≡ true) }
 

@@ -4,8 +4,8 @@ use Rattle.chat_change.specs.declared.change.Change.{Change}
 use Rattle.chat_history.specs.StateValue.{state_after}
 use Rattle.history_file.specs.Changes.{Past, with_changes, with_life}
 use Rattle.history_file.specs.Reading.{IsReadingPast, HasDamage}
-use Rattle.keeper.specs.Found.{HasNoEntryAt}
-use Rattle.keeper.proofs.FoundLemmas.{left_behind, from_source, no_entry_at}
+use Rattle.keeper.specs.Found.{HasNoEntryAt, with_more}
+use Rattle.keeper.proofs.FoundLemmas.{left_behind, from_source, no_entry_at, counted_on}
 use Rattle.keeper.proofs.reading.read.Goals as goal
 
 pub returns-in-None-clause-found : goal.returns-in-None-clause-found
@@ -17,7 +17,7 @@ returns-in-None-clause-found g c =
     let left : c.saturating_sub-left.result ≡ length (drop new.end (g.S.Source.got new.source)) =
     omega (arith, left_behind g.S.Source.got new still.payloads still.reading, c.len.ensures, c.saturating_sub-left.ensures) in
     from_source g.S.Source.got c.source_of-in-None.result new.source c.source_of-in-None.ensures
-    (record { past = now.past; read = done.0; state = now.state; life = done.1; left = left })
+    (record { past = now.past; read = done.0; state = now.state; life = done.1; left = left; count = now.counted })
 
 pub returns-in-Err-clause-refused : goal.returns-in-Err-clause-refused
 returns-in-Err-clause-refused g c = λ is.
@@ -41,4 +41,5 @@ loop-preserved g c =
       past = with_life (with_changes now.past c.in-Some.changes.items) on.0;
       reading = on.1;
       state = c.in-Ok-take.ensures.held c.args.front now.past.changes now.state ∙ ap (λ (l : List Change). state_after c.args.front (now.past.changes ++ l)) c.deref.ensures.value;
+      counted = c.with-count.ensures ∙ ap (λ l. with_more c.loop.count l) c.deref-in-Ok-take.ensures.value ∙ counted_on c.loop.count now.past.changes c.in-Some.changes.items now.counted;
     }

@@ -1,8 +1,9 @@
-use Rattle.std.proofs.Common.{◌≡◌, ℕ, List, true, sym, subst, arith}
+use Rattle.std.proofs.Common.{◌≡◌, ℕ, List, true, sym, subst, arith, length}
 use Rattle.block_file.specs.Device.{LeavesOnly}
 use Rattle.chat_change.specs.declared.change.Change.{Change}
 use Rattle.history_file.proofs.CallerLemmas.{leaves_too}
 use Rattle.history_file.specs.Changes.{IsKept}
+use Rattle.keeper.specs.Found.{capped}
 use Rattle.keeper.specs.Keeper.{KeeperValue, HasTaken, Covers, IsCovering, ArePieces, only}
 use Rattle.keeper.proofs.TakenLemmas.{covering_left, kept_on, pieces_say, either, leaves_on}
 use Rattle.keeper.proofs.keeper.Keeper.compact.Goals as goal
@@ -48,10 +49,10 @@ returns-in-Ok-clause-taken g c = λ start list h.
 pub returns-in-Ok-clause-pieces : goal.returns-in-Ok-clause-pieces
 returns-in-Ok-clause-pieces g c =
     subst (λ (v : KeeperValue g.row.D.Denot). (start : ℕ) (list : List Change) → HasTaken g.D.Device.seen g.D.Device.may_leave v start list
-    → (pieces : List Change) × IsKept g.D.Device.seen g.D.Device.may_leave c.end_copy.new.self (only pieces v.life) × ArePieces list pieces) c.self.view_is
+    → (pieces : List Change) × IsKept g.D.Device.seen g.D.Device.may_leave c.end_copy.new.self (only pieces v.life) × ArePieces list pieces × (c.in_ok-count.count ≡ capped (length pieces))) c.self.view_is
     (λ start list own.
     let p = c.in_ok-count.ensures.copied start list own.state in
-    (p.0, c.in-Ok.ensures.replaced (only p.0 c.self.inside.life) p.1, p.2))
+    (p.0, c.in-Ok.ensures.replaced (only p.0 c.self.inside.life) p.1, p.2, p.3))
 
 pub returns-in-Ok-clause-any_moment : goal.returns-in-Ok-clause-any_moment
 returns-in-Ok-clause-any_moment g c =
