@@ -7,10 +7,11 @@ import time
 
 from harness.clocks import Clocks
 from harness.failure import Failed, expect
+from harness.keeper import Keeper, PlayedNode, payloads_of
 from harness.node import Node
 from harness.peer import Peer
 from harness.readable import readable
-from harness.registry import test
+from harness.registry import add, test
 from harness.server import Server
 
 NOBODY = ("127.0.0.1", 1)
@@ -341,3 +342,80 @@ def connections_that_are_closed_for_want_of_memory_are_counted(fixture):
     line = "out of memory: 3 connections were closed within a minute"
     fixture.until(f"'{line}' is told", lambda: line in [it.partition(" ")[2] for it in node.log()] or node.is_over())
     node.client("one that comes later").register()
+
+
+# ---- a keeper
+
+POSTS = ("C POST demo net #a m1 1000 P #a bob!b@h :hi", "C POST demo net #a m2 2000 P #a bob!b@h :hi")
+# A file that was let go is opened again after a minute.
+REOPENED = 61
+
+
+def came_of(keeper, played):
+    """What came of a packet for a keeper: it was acknowledged, or the connection was closed, or the file was let go."""
+    end = time.monotonic() + keeper.fixture.patience()
+    while time.monotonic() < end:
+        if keeper.told("not kept: "):
+            return "file let go"
+        if not readable([played.socket], 0.01):
+            continue
+        try:
+            played.step()
+        except Failed:
+            return "closed"
+        if played.acknowledged:
+            return "acknowledged"
+    raise Failed("a packet isn't acknowledged, the connection stays, and the file isn't let go")
+
+
+def kept(fixture, passed, refused):
+    """What comes of a packet of a message for a keeper, while so many requests in a row are refused behind so many. None where
+    fewer are made. In the end it is acknowledged, and stands in the file once."""
+    refusals, node = Refusals(fixture), PlayedNode(fixture)
+    keeper = Keeper(fixture, [node.peer], front=refusals.front)
+    fixture.logs.pop()
+    keeper.write(["L 0keep 5"], POSTS[:1])
+    keeper.begin()
+    played = node.meet()
+    played.hear_changes(POSTS[0])
+    keeper.wait_for("peer greeted: ")
+    refusals.set(passed, refused)
+    played.give(0, POSTS[1])
+    came = came_of(keeper, played)
+    was_refused = refusals.end()
+    if came == "file let go":
+        refusals.clocks.skip(REOPENED)
+        keeper.wait_for("file open again: ")
+    if came != "acknowledged":
+        played.close()
+        node.keep(POSTS[1])
+    keeper.kill()
+    changes = b"".join(payloads_of(keeper.data())).decode().split("\r\n")
+    expect(f"how often each message stands in the file, with {refused} refused behind {passed}", [1, 1], list(map(changes.count, POSTS)))
+    return came if was_refused else None
+
+
+# (each test has as many places as its time allows)
+PARTS = 4
+
+
+def packets_for_a_keeper(part):
+    def call(fixture):
+        """Some requests in a row are refused, at each place in turn. What a node brings is acknowledged, or the connection is closed,
+        or the file is let go; and then it is kept when it comes again."""
+        counts = {}
+        for refused in (1, 3):
+            for passed in range(part, REQUESTS, PARTS):
+                came = kept(fixture, passed, refused)
+                if not came:
+                    break
+                counts[came] = counts.get(came, 0) + 1
+        if not counts:
+            raise Failed("no request for memory was refused: is the program built with a sanitizer, which has its own malloc?")
+        fixture.notes.append(", ".join(f"{count} {what}" for what, count in sorted(counts.items())))
+
+    add(f"again: what a node brings a keeper is kept though memory was short, {part + 1} of {PARTS}", call)
+
+
+for part in range(PARTS):
+    packets_for_a_keeper(part)

@@ -8,7 +8,8 @@ import time
 from harness import processes
 from harness.client import Client, greeting, page
 from harness.configurations import contents
-from harness.failure import Failed
+from harness.failure import Failed, expect
+from harness.keeper import CLOSED, NOWHERE, Keeper, payloads_of
 from harness.node import Node
 from harness.readable import readable
 from harness.refusals import Refusals
@@ -133,25 +134,77 @@ def until_it_listens(fixture, process):
 add("memory: the start of a node", starts)
 
 
-def refuses(fixture):
-    """A test of `bnc serve` with a configuration that is refused: as a request for memory is refused too, the refusal is told
-    whole, with the name of the entry, or the program ends with status 3."""
-    refusals = Refusals.of(fixture)
-    path = fixture.write("bnc.toml", contents("example").replace(b"127.0.0.1:7001", b"nowhere"))
+def refuses(text, told, *words, program=lambda: None):
+    """A test of a configuration that is refused: as a request for memory is refused too, the refusal is told whole, with the name
+    of the entry, or the program ends with status 3."""
 
-    def run(number, environment):
-        ran = fixture.run("serve", path, env=environment)
-        if (ran.status, ran.output, ran.errors) == (5, b"", REFUSAL):
-            return "refused by name"
-        if (ran.status, ran.output, ran.errors) == (3, b"", NO_MEMORY):
-            return "ended for want of memory"
-        raise Failed(f"request {number} refused: status {ran.status}, {ran.errors!r}")
+    def call(fixture):
+        refusals, path = Refusals.of(fixture), fixture.write("refused.toml", text)
 
-    fixture.notes.append(refusals.told(refusals.each(run)))
+        def run(number, environment):
+            ran = fixture.run(*words, path, program=program() or fixture.program, env=environment)
+            if (ran.status, ran.output, ran.errors) == (5, b"", told):
+                return "refused by name"
+            if (ran.status, ran.output, ran.errors) == (3, b"", NO_MEMORY):
+                return "ended for want of memory"
+            raise Failed(f"request {number} refused: status {ran.status}, {ran.errors!r}")
+
+        fixture.notes.append(refusals.told(refusals.each(run)))
+
+    return call
 
 
-REFUSAL = b"config refused\npeer 1 (n2), address: an IP address and a port\n"
-add("memory: a configuration that is refused", refuses)
+NOWHERE_TO_DIAL = b"config refused\npeer 1 (n2), address: an IP address and a port\n"
+add("memory: a configuration that is refused",
+    refuses(contents("example").replace(b"127.0.0.1:7001", b"nowhere"), NOWHERE_TO_DIAL, "serve"))
+add("memory: a configuration of a keeper that is refused",
+    refuses(b'node = "0keep"\npeer_word = "green"\nfile = "history"\n[[peer]]\nname = "n2"\naddress = "nowhere"\n', NOWHERE_TO_DIAL,
+            program=lambda: Keeper.program))
+
+
+class Starts:
+    """The starts of a keeper, whose peer isn't there, over a file with a life and two changes."""
+
+    def __init__(self, fixture):
+        self.fixture, self.keeper = fixture, Keeper(fixture, [("n1", NOWHERE)])
+        self.keeper.write(["L 0keep 5"], ["C MARK demo net #a 1", "C AFLOOR demo 1"])
+        self.whole = self.keeper.data()[:-len(CLOSED)]
+
+    def run(self, number, environment):
+        """Starts it anew under these conditions. What it came to: it ended, in the words of docs/OPERATING.md, or goes on, and has
+        tried to reach its peer."""
+        keeper = self.keeper
+        with open(keeper.file, "wb") as file:
+            file.write(self.whole + CLOSED)
+        keeper.forget_log()
+        keeper.front = ["env", *(f"{name}={value}" for name, value in environment.items())]
+        process = keeper.start().process
+        self.fixture.until("it ends, or goes on", lambda: process.poll() is not None or keeper.told("peer unreachable: "))
+        status, told = process.poll(), keeper.log()
+        keeper.kill()
+        self.look()
+        if status is None:
+            return "went on"
+        if (status, told[-1:]) == (3, ["no memory"]) or (status, told[-2:-1]) == (4, ["read or write failed"]):
+            return f"ended with status {status}"
+        raise Failed(f"request {number} refused: status {status}, {told}")
+
+    def look(self):
+        """The file has what it had, and behind that at most the life that was begun."""
+        found = self.keeper.data()
+        expect("how the file begins", self.whole, found[:len(self.whole)])
+        more = payloads_of(found[len(self.whole):])
+        if len(more) > 1 or any(not payload.startswith(b"L 0keep ") for payload in more):
+            raise Failed(f"behind the file stands {more}")
+
+
+def keeper_starts(fixture):
+    """A test of `bnc-keep`: as a request is refused while it begins, it ends with status 3 or 4, or goes on. Nothing is lost."""
+    refusals, starts = Refusals.of(fixture), Starts(fixture)
+    fixture.notes.append(refusals.told(refusals.each(starts.run)))
+
+
+add("memory: the start of a keeper", keeper_starts)
 
 LOGIN = ("CAP REQ :batch draft/chathistory draft/read-marker", "PASS s3cret", "NICK al", "USER demo/net 0 * :Al", "CAP END")
 MARK = "MARKREAD #a timestamp=1970-01-01T00:00:05.000Z"
