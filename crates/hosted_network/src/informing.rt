@@ -63,7 +63,8 @@ impl<'a, C: Connection, V: NetworkView> NetworkParts<'a, C, V> {
     // Each client is told that marker of the target, and it is noted. For want of memory nothing changes.
     fn tell_marker(&mut self, buffer: Buffer, target: Text, at: Moment)
         requires risen { HasRisen self.old buffer at }
-        requires buffer { buffer ≡ buffer_of self.old.config.account self.old.config.network target }
+        requires buffer { buffer
+            ≡ buffer_of self.old.config.account self.old.config.network target }
         requires reached { ∥ IsReached C.facts self.old ∥₁ }
         ensures { ∥ Leads C.facts self.old self.new ∥₁ }
     {

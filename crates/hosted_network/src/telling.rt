@@ -54,7 +54,8 @@ fn tell_client<C: Connection>(
     requires may { (f : Asker) → IsListener shares.old.config.now is_read client.old f
         → ∥ IsToldToClient C.facts client.old.serial client.old.received
         (client.old.told ++ text_for shares.old.told.now client.old f) ∥₁ }
-    ensures heard { HasHeard shares.old.told.now shares.old.config.now is_read client.old client.new }
+    ensures heard { HasHeard shares.old.told.now shares.old.config.now is_read
+        client.old client.new }
     ensures told { shares.new.told.now ≡ shares.old.told.now }
     ensures config { shares.new.config.now ≡ shares.old.config.now }
 {
@@ -109,7 +110,8 @@ impl<'a, C: Connection, V: NetworkView> NetworkParts<'a, C, V> {
     pub(crate) fn tell_all(&mut self, told: &Told<'_>, is_read: bool)
         requires marked { is_read ≡ true → AreMarked self.old.held told.now.mark
             self.old.config.account self.old.config.network (entries_in told.now) }
-        requires may { (place : ℕ) (g : Guest) (f : Asker) → slice_get self.old.guests place ≡ Some g
+        requires may { (place : ℕ) (g : Guest) (f : Asker)
+            → slice_get self.old.guests place ≡ Some g
             → g.is_gone ≡ false → facts_in g.session ≡ Some f
             → ∥ IsToldToClient C.facts g.serial g.received (g.told
             ++ told_to self.old.held f g.nick (entries_in told.now)) ∥₁ }

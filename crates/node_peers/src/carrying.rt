@@ -34,7 +34,8 @@ fn settle<N: NodePass>(
     reply: &mut Vec<u8>,
 ) -> Outcome
     requires { agreed ≡ Taken → ∥ AreBrought N.Connection.facts (changes_of arrived.now) ∥₁ }
-    ensures outcome { (link : Ties) → IsOutcome link arrived.now agreed → IsOutcome link arrived.now result }
+    ensures outcome { (link : Ties) → IsOutcome link arrived.now agreed
+        → IsOutcome link arrived.now result }
     ensures taken { IsTakenSo N.Connection.facts (changes_of arrived.now) result }
     ensures reply { (link : Ties) → reply.old.items ≡ reply_to link arrived.now agreed
         → reply.new.items ≡ reply_to link arrived.now result }

@@ -281,7 +281,8 @@ impl<C: Connection> Peers<C> {
 
     // Who came first of the strangers that aren't to make way.
     fn oldest(&self) -> Option<usize>
-        ensures some { IfSome result (λ number. (seat : Seat) × spec.IsOldest self.now number seat) }
+        ensures some { IfSome result (λ number.
+            (seat : Seat) × spec.IsOldest self.now number seat) }
         ensures none { IfNone result (waiting self.now ≡ 0) }
     {
         let mut first = None;
