@@ -1,3 +1,4 @@
+mod JournalLemmas
 mod LineBufferLemmas
 mod PlaceLemmas
 mod UnreadLemmas

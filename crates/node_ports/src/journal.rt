@@ -1,0 +1,41 @@
+//! What went by, in order. It exists in proofs alone: it takes no memory, and its methods do nothing at run time.
+ghost use Rattle.std.specs.Prelude.{◌≡◌, ◌++◌, ℕ, List, []};
+ghost use Rattle.std.specs.Borrow.{ftrue};
+
+use std::marker::Model;
+
+/// Bytes that went by. A clause reads them as `bytes`.
+#[derive(Drop)]
+pub struct Journal {
+    pub ghost bytes: { List ℕ },
+}
+
+impl Model for Journal {
+    ghost also_owns = { λ _. ftrue };
+}
+
+// It owns nothing.
+unsafe impl Send for Journal {}
+
+/// Further bytes.
+#[derive(Clone, Copy)]
+pub struct Piece<'a> {
+    pub bytes: &'a [u8],
+}
+
+impl Journal {
+    /// Nothing went by.
+    pub fn new() -> Journal
+        ensures { result.bytes ≡ [] }
+    {
+        Journal {}
+    }
+
+    /// These too.
+    #[inline(always)]
+    pub fn then(&self, _piece: &Piece<'_>) -> Journal
+        ensures { result.bytes ≡ self.now.bytes ++ _piece.now.bytes.now }
+    {
+        Journal {}
+    }
+}
