@@ -423,6 +423,11 @@ impl<C: Connection> Server<C> {
         }
     }
 
+    /// Whether it can be sent something at once: something is owed to it, and nothing said that there is no room.
+    pub fn can_send(&self) -> bool {
+        self.loss.is_none() && !self.dialogue.output.is_empty() && self.is_writable
+    }
+
     /// Sends what is owed to it where that is more than the bound, by as many writes as it takes. Where the server doesn't read enough
     /// of it, the connection is lost.
     pub fn make_room(&mut self)
