@@ -1,5 +1,5 @@
 -- A newcomer is let in at a network.
-use Rattle.std.proofs.Common.{◌≡◌, Bool, true, false, ℕ, List, [], ◌∷◌, ◌++◌, Option, None, Some, refl, sym, ap, ◌∙◌, subst}
+use Rattle.std.proofs.Common.{◌≡◌, Bool, true, false, List, [], ◌∷◌, Option, None, Some, refl, ap, ◌∙◌}
 use Rattle.std.specs.Str.{bytes_eq}
 use Rattle.std.proofs.lemmas.Bool.{and_parts}
 use Rattle.std.proofs.lemmas.Slice.Eq.{bytes_eq-Decides}
@@ -16,7 +16,7 @@ use Rattle.client_session.specs.declared.effect.Effect.TheVariants.{Send, Put, A
 use Rattle.network_log.specs.Accounts.{directory_at}
 use Rattle.network_log.specs.Facts.{NodeFacts}
 use Rattle.network_log.specs.Guest.{Guest, GuestEvent, Gets, Hears, Says, Asks, Closes, Offers, Falls, new_guest, next_item, guest_step, guest_run, step_of, after_item, after_step, after_saying, after_asking, after_answer, after_closing, answer_to}
-use Rattle.network_log.specs.Truth.{IsArrived, IsDirectory, IsNewcomer}
+use Rattle.network_log.specs.Truth.{IsArrived, IsNewcomer}
 use Rattle.network_client.specs.Steps.{IsAlikeAt, IsByAccounts, is_at}
 use Rattle.network_client.proofs.NewcomerLemmas.{happens, is_outside, is_sought}
 

@@ -1,5 +1,5 @@
 -- What a client comes to as bytes come or a line is heard.
-use Rattle.std.proofs.Common.{◌≡◌, ℕ, ◌+◌, Bool, true, false, List, [], ◌∷◌, ◌++◌, Option, None, Some, refl, sym, ap, ◌∙◌, subst, rules}
+use Rattle.std.proofs.Common.{◌≡◌, ℕ, ◌+◌, Bool, true, false, List, [], ◌++◌, Option, None, Some, refl, sym, ap, ◌∙◌, subst, rules}
 use Rattle.std.proofs.Props.{props}
 use Rattle.std.specs.Prelude.{◌↔◌, is_none, is_some, IsSome, IsTrue, if◌then◌else◌}
 use Rattle.std.proofs.Math.Logic.{∥∥₁_map, ∥∥₁_elim}

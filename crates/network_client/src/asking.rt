@@ -7,6 +7,7 @@ ghost use Rattle.client_session.specs.Session.{facts_in};
 ghost use Rattle.network_client.specs.Steps as spec;
 
 use crate::client::Client;
+use crate::fall::Fall;
 use chat_past::AskFault;
 use chat_query::Answered;
 use client_session::{Directory, Effect, Session, StepFault};
@@ -90,13 +91,13 @@ impl<C: Connection> Client<C> {
     {
         let Ok(_) = self.input.look() else {
             self.is_gone = true;
-            self.fall();
+            self.fall(Fall::NoMemory);
             return Err(StepFault::NoMemory);
         };
         match shown_ahead(&self.input, &self.session, alloc, pass, view) {
             Ok(shown) => Ok(shown),
             Err(fault) => {
-                self.fall();
+                self.fall(Fall::from(fault));
                 Err(fault)
             }
         }

@@ -6,6 +6,8 @@ ghost use Rattle.client_session.specs.Session.{facts_in};
 ghost use Rattle.network_log.specs.Guest.{fallen};
 ghost use Rattle.network_log.specs.declared.origin.Origin.TheVariants.{ClientCame};
 
+use crate::fall::Fall;
+use crate::port::{Port, PortFault};
 use byte_text::Text;
 use chat_query::Facts;
 use client_places::{Attachment, RingClient};
@@ -30,6 +32,10 @@ pub struct Client<C: Connection> {
     /// The nick that it knows as its own.
     pub(crate) nick: Text,
     pub(crate) is_gone: bool,
+    /// Why it is gone, once it is.
+    pub(crate) why: Option<Fall>,
+    /// Whether there may be room for bytes at its connection.
+    pub(crate) is_writable: bool,
 }
 
 impl<C: Connection> Model for Client<C> {
@@ -76,6 +82,34 @@ impl<C: Connection> Client<C> {
         (self.ring.owed(), &self.connection)
     }
 
+    /// Its place among the clients of the node, which it has until it goes.
+    pub fn place(&self) -> usize {
+        self.ring.place()
+    }
+
+    /// How many bytes it may be owed.
+    pub fn bound(&self) -> usize {
+        self.ring.bound()
+    }
+
+    /// The port tells of its connection under that token from now on.
+    pub(crate) fn watch<P: Port<Connection = C>>(
+        &mut self,
+        port: &mut P,
+        token: usize,
+    ) -> Result<(), PortFault>
+        ensures { self.new ≡ self.old }
+    {
+        port.watch(&mut self.connection, token)
+    }
+
+    /// The port tells no more of its connection.
+    pub(crate) fn unwatch<P: Port<Connection = C>>(&mut self, port: &mut P)
+        ensures { self.new ≡ self.old }
+    {
+        port.unwatch(&mut self.connection);
+    }
+
     /// It joins the network at that place, behind so many others.
     pub fn join(&mut self, place: usize, joins: u64)
         requires { self.old.joined ≡ None }
@@ -106,10 +140,18 @@ impl<C: Connection> Client<C> {
         self.done < self.effects.len()
     }
 
-    /// It is gone from now on: nothing more is read of it, and what waits is let go.
-    pub fn fall(&mut self)
+    /// Why it is gone, if it is.
+    pub fn why(&self) -> Option<Fall> {
+        self.why
+    }
+
+    /// It is gone from now on, for that reason unless it was gone before: nothing more is read of it, and what waits is let go.
+    pub fn fall(&mut self, why: Fall)
         ensures { self.new ≡ fallen self.old }
     {
+        if self.why.is_none() {
+            self.why = Some(why);
+        }
         self.is_gone = true;
         self.done = self.effects.len();
         self.waiting.take(self.waiting.len());

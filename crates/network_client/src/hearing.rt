@@ -9,6 +9,7 @@ ghost use Rattle.network_client.specs.Steps as spec;
 ghost use Rattle.node_ports.specs.Unread.{next_of, without_next};
 
 use crate::client::Client;
+use crate::fall::Fall;
 use crate::naming::{is_for_ahead, place_ahead};
 use byte_text::NoMemory;
 use client_session::{Directory, Effect, Session};
@@ -43,11 +44,14 @@ fn next_effects(
 }
 
 impl<C: Connection> Client<C> {
-    /// What the port tells of its connection: bytes may be there.
-    pub fn mark_readable(&mut self)
+    /// What the port tells of its connection: bytes may be there, or room for bytes.
+    pub fn mark(&mut self, is_readable: bool, is_writable: bool)
         ensures { self.new ≡ self.old }
     {
-        self.input.mark_readable();
+        self.is_writable |= is_writable;
+        if is_readable {
+            self.input.mark_readable();
+        }
     }
 
     /// Takes in what comes over its connection. It is gone where there is no memory for that.
@@ -62,7 +66,7 @@ impl<C: Connection> Client<C> {
             return filled;
         };
         self.is_gone = true;
-        self.fall();
+        self.fall(Fall::NoMemory);
         filled
     }
 
@@ -83,7 +87,7 @@ impl<C: Connection> Client<C> {
             Ok(is_there) => is_there,
             Err(NoMemory) => {
                 self.is_gone = true;
-                self.fall();
+                self.fall(Fall::NoMemory);
                 false
             }
         }
@@ -100,7 +104,7 @@ impl<C: Connection> Client<C> {
     {
         let Ok(_) = self.input.look() else {
             self.is_gone = true;
-            self.fall();
+            self.fall(Fall::NoMemory);
             return Err(NoMemory);
         };
         Ok(place_ahead(accounts, &self.input))
@@ -117,7 +121,7 @@ impl<C: Connection> Client<C> {
     {
         let Ok(_) = self.input.look() else {
             self.is_gone = true;
-            self.fall();
+            self.fall(Fall::NoMemory);
             return Err(NoMemory);
         };
         Ok(is_for_ahead(config, &self.session, &self.input))
@@ -142,12 +146,12 @@ impl<C: Connection> Client<C> {
         self.recycle(alloc);
         let was_outside = self.session.facts().is_none();
         let Some(heard) = self.heard.checked_add(1) else {
-            self.fall();
+            self.fall(Fall::NoMemory);
             return Err(NoMemory);
         };
         let Ok(_) = self.input.look() else {
             self.is_gone = true;
-            self.fall();
+            self.fall(Fall::NoMemory);
             return Err(NoMemory);
         };
         match next_effects(&mut self.input, &mut self.session, alloc, directory, shown) {
@@ -161,7 +165,7 @@ impl<C: Connection> Client<C> {
             }
             Err(NoMemory) => {
                 self.is_gone = true;
-                self.fall();
+                self.fall(Fall::NoMemory);
                 Err(NoMemory)
             }
         }
@@ -190,7 +194,7 @@ impl<C: Connection> Client<C> {
             return Ok(());
         }
         if self.learn_nick(alloc).is_err() {
-            self.fall();
+            self.fall(Fall::NoMemory);
             return Err(NoMemory);
         }
         Ok(())
@@ -237,7 +241,7 @@ impl<C: Connection> Client<C> {
     {
         while self.says() {
             if self.say().is_err() {
-                self.fall();
+                self.fall(Fall::NoMemory);
                 return Err(NoMemory);
             }
         }

@@ -7,12 +7,18 @@
 
 mod asking;
 mod client;
+mod fall;
 mod hearing;
+mod mail;
 mod naming;
 mod newcomer;
+mod port;
 mod ring;
 mod telling;
 
 pub use client::Client;
+pub use fall::Fall;
+pub use mail::{Coming, Mail, Move};
 pub use newcomer::{Arrival, Gone, Newcomer};
 pub use node_ports::{Feeders, Filled};
+pub use port::{Dial, Happening, Port, PortFault};

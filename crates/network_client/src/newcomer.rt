@@ -10,10 +10,12 @@ ghost use Rattle.network_client.specs.Naming.{is_for_item, place_in_item};
 ghost use Rattle.network_client.specs.Steps as spec;
 
 use crate::client::Client;
+use crate::fall::Fall;
+use crate::port::{Port, PortFault};
 use byte_text::{NoMemory, Text};
 use chat_query::Facts;
 use client_places::{Overrun, RingClient};
-use client_session::{Directory, Session};
+use client_session::{Directory, Effect, Session};
 use cluster_directory::SessionConfig;
 use node_ports::{Accounts, Connection, Feeders, Filled, Fresh, Halt, Input, Pending};
 use std::alloc::Global;
@@ -43,6 +45,11 @@ pub struct Arrival<C: Connection> {
     pub newcomer: Newcomer<C>,
     pub ghost is_named: { place_in_item C.facts.accounts
         (next_item newcomer.received newcomer.heard) ≡ Some network },
+}
+
+// Whether a line came to this: the session is closed, and says why before its last line. After a QUIT it says its last line alone.
+fn turns_away(effects: &[Effect]) -> bool {
+    matches!(effects, [Effect::Send(_), Effect::Send(_), Effect::Close])
 }
 
 // Whether a session is registered with that account and network.
@@ -91,6 +98,8 @@ impl<C: Connection> Newcomer<C> {
             waiting: Pending::new(alloc),
             nick,
             is_gone: false,
+            why: None,
+            is_writable: true,
         };
         Ok(Newcomer { client })
     }
@@ -102,18 +111,41 @@ impl<C: Connection> Newcomer<C> {
         &self.client
     }
 
-    /// What the port tells of its connection: bytes may be there.
-    pub fn mark_readable(&mut self)
+    /// The port tells of its connection under that token from now on.
+    pub fn watch<P: Port<Connection = C>>(
+        &mut self,
+        port: &mut P,
+        token: usize,
+    ) -> Result<(), PortFault>
         ensures { self.new ≡ self.old }
     {
-        self.client.mark_readable();
+        self.client.watch(port, token)
     }
 
-    /// It is gone from now on.
-    pub fn fall(&mut self)
+    /// The port tells no more of its connection, which moves to another worker.
+    pub fn unwatch<P: Port<Connection = C>>(&mut self, port: &mut P)
+        ensures { self.new ≡ self.old }
+    {
+        self.client.unwatch(port);
+    }
+
+    /// What the port tells of its connection: bytes may be there, or room for bytes.
+    pub fn mark(&mut self, is_readable: bool, is_writable: bool)
+        ensures { self.new ≡ self.old }
+    {
+        self.client.mark(is_readable, is_writable);
+    }
+
+    /// It is gone from now on, for that reason unless it was gone before.
+    pub fn fall(&mut self, why: Fall)
         ensures { self.new ≡ fallen self.old }
     {
-        self.client.fall();
+        self.client.fall(why);
+    }
+
+    /// Whether its last line came to this: its registration is refused, and it is told why before its session ends.
+    pub fn is_turned_away(&self) -> bool {
+        turns_away(self.client.effects.as_slice())
     }
 
     /// Takes in what comes over its connection. It is gone where there is no memory for that.
@@ -263,7 +295,12 @@ impl<C: Connection> Newcomer<C> {
         self.client.offer()
     }
 
-    /// Sends the first of what is in its ring, by one write.
+    /// Whether something of what it is owed can be sent ([`Client::can_send`]).
+    pub fn can_send(&self) -> bool {
+        self.client.can_send()
+    }
+
+    /// Sends the first of what is in its ring, by one write ([`Client::pump`]).
     pub fn pump(&mut self) -> Result<(), Halt>
         ensures { self.new ≡ self.old }
     {

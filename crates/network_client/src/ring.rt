@@ -6,6 +6,7 @@ ghost use Rattle.network_log.specs.Truth.{AreWholeLines};
 ghost use Rattle.network_log.specs.declared.origin.Origin.TheVariants.{ClientCame};
 
 use crate::client::Client;
+use crate::fall::Fall;
 use byte_text::find_byte;
 use client_places::{Attachment, Overrun, RingClient};
 use node_ports::{Connection, Halt};
@@ -41,10 +42,11 @@ fn offerable(bytes: &[u8], owed: usize, bound: usize) -> usize
     count
 }
 
-// Sends the first of what is owed, by one write.
+// Sends the first of what is owed, by one write, where there may be room for it at the connection.
 pub(crate) fn send_owed<C: Connection>(
     connection: &mut C,
     ring: &mut RingClient,
+    is_writable: &mut bool,
 ) -> Result<(), Halt>
     requires origin { C.origin connection.old ≡ ClientCame }
     requires told { ∥ IsToldToClient C.facts (C.serial connection.old) (C.received connection.old)
@@ -59,9 +61,42 @@ pub(crate) fn send_owed<C: Connection>(
     if owed.is_empty() {
         return Ok(());
     }
-    let count = connection.send(&owed[..owed.len().min(CHUNK)])?;
-    ring.settle(count);
-    Ok(())
+    if !*is_writable {
+        return Err(Halt::Blocked);
+    }
+    match connection.send(&owed[..owed.len().min(CHUNK)]) {
+        Ok(count) => {
+            *is_writable = count > 0;
+            ring.settle(count);
+            Ok(())
+        }
+        Err(halt) => {
+            *is_writable = false;
+            Err(halt)
+        }
+    }
+}
+
+/// Sends what is owed, by as many writes as the connection takes.
+pub(crate) fn send_all<C: Connection>(
+    connection: &mut C,
+    ring: &mut RingClient,
+    is_writable: &mut bool,
+)
+    requires origin { C.origin connection.old ≡ ClientCame }
+    requires told { ∥ IsToldToClient C.facts (C.serial connection.old) (C.received connection.old)
+        (C.sent connection.old ++ ring.old.owed) ∥₁ }
+    ensures told { C.sent connection.new ++ ring.new.owed ≡ C.sent connection.old ++ ring.old.owed }
+    ensures received { C.received connection.new ≡ C.received connection.old }
+    ensures origin { C.origin connection.new ≡ C.origin connection.old }
+    ensures serial { C.serial connection.new ≡ C.serial connection.old }
+    ensures joined { C.joined connection.new ≡ C.joined connection.old }
+{
+    for _ in 0..usize::MAX {
+        if ring.owed() == 0 || send_owed(connection, ring, is_writable).is_err() {
+            return;
+        }
+    }
 }
 
 impl<C: Connection> Client<C> {
@@ -85,18 +120,24 @@ impl<C: Connection> Client<C> {
         }
         let count = offerable(self.waiting.as_bytes(), self.ring.owed(), self.ring.bound());
         if self.ring.offer(&self.waiting.as_bytes()[..count]).is_err() {
-            self.fall();
+            self.fall(Fall::OverBound);
             return Err(Overrun);
         }
         self.waiting.take(count);
         Ok(count)
     }
 
-    /// Sends the first of what is in the ring, by one write.
+    /// Whether something of it can be sent: something is owed, and its connection had room since it was blocked last.
+    pub fn can_send(&self) -> bool {
+        !self.is_gone && self.is_writable && self.ring.owed() > 0
+    }
+
+    /// Sends the first of what is in the ring, by one write. Where its connection was blocked, nothing is tried before there may be
+    /// room again.
     pub fn pump(&mut self) -> Result<(), Halt>
         requires { ∥ IsToldToClient C.facts self.old.serial self.old.received self.old.told ∥₁ }
         ensures { self.new ≡ self.old }
     {
-        send_owed(&mut self.connection, &mut self.ring)
+        send_owed(&mut self.connection, &mut self.ring, &mut self.is_writable)
     }
 }

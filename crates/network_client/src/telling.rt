@@ -6,7 +6,8 @@ ghost use Rattle.network_log.specs.declared.origin.Origin.TheVariants.{ClientCam
 ghost use Rattle.network_client.specs.Steps as spec;
 
 use crate::client::Client;
-use crate::ring::send_owed;
+use crate::fall::Fall;
+use crate::ring::send_all;
 use byte_text::Text;
 use client_places::{Attachment, Overrun, RingClient};
 use client_session::Effect;
@@ -16,7 +17,12 @@ use node_ports::Connection;
 const LONG: usize = 2048;
 
 // Sends the first of these bytes from where they lie, and the others are owed. False where none goes, and nothing changes.
-fn send_straight<C: Connection>(connection: &mut C, ring: &mut RingClient, bytes: &[u8]) -> bool
+fn send_straight<C: Connection>(
+    connection: &mut C,
+    ring: &mut RingClient,
+    is_writable: &mut bool,
+    bytes: &[u8],
+) -> bool
     requires origin { C.origin connection.old ≡ ClientCame }
     requires owed { ring.old.owed ≡ [] }
     requires fits { length bytes.now ≤ ring.old.bound }
@@ -32,15 +38,22 @@ fn send_straight<C: Connection>(connection: &mut C, ring: &mut RingClient, bytes
     ensures joined { C.joined connection.new ≡ C.joined connection.old }
 {
     let Ok(count) = connection.send(bytes) else {
+        *is_writable = false;
         return false;
     };
+    *is_writable = count > 0;
     // (what is left of them fits)
     ring.offer(&bytes[count..]).is_ok()
 }
 
-// These bytes are owed behind the others. Where they don't fit, what is owed goes out first, by one write. False where they don't fit
-// even then, and nothing changes.
-fn owe<C: Connection>(connection: &mut C, ring: &mut RingClient, bytes: &[u8]) -> bool
+// These bytes are owed behind the others. Where they don't fit, what is owed goes out first, as much as the connection takes. False where
+// they don't fit even then, and nothing changes.
+fn owe<C: Connection>(
+    connection: &mut C,
+    ring: &mut RingClient,
+    is_writable: &mut bool,
+    bytes: &[u8],
+) -> bool
     requires origin { C.origin connection.old ≡ ClientCame }
     requires told { ∥ IsToldToClient C.facts (C.serial connection.old) (C.received connection.old)
         ((C.sent connection.old ++ ring.old.owed) ++ bytes.now) ∥₁ }
@@ -56,13 +69,20 @@ fn owe<C: Connection>(connection: &mut C, ring: &mut RingClient, bytes: &[u8]) -
     let Err(Overrun) = ring.offer(bytes) else {
         return true;
     };
-    let _ = send_owed(connection, ring);
+    // (what tells of room may still be on its way)
+    *is_writable = true;
+    send_all(connection, ring, is_writable);
     ring.offer(bytes).is_ok()
 }
 
 // The same, but that long ones go out from where they lie where nothing is owed, by one write, and what the connection doesn't take of
 // them is owed.
-fn tell<C: Connection>(connection: &mut C, ring: &mut RingClient, bytes: &[u8]) -> bool
+fn tell<C: Connection>(
+    connection: &mut C,
+    ring: &mut RingClient,
+    is_writable: &mut bool,
+    bytes: &[u8],
+) -> bool
     requires origin { C.origin connection.old ≡ ClientCame }
     requires told { ∥ IsToldToClient C.facts (C.serial connection.old) (C.received connection.old)
         ((C.sent connection.old ++ ring.old.owed) ++ bytes.now) ∥₁ }
@@ -75,12 +95,13 @@ fn tell<C: Connection>(connection: &mut C, ring: &mut RingClient, bytes: &[u8]) 
     ensures serial { C.serial connection.new ≡ C.serial connection.old }
     ensures joined { C.joined connection.new ≡ C.joined connection.old }
 {
-    if ring.owed() == 0 && bytes.len() >= LONG && bytes.len() <= ring.bound() {
-        if send_straight(connection, ring, bytes) {
+    let is_free = *is_writable && ring.owed() == 0;
+    if is_free && bytes.len() >= LONG && bytes.len() <= ring.bound() {
+        if send_straight(connection, ring, is_writable, bytes) {
             return true;
         }
     }
-    owe(connection, ring, bytes)
+    owe(connection, ring, is_writable, bytes)
 }
 
 impl<C: Connection> Client<C> {
@@ -95,11 +116,11 @@ impl<C: Connection> Client<C> {
         ensures gone { result ≡ false → self.new ≡ fallen self.old }
     {
         if self.is_gone {
-            self.fall();
+            self.fall(Fall::OverBound);
             return false;
         }
         if !self.tell_share(share) {
-            self.fall();
+            self.fall(Fall::OverBound);
             return false;
         }
         true
@@ -113,7 +134,12 @@ impl<C: Connection> Client<C> {
             → self.new ≡ record self.old { told = self.old.told ++ share.now } }
         ensures same { result ≡ false → self.new ≡ self.old }
     {
-        tell(&mut self.connection, &mut self.ring, share)
+        tell(
+            &mut self.connection,
+            &mut self.ring,
+            &mut self.is_writable,
+            share,
+        )
     }
 
     /// It knows that nick as its own from now on.

@@ -5,8 +5,8 @@ use Rattle.network_log.specs.Telling.{IsToldToClient}
 use Rattle.network_client.proofs.RingLemmas.{first_told}
 use Rattle.network_client.proofs.telling.owe.Goals as goal
 
-pub send_owed-requires-clause-told : goal.send_owed-requires-clause-told
-send_owed-requires-clause-told g c =
+pub send_all-requires-clause-told : goal.send_all-requires-clause-told
+send_all-requires-clause-told g c =
     let sent = g.C.Connection.sent c.args.connection.now in
     let serial = g.C.Connection.serial c.args.connection.now in
     let received = g.C.Connection.received c.args.connection.now in

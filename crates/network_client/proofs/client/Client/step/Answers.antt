@@ -1,9 +1,9 @@
-use Rattle.std.proofs.Common.{◌≡◌, Bool, true, false, Option, None, refl, ap, subst, sym, ◌∙◌, rules}
+use Rattle.std.proofs.Common.{◌≡◌, true, false, Option, refl, ap, subst, sym, ◌∙◌, rules}
 use Rattle.std.specs.Prelude.{is_some}
 use Rattle.std.proofs.Math.Logic.{∥∥₁_map}
 use Rattle.irc_line.specs.Stream.{Item}
 use Rattle.network_log.specs.Guest.{Guest, next_item}
-use Rattle.node_ports.proofs.CallerLemmas.{left_so, next_ahead}
+use Rattle.node_ports.proofs.CallerLemmas.{next_ahead}
 use Rattle.network_client.proofs.StepLemmas.{kept, left_looked, left_heard, next_there, step_is, heard_so, none_so}
 use Rattle.network_client.proofs.client.Client.step.Goals as goal
 
