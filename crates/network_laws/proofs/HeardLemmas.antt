@@ -16,12 +16,10 @@ use Rattle.client_session.specs.Session.{new, facts_in}
 use Rattle.network_log.specs.Accounts.{directory_at}
 use Rattle.network_log.specs.Facts.{NodeFacts}
 use Rattle.network_log.specs.Guest.{Guest, GuestEvent, Gets, Hears, Says, Asks, Closes, Offers, Falls, new_guest, next_item, guest_step, guest_run, after_item, after_step, step_of, after_saying, after_asking, after_answer, after_closing, answer_to}
-use Rattle.network_log.specs.NetworkState.{NetworkState}
-use Rattle.network_log.specs.Truth.{AreTrueOfGuest, AtMoment, IsArrived, IsDirectory, IsNewcomer, IsReached, IsTrueOfGuest}
+use Rattle.network_log.specs.Truth.{AreTrueOfGuest, AtMoment, IsArrived, IsDirectory, IsNewcomer, IsTrueOfGuest}
 use Rattle.network_log.specs.declared.origin.Origin.TheVariants.{ClientCame}
 use Rattle.network_log.proofs.CallerLemmas.{items-more}
-use Rattle.network_laws.specs.Heard.{AreByAccounts, IsByAccounts, IsHeardOverItsConnection, lines_in}
-use Rattle.network_laws.proofs.GuestsLemmas.{AreAll, IsKept, all-get, each-guest}
+use Rattle.network_laws.specs.Heard.{AreByAccounts, IsByAccounts, lines_in}
 
 -- it joined that network behind so many others, if it did
 abbrev pub HasJoined : NodeFacts → ℕ → ℕ → Option ℕ → Type 0
@@ -42,16 +40,16 @@ pub record IsHeardSo (facts : NodeFacts) (place : ℕ) (joins : Option ℕ) (g :
 
 -- ---- lists of events
 
-by-more : (facts : NodeFacts) (events : List ClientEvent) (event : ClientEvent) → AreByAccounts facts events → IsByAccounts facts event
+pub by-more : (facts : NodeFacts) (events : List ClientEvent) (event : ClientEvent) → AreByAccounts facts events → IsByAccounts facts event
     → AreByAccounts facts (events ++ event ∷ [])
 by-more facts [] event are is = (is, tt)
 by-more facts (e ∷ events) event are is = (are.0, by-more facts events event are.1 is)
 
-run-more : (session : Stage) (events : List ClientEvent) (event : ClientEvent) → run session (events ++ event ∷ []) ≡ after (run session events) event
+pub run-more : (session : Stage) (events : List ClientEvent) (event : ClientEvent) → run session (events ++ event ∷ []) ≡ after (run session events) event
 run-more session [] event = refl
 run-more session (e ∷ events) event = run-more (after session e) events event
 
-lines-more : (events : List ClientEvent) (event : ClientEvent) → lines_in (events ++ event ∷ []) ≡ lines_in events ++ lines_in (event ∷ [])
+pub lines-more : (events : List ClientEvent) (event : ClientEvent) → lines_in (events ++ event ∷ []) ≡ lines_in events ++ lines_in (event ∷ [])
 lines-more [] event = refl
 lines-more (Line directory shown bytes ∷ events) event = ap (λ (l : List Item). whole_line bytes ∷ l) (lines-more events event)
 lines-more (CutLine directory ∷ events) event = ap (λ (l : List Item). cut_line ∷ l) (lines-more events event)
@@ -209,53 +207,3 @@ arrived-so facts place config entry g there a =
     subst (λ (v : Guest). IsHeardSo facts place None v) (sym a.is_after)
     (event-so [] (λ d. d ≡ directory) (Hears directory a.shown) a.before
     (λ d e. subst (λ (v : Directory). IsDirectory facts v) (sym e) (AtMoment place config entry there)) a.is_true (newcomer-so facts place a.before a.is_newcomer))
-
--- ---- all of them
-
--- it joined that network
-HasCome : NodeFacts → ℕ → Guest → Type 0
-HasCome facts place g = (joins : ℕ) × IsHeardSo facts place (Some joins) g
-
-heard-kept : (facts : NodeFacts) (place : ℕ) (config : SessionConfig) → slice_get facts.accounts.networks place ≡ Some config → IsKept facts place config (HasCome facts place)
-unfolding HasCome
-heard-kept facts place config there = record {
-  arrives = λ entry g joins a j.
-      let k : IsHeardSo facts place None g = arrived-so facts place config entry g there a in (
-        joins,
-        record {
-          is_joined = refl;
-          it_joined = j;
-          events = k.events;
-          later = k.later;
-          it_came = k.it_came;
-          are_first = k.are_first;
-          is_count = k.is_count;
-          are_by_accounts = k.are_by_accounts;
-          came_to = k.came_to;
-        },
-      );
-  happens = λ held Stands event g own t k. (k.0, event-so held Stands event g own t k.1);
-  is_told = λ told nick g k. (k.0, so-same refl refl refl refl refl k.1);
-  has_done = λ todo g k. (k.0, so-same refl refl refl refl refl k.1);
-  falls = λ g k. (k.0, so-same refl refl refl refl refl k.1);
-}
-
-pub guest-heard : (facts : NodeFacts) (w : NetworkState) (at : ℕ) (g : Guest) → IsReached facts w → slice_get w.guests at ≡ Some g
-    → IsHeardOverItsConnection facts w.place g
-unfolding HasCome
-guest-heard facts w at g r e =
-    let all : AreAll (HasCome facts w.place) w.guests = each-guest facts (λ place config. HasCome facts place) (heard-kept facts) w r in
-    let c : HasCome facts w.place g = all-get (HasCome facts w.place) w.guests at g e all in
-    let k : IsHeardSo facts w.place (Some c.0) g = c.1 in
-    record {
-      joins = c.0;
-      events = k.events;
-      later = k.later;
-      it_came = k.it_came;
-      is_joined = k.is_joined;
-      it_joined = k.it_joined;
-      are_first = k.are_first;
-      is_count = k.is_count;
-      are_by_accounts = k.are_by_accounts;
-      came_to = k.came_to;
-    }

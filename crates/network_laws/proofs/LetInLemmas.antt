@@ -79,7 +79,7 @@ lines-of-both (CutLine directory ∷ events) more = ap (λ (l : List Item). cut_
 lines-of-both (Answered answered ∷ events) more = lines-of-both events more
 
 -- what the session's law says
-abbrev NobodyEnters : Type 0
+abbrev pub NobodyEnters : Type 0
 NobodyEnters = (cluster : List ℕ) (maximum : ℕ) (events : List ClientEvent) (f : Facts)
     → run (new cluster maximum) events ≡ Registered f → WasLetIn events f
 
@@ -88,7 +88,7 @@ is-registered (Waiting w) f e = absurd (cc e)
 is-registered (Registered g) f e = ap Registered (same_Some g f e)
 is-registered Closed f e = absurd (cc e)
 
-arrived-logged : (facts : NodeFacts) → NobodyEnters → (place : ℕ) (config : SessionConfig) (entry : Entry) (g : Guest)
+pub arrived-logged : (facts : NodeFacts) → NobodyEnters → (place : ℕ) (config : SessionConfig) (entry : Entry) (g : Guest)
     → slice_get facts.accounts.networks place ≡ Some config → IsArrived facts config entry g → HasLoggedIn facts config g
 arrived-logged facts law place config entry g there a =
     let k : IsHeardSo facts place None g = arrived-so facts place config entry g there a in
@@ -122,7 +122,7 @@ arrived-logged facts law place config entry g there a =
 
 -- ---- what came over its connection goes on
 
-like : {facts : NodeFacts} {config : SessionConfig} {g new : Guest} → new.received ≡ g.received → HasLoggedIn facts config g → HasLoggedIn facts config new
+pub like : {facts : NodeFacts} {config : SessionConfig} {g new : Guest} → new.received ≡ g.received → HasLoggedIn facts config g → HasLoggedIn facts config new
 like e k = record {
   events = k.events;
   later = k.later;
@@ -185,7 +185,7 @@ closed-same g (Ask question ∷ more) = refl
 closed-same g (Upstream text ∷ more) = refl
 closed-same g (Close ∷ more) = refl
 
-event-logged : {facts : NodeFacts} {config : SessionConfig} (held : List Change) (event : GuestEvent) (g : Guest)
+pub event-logged : {facts : NodeFacts} {config : SessionConfig} (held : List Change) (event : GuestEvent) (g : Guest)
     → HasLoggedIn facts config g → HasLoggedIn facts config (guest_step held event g)
 event-logged held (Gets bytes) g k = got-more bytes g k
 event-logged held (Hears directory shown) g k = like (item-same directory shown g (next_item g.received g.heard)) k

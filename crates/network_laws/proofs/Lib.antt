@@ -6,3 +6,13 @@ mod LetInLemmas
 mod OwnLemmas
 mod ServerLemmas
 mod StrangerLemmas
+mod OrderLemmas
+mod PartLemmas
+mod ClientLemmas
+mod StreamLemmas
+mod MemberLemmas
+mod StoryLemmas
+mod TellingLemmas
+mod AccountLemmas
+mod PastLemmas
+mod IdsLemmas

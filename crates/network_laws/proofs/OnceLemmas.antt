@@ -1,10 +1,14 @@
 -- That no connection comes twice.
-use Rattle.std.proofs.Common.{◌≡◌, ◌≤◌, ◌<◌, ◌+◌, ℕ, List, [], ◌∷◌, refl, subst, sym, arith}
+use Rattle.std.proofs.Common.{◌≡◌, ◌≤◌, ◌<◌, ◌+◌, ℕ, List, [], ◌∷◌, ◌++◌, refl, subst, sym, ap, arith, length, length-append}
+use mathlib.Core.List.{IsPrefix}
 use Rattle.network_log.specs.Facts.{NodeFacts}
 use Rattle.network_log.specs.NetworkState.{NetworkState}
 use Rattle.network_log.specs.Log.{NetworkEvent, ServerComes, Comes, step}
 use Rattle.network_log.specs.Truth.{AreTrue}
-use Rattle.network_laws.specs.Once.{AreDifferent, IsNone, JoinsOnce, comers}
+use Rattle.cluster_directory.specs.declared.config.SessionConfig.{SessionConfig}
+use Rattle.network_laws.specs.Acts.{Act, AreActsOf, AreAmong, AreOnce, IsActOf}
+use Rattle.network_laws.specs.Once.{AreDifferent, AreDifferentActs, IsNoAct, IsNone, JoinsOnce, comers, serials_of}
+use Rattle.network_laws.specs.Streams.{AreStreams, IsStream, Stream, said_of}
 use Rattle.network_laws.proofs.StepLemmas.{IsLater, step-later}
 
 -- it joined that network before
@@ -64,3 +68,76 @@ all-different facts once w (Comes guest ∷ log) t =
     let next : NetworkState = step facts (Comes guest) w in
     (none-later facts once next log guest.serial t.1 (joined-now facts w next guest.serial refl refl t.0.1), all-different facts once next log t.1)
 all-different facts once w (event ∷ log) t = all-different facts once (step facts event w) log t.1
+
+-- ---- streams
+
+-- one that joined behind all of these is none of them
+behind-none : (facts : NodeFacts) → JoinsOnce facts → (place : ℕ) (config : SessionConfig) (serial joins bound : ℕ) (streams : List Stream)
+    → facts.joined serial place joins → bound ≤ joins → AreStreams facts place config bound streams → IsNone serial (serials_of streams)
+behind-none facts once place config serial joins bound [] j h k = tt
+behind-none facts once place config serial joins bound (s ∷ streams) j h k =
+    let st : IsStream facts place config s = k.0.0 in
+    let l : s.joins < bound = k.0.1 in
+    let P : ℕ → Type 0 = λ n. facts.joined n place s.joins in (
+      (λ e. let same : joins ≡ s.joins = once serial place joins s.joins j (subst P e st.it_joined) in omega (arith, h, l, same)),
+      behind-none facts once place config serial joins s.joins streams j (omega (arith, h, l)) k.1,
+    )
+
+pub streams-different : (facts : NodeFacts) → JoinsOnce facts → (place : ℕ) (config : SessionConfig) (bound : ℕ) (streams : List Stream)
+    → AreStreams facts place config bound streams → AreDifferent (serials_of streams)
+streams-different facts once place config bound [] k = tt
+streams-different facts once place config bound (s ∷ streams) k =
+    let st : IsStream facts place config s = k.0.0 in (
+      behind-none facts once place config s.serial s.joins s.joins streams st.it_joined (omega arith) k.1,
+      streams-different facts once place config s.joins streams k.1,
+    )
+
+-- ---- acts
+
+it-joined : (facts : NodeFacts) (place : ℕ) (config : SessionConfig) (a : Act) → IsActOf facts place config a → facts.joined a.serial place a.joins
+it-joined facts place config a k =
+    let P : ℕ → Type 0 = λ n. facts.joined n place k.is_heard.joins in
+    let Q : ℕ → Type 0 = λ n. facts.joined a.serial place n in
+    subst Q k.is_joins (subst P k.is_serial k.is_heard.it_joined)
+
+no-act : (facts : NodeFacts) → JoinsOnce facts → (place : ℕ) (config : SessionConfig) (a : Act) (acts : List Act)
+    → facts.joined a.serial place a.joins → AreActsOf facts place config acts → AreAmong a.joins a.before acts → IsNoAct a acts
+no-act facts once place config a [] j k b = tt
+no-act facts once place config a (o ∷ acts) j k b =
+    let P : ℕ → Type 0 = λ n. facts.joined n place o.joins in (
+      (λ e i.
+          let same : a.joins ≡ o.joins = once a.serial place a.joins o.joins j (subst P e (it-joined facts place config o k.0)) in
+          let first : IsPrefix (o.before ++ o.effect ∷ []) a.before = b.0 (sym same) in
+          let all : length ((o.before ++ o.effect ∷ []) ++ first.0) ≡ length a.before = ap length first.1 in
+          let one : length ((o.before ++ o.effect ∷ []) ++ first.0) ≡ length (o.before ++ o.effect ∷ []) + length first.0 =
+          length-append (o.before ++ o.effect ∷ []) first.0 in
+          let two : length (o.before ++ o.effect ∷ []) ≡ length o.before + 1 = length-append o.before (o.effect ∷ []) in
+          omega (arith, i, all, one, two)),
+      no-act facts once place config a acts j k.1 b.1,
+    )
+
+pub acts-different : (facts : NodeFacts) → JoinsOnce facts → (place : ℕ) (config : SessionConfig) (acts : List Act)
+    → AreActsOf facts place config acts → AreOnce acts → AreDifferentActs acts
+acts-different facts once place config [] k o = tt
+acts-different facts once place config (a ∷ acts) k o = (
+  no-act facts once place config a acts (it-joined facts place config a k.0) k.1 o.0,
+  acts-different facts once place config acts k.1 o.1,
+)
+
+acts-both : (facts : NodeFacts) (place : ℕ) (config : SessionConfig) (acts more : List Act)
+    → AreActsOf facts place config acts → AreActsOf facts place config more → AreActsOf facts place config (acts ++ more)
+acts-both facts place config [] more k m = m
+acts-both facts place config (a ∷ acts) more k m = (k.0, acts-both facts place config acts more k.1 m)
+
+-- all that was said over these is said by clients
+said-acts : (facts : NodeFacts) (place : ℕ) (config : SessionConfig) (bound : ℕ) (streams : List Stream)
+    → AreStreams facts place config bound streams → AreActsOf facts place config (said_of streams)
+said-acts facts place config bound [] k = tt
+said-acts facts place config bound (s ∷ streams) k =
+    let st : IsStream facts place config s = k.0.0 in
+    acts-both facts place config s.said (said_of streams) st.are_spoken (said-acts facts place config s.joins streams k.1)
+
+pub said-different : (facts : NodeFacts) → JoinsOnce facts → (place : ℕ) (config : SessionConfig) (bound : ℕ) (streams : List Stream)
+    → AreStreams facts place config bound streams → AreOnce (said_of streams) → AreDifferentActs (said_of streams)
+said-different facts once place config bound streams k o =
+    acts-different facts once place config (said_of streams) (said-acts facts place config bound streams k) o

@@ -1,5 +1,5 @@
 -- A client of a network stays in it.
-use Rattle.std.proofs.Common.{◌≡◌, ℕ, Bool, List, [], ◌∷◌, Option, Some, None, refl, sym, subst, ◌∙◌}
+use Rattle.std.proofs.Common.{◌≡◌, ℕ, Bool, List, [], ◌∷◌, Option, Some, None, sym, subst, ◌∙◌}
 use Rattle.std.specs.Prelude.{slice_get}
 use Rattle.std.proofs.lemmas.Option.{same_Some}
 use Rattle.irc_line.specs.Stream.{Item, line as whole_line, too_long as cut_line}
@@ -8,7 +8,6 @@ use Rattle.chat_past.specs.Answers.{Answer}
 use Rattle.chat_query.specs.declared.facts.Answered.{Answered}
 use Rattle.chat_query.specs.declared.facts.Facts.{Facts}
 use Rattle.cluster_directory.specs.Directory.{Directory}
-use Rattle.cluster_directory.specs.Entry.{Entry}
 use Rattle.cluster_directory.specs.declared.config.SessionConfig.{SessionConfig}
 use Rattle.client_session.specs.declared.effect.Effect.{Effect}
 use Rattle.client_session.specs.declared.effect.Effect.TheVariants.{Send, Put, Ask, Upstream, Close}
@@ -19,15 +18,15 @@ use Rattle.client_session.specs.Session.{facts_in, session_after}
 use Rattle.network_log.specs.Facts.{NodeFacts}
 use Rattle.network_log.specs.Guest.{Guest, GuestEvent, Gets, Hears, Says, Asks, Closes, Offers, Falls, next_item, guest_step, step_of, after_item, after_saying, after_asking, after_answer, after_closing, answer_to}
 use Rattle.network_log.specs.NetworkState.{NetworkState}
-use Rattle.network_log.specs.Truth.{IsArrived, IsReached}
+use Rattle.network_log.specs.Truth.{IsReached}
 use Rattle.network_laws.specs.LetIn.{IsOfNetwork}
 use Rattle.network_laws.proofs.GuestsLemmas.{AreAll, IsKept, all-get, each-guest}
 
 -- what the session's laws say
-abbrev NeverChange : Type 0
+abbrev pub NeverChange : Type 0
 NeverChange = (f : Facts) (events : List ClientEvent) → IsOfSame f (run (Registered f) events)
 
-abbrev StaysClosed : Type 0
+abbrev pub StaysClosed : Type 0
 StaysClosed = (events : List ClientEvent) → run Closed events ≡ Closed
 
 own-same : (config : SessionConfig) (f : Facts) (session : Stage) → IsOfNetwork config (Registered f) → IsOfSame f session → IsOfNetwork config session
@@ -83,7 +82,7 @@ own-closed config g (Ask question ∷ more) own = own
 own-closed config g (Upstream text ∷ more) own = own
 own-closed config g (Close ∷ more) own = own
 
-own-event : NeverChange → StaysClosed → (config : SessionConfig) (held : List Change) (event : GuestEvent) (g : Guest)
+pub own-event : NeverChange → StaysClosed → (config : SessionConfig) (held : List Change) (event : GuestEvent) (g : Guest)
     → IsOfNetwork config g.session → IsOfNetwork config (guest_step held event g).session
 own-event law closed config held (Gets bytes) g own = own
 own-event law closed config held (Hears directory shown) g own = own-item law closed config directory shown g (next_item g.received g.heard) own
@@ -93,7 +92,7 @@ own-event law closed config held Closes g own = own-closed config g g.todo own
 own-event law closed config held (Offers count) g own = own
 own-event law closed config held Falls g own = own
 
-own-arrived : (config : SessionConfig) (session : Stage) (f : Facts) → facts_in session ≡ Some f → f.account ≡ config.account → f.network ≡ config.network
+pub own-arrived : (config : SessionConfig) (session : Stage) (f : Facts) → facts_in session ≡ Some f → f.account ≡ config.account → f.network ≡ config.network
     → IsOfNetwork config session
 own-arrived config (Waiting w) f e account network = absurd (cc e)
 own-arrived config (Registered g) f e account network =

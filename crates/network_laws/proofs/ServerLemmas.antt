@@ -41,7 +41,7 @@ abbrev IsServedSo : NodeFacts → NetworkState → Option Host → Type 0
 IsServedSo facts w None = Unit {0}
 IsServedSo facts w (Some h) = IsServerSo facts w.place w.config h
 
-run-more : (u : Connection) (events : List ServerEvent) (event : ServerEvent) → run u (events ++ event ∷ []) ≡ after (run u events) event
+pub run-more : (u : Connection) (events : List ServerEvent) (event : ServerEvent) → run u (events ++ event ∷ []) ≡ after (run u events) event
 run-more u [] event = refl
 run-more u (e ∷ events) event = run-more (after u e) events event
 

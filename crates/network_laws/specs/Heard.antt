@@ -1,7 +1,10 @@
 -- What came over a connection and was heard.
-use Rattle.std.specs.Prelude.{ℕ, ◌≡◌, List, [], ◌∷◌, ◌++◌, length, Some}
+use Rattle.std.specs.Prelude.{ℕ, ◌≡◌, Bool, List, [], ◌∷◌, ◌++◌, length, Option, None, Some}
 use Rattle.irc_line.specs.Stream.{Item, items, line as whole_line, too_long as cut_line}
-use Rattle.client_session.specs.Events.{ClientEvent, Line, CutLine, Answer, run}
+use Rattle.chat_change.specs.declared.change.Change.{Change}
+use Rattle.client_session.specs.declared.stage.Stage.{Stage}
+use Rattle.client_session.specs.Events.{ClientEvent, Line, CutLine, Answer, after, run}
+use Rattle.client_session.specs.Lookup.{MessageName, name_sought}
 use Rattle.client_session.specs.Session.{new}
 use Rattle.upstream_session.specs.Events.{ServerEvent}
 use Rattle.upstream_session.specs.Events as server
@@ -9,7 +12,7 @@ use Rattle.network_log.specs.Facts.{NodeFacts}
 use Rattle.network_log.specs.Guest.{Guest}
 use Rattle.network_log.specs.Host.{Host, session_begun}
 use Rattle.network_log.specs.NetworkState.{NetworkState}
-use Rattle.network_log.specs.Truth.{IsDirectory, MayBeLeftOut}
+use Rattle.network_log.specs.Truth.{IsDirectory, IsShownIn, MayBeLeftOut}
 use Rattle.network_log.specs.declared.origin.Origin.TheVariants.{ClientCame, NetworkDialed}
 
 -- the lines of a client among what happened to its session, in order
@@ -29,8 +32,23 @@ abbrev pub AreByAccounts : NodeFacts → List ClientEvent → Type 0
 AreByAccounts facts [] = Unit {0}
 AreByAccounts facts (event ∷ events) = IsByAccounts facts event × AreByAccounts facts events
 
+-- Whether the message of that name is shown was what the node held at some moment.
+abbrev pub IsFound : NodeFacts → Bool → Option MessageName → Type 0
+IsFound facts shown None = Unit {0}
+IsFound facts shown (Some name) = (held : List Change) × facts.held held × IsShownIn held shown (Some name)
+
+-- where a line names a message, it is heard with whether that is shown
+abbrev pub IsSeen : NodeFacts → Stage → ClientEvent → Type 0
+IsSeen facts session (Line directory shown bytes) = IsFound facts shown (name_sought session bytes)
+IsSeen facts session (CutLine directory) = Unit {0}
+IsSeen facts session (Answer answered) = Unit {0}
+
+abbrev pub AreSeen : NodeFacts → Stage → List ClientEvent → Type 0
+AreSeen facts session [] = Unit {0}
+AreSeen facts session (event ∷ events) = IsSeen facts session event × AreSeen facts (after session event) events
+
 -- It came over a client's connection of that number, which joined the network behind so many others. The session came to this by
--- the first of its lines, those that it has heard, in order, each once, by the accounts of this node, and by answers.
+-- the first of its lines, those that it has heard, in order, each once, by the accounts of this node and what it held, and by answers.
 pub record IsHeardOverItsConnection (facts : NodeFacts) (place : ℕ) (g : Guest) : Type 0 where
   pub joins : ℕ
   pub events : List ClientEvent
@@ -41,6 +59,7 @@ pub record IsHeardOverItsConnection (facts : NodeFacts) (place : ℕ) (g : Guest
   pub are_first : items g.received ≡ lines_in events ++ later
   pub is_count : length (lines_in events) ≡ g.heard
   pub are_by_accounts : AreByAccounts facts events
+  pub are_seen : AreSeen facts (new facts.cluster facts.maximum) events
   pub came_to : run (new facts.cluster facts.maximum) events ≡ g.session
 
 -- Of what happened to a session, the lines of its server are those that came, in order, each once, but for what was left out. In
