@@ -1,9 +1,10 @@
 //! How newcomers become clients of a network.
-ghost use Rattle.std.specs.Prelude.{◌≡◌, [], None, true, false};
+ghost use Rattle.std.specs.Prelude.{◌≡◌, ◌≢◌, ◌+◌, [], None, length, true, false};
 ghost use Rattle.network_client.specs.Naming.{is_for_item};
 ghost use Rattle.network_log.specs.Guest.{next_item};
 ghost use Rattle.network_log.specs.NetworkState.{entry_of};
 ghost use Rattle.network_log.specs.Truth.{IsArrived, IsReached, Leads};
+ghost use Rattle.hosted_network.specs.declared.arriving.Entered.TheVariants as entered;
 
 use crate::parts::NetworkParts;
 use client_session::Directory;
@@ -34,7 +35,11 @@ impl<'a, C: Connection, V: NetworkView> NetworkParts<'a, C, V> {
         requires there { newcomer.is_gone ≡ false }
         requires done { newcomer.todo ≡ [] }
         requires reached { ∥ IsReached C.facts self.old ∥₁ }
-        ensures { ∥ Leads C.facts self.old self.new ∥₁ }
+        ensures leads { ∥ Leads C.facts self.old self.new ∥₁ }
+        ensures client { result ≡ entered.Client
+            → length self.new.guests ≡ length self.old.guests + 1 }
+        ensures others { result ≢ entered.Client
+            → length self.new.guests ≡ length self.old.guests }
     {
         let mut newcomer = newcomer;
         let Ok(is_for) = newcomer.is_for(self.config) else {
@@ -57,7 +62,11 @@ impl<'a, C: Connection, V: NetworkView> NetworkParts<'a, C, V> {
         requires named { is_for_item self.old.config newcomer.session
             (next_item newcomer.received newcomer.heard) ≡ true }
         requires reached { ∥ IsReached C.facts self.old ∥₁ }
-        ensures { ∥ Leads C.facts self.old self.new ∥₁ }
+        ensures leads { ∥ Leads C.facts self.old self.new ∥₁ }
+        ensures client { result ≡ entered.Client
+            → length self.new.guests ≡ length self.old.guests + 1 }
+        ensures others { result ≢ entered.Client
+            → length self.new.guests ≡ length self.old.guests }
     {
         a_network_is_as_configured::<C>();
         let Ok(directory) = self.own_directory(accounts) else {
@@ -74,7 +83,11 @@ impl<'a, C: Connection, V: NetworkView> NetworkParts<'a, C, V> {
     fn client_comes(&mut self, client: Client<C>) -> Entered<C>
         requires arrived { ∥ IsArrived C.facts self.old.config (entry_of self.old) client ∥₁ }
         requires free { client.joined ≡ None }
-        ensures { ∥ Leads C.facts self.old self.new ∥₁ }
+        ensures leads { ∥ Leads C.facts self.old self.new ∥₁ }
+        ensures client { result ≡ entered.Client
+            → length self.new.guests ≡ length self.old.guests + 1 }
+        ensures others { result ≢ entered.Client
+            → length self.new.guests ≡ length self.old.guests }
     {
         let mut client = client;
         let Some(joins) = self.joins.checked_add(1) else {

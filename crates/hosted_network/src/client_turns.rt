@@ -10,7 +10,7 @@ ghost use Rattle.hosted_network.specs.declared.client_turns.Said.TheVariants as 
 use crate::parts::NetworkParts;
 use chat_change::Moment;
 use client_session::Effect;
-use network_client::{Client, Feeders, Filled};
+use network_client::{Client, Fall, Feeders, Filled};
 use network_server::{Batch, SayFault, Server};
 use node_ports::{Connection, Halt, NetworkView};
 use std::alloc::Global;
@@ -96,23 +96,24 @@ impl<'a, C: Connection, V: NetworkView> NetworkParts<'a, C, V> {
         &self.clients[place]
     }
 
-    /// What the port tells of a client's connection: bytes may be there.
-    pub(crate) fn mark_client(&mut self, place: usize)
+    /// What the port tells of a client's connection: bytes may be there, or room for bytes.
+    pub(crate) fn mark_client(&mut self, place: usize, is_readable: bool, is_writable: bool)
         requires { place < length self.old.guests }
         ensures { self.new ≡ self.old }
     {
-        self.clients[place].mark_readable();
+        self.clients[place].mark(is_readable, is_writable);
     }
 
-    /// A client is gone from now on.
-    pub(crate) fn client_falls(&mut self, place: usize)
+    /// A client is gone from now on, for that reason unless it was gone before.
+    pub(crate) fn client_falls(&mut self, place: usize, why: Fall)
         requires { place < length self.old.guests }
         ensures falls { (g : Guest) → slice_get self.old.guests place ≡ Some g
             → self.new ≡ record self.old { guests = slice_set self.old.guests place (fallen g) } }
+        ensures batch { self.new.batch ≡ self.old.batch }
         ensures leads { ∥ Leads C.facts self.old self.new ∥₁ }
         ensures count { length self.new.guests ≡ length self.old.guests }
     {
-        self.clients[place].fall();
+        self.clients[place].fall(why);
     }
 
     /// Takes in what comes over a client's connection. It is gone where there is no memory for that.
@@ -161,14 +162,18 @@ impl<'a, C: Connection, V: NetworkView> NetworkParts<'a, C, V> {
         client.close()
     }
 
-    /// The first of what waits for a client goes to its ring, as there is room. It is gone where that exceeds the bound.
-    pub(crate) fn client_offers(&mut self, place: usize)
+    /// The first of what waits for a client goes to its ring, as there is room: whether something does. It is gone where that exceeds
+    /// the bound.
+    pub(crate) fn client_offers(&mut self, place: usize) -> bool
         requires { place < length self.old.guests }
         ensures leads { ∥ Leads C.facts self.old self.new ∥₁ }
         ensures alone { IsOnlyAt place self.old self.new }
         ensures count { length self.new.guests ≡ length self.old.guests }
     {
-        let _ = self.clients[place].offer();
+        match self.clients[place].offer() {
+            Ok(count) => count > 0,
+            Err(_) => false,
+        }
     }
 
     /// Sends what a client is owed, by one write. It is gone where its connection is closed.
@@ -183,7 +188,7 @@ impl<'a, C: Connection, V: NetworkView> NetworkParts<'a, C, V> {
             return;
         };
         if halt == Halt::Closed {
-            self.client_falls(place);
+            self.client_falls(place, Fall::Closed);
         }
     }
 
@@ -210,7 +215,7 @@ impl<'a, C: Connection, V: NetworkView> NetworkParts<'a, C, V> {
             Said::Yes => true,
             Said::Later => false,
             Said::No => {
-                self.client_falls(place);
+                self.client_falls(place, Fall::NoMemory);
                 true
             }
             Said::Lost => {

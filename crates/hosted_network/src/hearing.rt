@@ -1,32 +1,41 @@
 //! What clients hear and ask.
 ghost use Rattle.std.specs.Prelude.{◌≡◌, ◌<◌, length};
-ghost use Rattle.network_log.specs.NetworkState.{entry_of};
 ghost use Rattle.network_log.specs.Truth.{IsReached, Leads};
-ghost use Rattle.hosted_network.specs.Standing.{StandsSo};
 
 use crate::parts::NetworkParts;
-use client_session::Directory;
+use crate::standing::{Standing, nick_in, refresh};
+use network_client::Fall;
 use network_laws::a_client_stays_in_its_network;
 use node_ports::{Connection, NetworkView, NodePass};
 
 impl<'a, C: Connection, V: NetworkView> NetworkParts<'a, C, V> {
-    /// The session of a client hears its next line, by these accounts, where one is there and all that the one before came to is done:
-    /// whether it did. The client is gone where it can't, for want of memory or since the node couldn't be asked.
+    /// The session of a client hears its next line, by its network's own account as the network stands, where one is there and all that
+    /// the one before came to is done: whether it did. The client is gone where it can't, for want of memory or since the node couldn't
+    /// be asked.
     pub(crate) fn client_hears<N: NodePass<Connection = C, View = V>>(
         &mut self,
         place: usize,
-        directory: &Directory,
         pass: &mut N,
     ) -> bool
         requires place { place < length self.old.guests }
         requires reached { ∥ IsReached C.facts self.old ∥₁ }
-        requires so { StandsSo C.facts.accounts.directory self.old.config
-            (entry_of self.old) directory.now }
         ensures leads { ∥ Leads C.facts self.old self.new ∥₁ }
         ensures count { length self.new.guests ≡ length self.old.guests }
     {
         a_client_stays_in_its_network::<C>();
-        match self.clients[place].hear(self.alloc, directory, pass, &mut self.view) {
+        let is_up = self.is_up();
+        let takes_redact = self.takes_redact();
+        let nick = nick_in(self.config, &self.server, &self.ended);
+        let standing = Standing {
+            is_up,
+            nick,
+            takes_redact,
+        };
+        let Ok(()) = refresh(self.alloc, self.config, &standing, &mut self.directory) else {
+            self.clients[place].fall(Fall::NoMemory);
+            return false;
+        };
+        match self.clients[place].hear(self.alloc, &self.directory, pass, &mut self.view) {
             Ok(heard) => heard,
             Err(_) => false,
         }
@@ -48,9 +57,9 @@ impl<'a, C: Connection, V: NetworkView> NetworkParts<'a, C, V> {
         if client.is_gone() {
             return;
         }
-        let Err(_) = client.answer(pass, &mut self.view, room) else {
+        let Err(fault) = client.answer(pass, &mut self.view, room) else {
             return;
         };
-        client.fall();
+        client.fall(Fall::from(fault));
     }
 }

@@ -21,7 +21,7 @@ use byte_text::Text;
 use chat_change::{Buffer, Change};
 use client_session::Effect;
 use cluster_directory::SessionConfig;
-use network_client::Client;
+use network_client::{Client, Fall};
 use network_server::BatchPart;
 use node_ports::{Connection, NetworkView, NodePass};
 use std::alloc::Global;
@@ -102,7 +102,7 @@ impl<'a, C: Connection, V: NetworkView> NetworkParts<'a, C, V> {
         match next_mark(self.alloc, self.config, &self.clients[place]) {
             Ok(mark) => self.put_mark(place, pass, mark),
             Err(NoMark::NotNext) => {}
-            Err(NoMark::Refused) => self.client_falls(place),
+            Err(NoMark::Refused) => self.client_falls(place, Fall::NoMemory),
         }
     }
 
@@ -126,7 +126,7 @@ impl<'a, C: Connection, V: NetworkView> NetworkParts<'a, C, V> {
             target,
         } = mark;
         let Ok(()) = self.put(pass, slice::from_ref(&change)) else {
-            self.clients[place].fall();
+            self.clients[place].fall(Fall::NoEntry);
             return;
         };
         self.clients[place].effect_done();

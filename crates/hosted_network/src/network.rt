@@ -1,16 +1,18 @@
 //! A network as one value.
-ghost use Rattle.std.specs.Prelude.{◌≡◌, ◌≢◌, ◌+◌, ◌-◌, ◌^◌, ◌↔◌, ◌⊎◌, [], None, Some, IfSome, IsTrue, is_some, min, not, slice_get, true, false};
+ghost use Rattle.std.specs.Prelude.{◌≡◌, ◌≢◌, ◌+◌, ◌-◌, ◌^◌, ◌↔◌, ◌⊎◌, [], Err, None, Some, IfOk, IsSome, IsTrue, is_some, min, not, slice_get, true, false};
 ghost use Rattle.network_log.specs.Log.{ServerComes, step, without_server};
-ghost use Rattle.network_log.specs.NetworkState.{beginning};
+ghost use Rattle.network_log.specs.NetworkState.{beginning, entry_of};
 ghost use Rattle.network_log.specs.Truth.{Leads};
 ghost use Rattle.network_server.specs.Waiting.{IsDue};
 ghost use Rattle.network_log.specs.declared.origin.Origin.TheVariants.{NetworkDialed};
 ghost use Rattle.network_server.specs.declared.retry.TheConstants.{RETRY};
 ghost use Rattle.hosted_network.specs.Turns.{has_ended};
+ghost use Rattle.hosted_network.specs.declared.network.NoHost.TheVariants as no_host;
+ghost use Rattle.hosted_network.specs.declared.network.ServerTurn.TheVariants as turn;
 
 use crate::parts::NetworkParts;
-use crate::server_turns::{Clocks, Ending, Step};
-use cluster_directory::Life;
+use crate::server_turns::{ServerEnd, Step, TurnTime};
+use cluster_directory::{Life, SessionConfig};
 use network_server::Retry;
 use node_ports::{Accounts, Connection, Fresh, NetworkView, NodePass, Origin};
 use std::alloc::Global;
@@ -24,7 +26,16 @@ pub enum ServerTurn {
     /// There is nothing more before the port tells something, or a deadline comes.
     Rest,
     /// The connection is closed, and is dialed again later.
-    Over(Ending),
+    Over(ServerEnd),
+}
+
+/// Why a network can't be served.
+#[derive(Clone, Copy, Debug, PartialEq, Eq)]
+pub enum NoHost {
+    /// There was no memory.
+    NoMemory,
+    /// The accounts have no network at that place.
+    NoNetwork,
 }
 
 /// A network at the worker that serves it: its server, its clients, and what it has seen of the node. At every moment some log, which
@@ -47,29 +58,32 @@ impl<'a, C: Connection, V: NetworkView> Model for HostedNetwork<'a, C, V> {
 }
 
 impl<'a, C: Connection, V: NetworkView> HostedNetwork<'a, C, V> {
-    /// The network at the view's place, where nobody is yet. Its server is to be dialed at once. None where the accounts have no
-    /// network at that place.
+    /// The network at the view's place, where nobody is yet. Its server is to be dialed at once.
     pub fn new(
         alloc: Global,
         accounts: &'a Accounts,
         me: &'a Life,
         view: V,
         now: u64,
-    ) -> Option<HostedNetwork<'a, C, V>>
+    ) -> Result<HostedNetwork<'a, C, V>, NoHost>
         requires accounts { accounts.now ≡ C.facts.accounts }
         requires me { me.now ≡ C.facts.terms.me }
         requires none { V.puts view ≡ [] }
         requires held { ∥ C.facts.held (V.held view) ∥₁ }
-        ensures some { IfSome result (λ hosted. hosted.network
+        ensures network { IfOk result (λ hosted. hosted.network
             ≡ beginning (V.place view) hosted.network.config (V.held view)) }
-        ensures retry { IfSome result (λ hosted. hosted.retry ≡ Some now) }
-        ensures none { result ≡ None → slice_get accounts.now.networks (V.place view) ≡ None }
+        ensures retry { IfOk result (λ hosted. hosted.retry ≡ Some now) }
+        ensures none { (result ≡ Err no_host.NoNetwork)
+            ↔ (slice_get accounts.now.networks (V.place view) ≡ None) }
     {
         let Some(config) = accounts.network(view.place()) else {
-            return None;
+            return Err(NoHost::NoNetwork);
         };
-        Some(HostedNetwork {
-            parts: NetworkParts::new(alloc, config, me, view),
+        let Ok(parts) = NetworkParts::new(alloc, accounts.directory(), config, me, view) else {
+            return Err(NoHost::NoMemory);
+        };
+        Ok(HostedNetwork {
+            parts,
             retry: Retry::new(now),
         })
     }
@@ -81,11 +95,55 @@ impl<'a, C: Connection, V: NetworkView> HostedNetwork<'a, C, V> {
         self.parts.place()
     }
 
+    /// How it is configured.
+    pub fn config(&self) -> &SessionConfig
+        ensures { result.now ≡ self.now.network.config }
+    {
+        self.parts.config()
+    }
+
+    /// Whether its server has welcomed the session.
+    pub fn is_up(&self) -> bool
+        ensures { result ≡ (entry_of self.now.network).is_up }
+    {
+        self.parts.is_up()
+    }
+
+    /// Its present nick.
+    pub fn nick(&self) -> &[u8]
+        ensures { result.now ≡ (entry_of self.now.network).nick }
+    {
+        self.parts.nick()
+    }
+
+    /// The words by which the server refused the session, or the last one where no server is there. Empty where it said nothing of the
+    /// kind.
+    pub fn refusal(&self) -> &[u8] {
+        self.parts.refusal()
+    }
+
+    /// When something is to be done for its server, in milliseconds: when it is dialed, where none is there and none is being dialed, or
+    /// else when it is given up, unless something comes before.
+    pub fn due_at(&self) -> Option<u64>
+        ensures dialed { self.now.network.server ≡ None → result ≡ self.now.retry }
+        ensures there { self.now.network.server ≢ None → IsSome result }
+    {
+        match self.parts.silent_at() {
+            Some(at) => Some(at),
+            None => self.retry.moment(),
+        }
+    }
+
     /// Whether a server is there.
     pub fn has_server(&self) -> bool
         ensures { IsTrue result ↔ (self.now.network.server ≢ None) }
     {
         self.parts.has_server()
+    }
+
+    /// Whether its server can be sent something at once.
+    pub fn server_can_send(&self) -> bool {
+        self.parts.server_can_send()
     }
 
     /// What the port tells of the server's connection: bytes may be there, or room for bytes.
@@ -154,28 +212,34 @@ impl<'a, C: Connection, V: NetworkView> HostedNetwork<'a, C, V> {
 
     /// The server has its turn: what came of it is heard, so many lines at most, what comes of them is put by one call and only then
     /// told to each client, and what is owed to the server goes out. Where the connection is over, it is closed, and the server is
-    /// dialed some time later.
+    /// dialed some time later. Where no server is there nothing changes.
     pub fn server_turn<N: NodePass<Connection = C, View = V>>(
         &mut self,
         pass: &mut N,
         chunk: &mut [u8],
-        clocks: Clocks,
+        time: TurnTime,
     ) -> ServerTurn
-        requires { ∥ C.facts.clock clocks.moment ∥₁ }
+        requires { ∥ C.facts.clock time.moment ∥₁ }
         ensures leads { ∥ Leads C.facts self.old.network self.new.network ∥₁ }
-        ensures put { self.new.network.batch ≡ [] }
-        ensures over { is_some self.new.network.server ≡ not (has_ended result) }
+        ensures none { self.old.network.server ≡ None
+            → (result ≡ turn.Rest) × (self.new ≡ self.old) }
+        ensures put { self.old.network.server ≢ None → self.new.network.batch ≡ [] }
+        ensures over { self.old.network.server ≢ None
+            → is_some self.new.network.server ≡ not (has_ended result) }
         ensures later { has_ended result ≡ true
-            → self.new.retry ≡ Some (min (clocks.now + RETRY) (2 ^ 64 - 1)) }
+            → self.new.retry ≡ Some (min (time.now + RETRY) (2 ^ 64 - 1)) }
         ensures kept { has_ended result ≡ false → self.new.retry ≡ self.old.retry }
     {
-        let now = clocks.now;
-        match self.parts.server_turn(pass, chunk, clocks) {
-            Step::Again => ServerTurn::Again,
+        if !self.has_server() {
+            return ServerTurn::Rest;
+        }
+        let now = time.now;
+        match self.parts.server_turn(pass, chunk, time) {
+            Step::Again | Step::Later => ServerTurn::Again,
             Step::Rest => ServerTurn::Rest,
-            Step::Over(ending) => {
+            Step::Over(end) => {
                 self.retry.put_off(now);
-                ServerTurn::Over(ending)
+                ServerTurn::Over(end)
             }
         }
     }

@@ -1,9 +1,10 @@
 //! The parts of a network.
-ghost use Rattle.std.specs.Prelude.{◌≡◌, ◌≢◌, ◌↔◌, None, [], IsTrue, length};
+ghost use Rattle.std.specs.Prelude.{◌≡◌, ◌≢◌, ◌↔◌, IfOk, IsSome, None, [], IsTrue, length};
 ghost use Rattle.network_log.specs.NetworkState.{beginning};
 
 use crate::marks::ToldMarker;
-use cluster_directory::{Life, SessionConfig};
+use byte_text::NoMemory;
+use cluster_directory::{Directory, Life, SessionConfig};
 use network_client::Client;
 use network_log::FIRST_SERIAL;
 use network_server::{Batch, Server};
@@ -18,6 +19,8 @@ pub(crate) struct NetworkParts<'a, C: Connection, V: NetworkView> {
     pub(crate) alloc: Global,
     pub(crate) config: &'a SessionConfig,
     pub(crate) me: &'a Life,
+    // the network's own account with the network alone: by this its clients hear
+    pub(crate) directory: Directory,
     pub(crate) view: V,
     // how many connections have joined it
     pub(crate) joins: u64,
@@ -26,6 +29,8 @@ pub(crate) struct NetworkParts<'a, C: Connection, V: NetworkView> {
     pub(crate) server: Option<Server<C>>,
     // what came of the server's lines and isn't put yet
     pub(crate) batch: Batch,
+    // about how many bytes a client is told of that
+    pub(crate) batch_length: usize,
     // of each buffer the latest that all clients were told
     pub(crate) markers: Vec<ToldMarker>,
     pub(crate) clients: Vec<Client<C>>,
@@ -35,6 +40,7 @@ impl<'a, C: Connection, V: NetworkView> Model for NetworkParts<'a, C, V> {
     ghost use Rattle.std.specs.Prelude.{◌≡◌};
     ghost use Rattle.network_log.specs.NetworkState.{NetworkState};
     ghost use Rattle.hosted_network.specs.Parts.{host_of, nick_of, serial_of};
+    ghost use Rattle.hosted_network.specs.Standing.{HasSomeEntry};
 
     ghost Value = { NetworkState };
 
@@ -52,33 +58,42 @@ impl<'a, C: Connection, V: NetworkView> Model for NetworkParts<'a, C, V> {
       guests = n.clients.items;
     } };
 
-    ghost invariant = { λ n. n.me.now ≡ C.facts.terms.me };
+    ghost invariant = { λ n. (n.me.now ≡ C.facts.terms.me)
+        × HasSomeEntry C.facts.accounts.directory n.config.now n.directory };
 }
 
 impl<'a, C: Connection, V: NetworkView> NetworkParts<'a, C, V> {
-    /// Nobody is there yet.
+    /// Nobody is there yet. These are the accounts of the node.
     pub(crate) fn new(
         alloc: Global,
+        accounts: &Directory,
         config: &'a SessionConfig,
         me: &'a Life,
         view: V,
-    ) -> NetworkParts<'a, C, V>
+    ) -> Result<NetworkParts<'a, C, V>, NoMemory>
+        requires accounts { accounts.now ≡ C.facts.accounts.directory }
         requires me { me.now ≡ C.facts.terms.me }
         requires none { V.puts view ≡ [] }
-        ensures { result ≡ beginning (V.place view) config.now (V.held view) }
+        ensures { IfOk result (λ parts.
+            parts ≡ beginning (V.place view) config.now (V.held view)) }
     {
-        NetworkParts {
+        let account = config.account.as_bytes();
+        let network = config.network.as_bytes();
+        let directory = accounts.alone(alloc, account, network)?;
+        Ok(NetworkParts {
             alloc,
             config,
             me,
+            directory,
             view,
             joins: 0,
             ended: None,
             server: None,
             batch: Batch::new(alloc),
+            batch_length: 0,
             markers: Vec::new(alloc),
             clients: Vec::new(alloc),
-        }
+        })
     }
 
     /// Its place among the networks of the node.
@@ -98,11 +113,47 @@ impl<'a, C: Connection, V: NetworkView> NetworkParts<'a, C, V> {
         }
     }
 
+    /// How it is configured.
+    pub(crate) fn config(&self) -> &SessionConfig
+        ensures { result.now ≡ self.now.config }
+    {
+        self.config
+    }
+
+    /// The words by which its server refused the session, or the last one where none is there.
+    pub(crate) fn refusal(&self) -> &[u8] {
+        if let Some(server) = &self.server {
+            return server.session().refusal();
+        }
+        match &self.ended {
+            Some(session) => session.refusal(),
+            None => &[],
+        }
+    }
+
+    /// When its server is given up, unless something comes before. None where no server is there.
+    pub(crate) fn silent_at(&self) -> Option<u64>
+        ensures { IsSome result ↔ (self.now.server ≢ None) }
+    {
+        match &self.server {
+            Some(server) => Some(server.silent_at()),
+            None => None,
+        }
+    }
+
     /// Whether a server is there.
     pub(crate) fn has_server(&self) -> bool
         ensures { IsTrue result ↔ (self.now.server ≢ None) }
     {
         self.server.is_some()
+    }
+
+    /// Whether its server can be sent something at once.
+    pub(crate) fn server_can_send(&self) -> bool {
+        match &self.server {
+            Some(server) => server.can_send(),
+            None => false,
+        }
     }
 
     /// Bytes may be there that its server sent, or room for bytes.

@@ -21,7 +21,61 @@ use network_server::{Batch, BatchPart};
 use node_ports::{Connection, NetworkView, NodePass, NotPublished};
 use std::mem;
 
+/// Of what is put at once a client is told about so many bytes at most, and those of one line more.
+const MOST_AT_ONCE: usize = 65_536;
+
+/// A line with its end has at most so many bytes: 8191 of tags (IRCv3 message-tags) and 512 of the rest (RFC 1459, section 2.3).
+const LONGEST: usize = 8703;
+
+/// About so many bytes of a line are neither its message's text nor its client-only tags.
+const REST: usize = 100;
+
+// About how many bytes a client is told of a change.
+fn length_of(change: Option<&Change>) -> usize {
+    match change {
+        Some(Change::Post(record)) => {
+            let length = record.body().len().saturating_add(record.tags().len());
+            length.saturating_add(REST)
+        }
+        _ => REST,
+    }
+}
+
+// About how many bytes a client is told of the last part of the batch.
+fn last_length(batch: &Batch) -> usize {
+    match batch.parts().last() {
+        Some(BatchPart::PassedOn(text, _)) => text.as_bytes().len(),
+        Some(BatchPart::Posted(_)) => length_of(batch.changes().last()),
+        Some(BatchPart::Renamed(_, _) | BatchPart::Entered(_)) => REST,
+        None => 0,
+    }
+}
+
 impl<'a, C: Connection, V: NetworkView> NetworkParts<'a, C, V> {
+    /// What came of a line is counted, before which the batch had so many parts.
+    pub(crate) fn count_line(&mut self, parts: usize)
+        ensures { self.new ≡ self.old }
+    {
+        if self.batch.parts().len() > parts {
+            let length = last_length(&self.batch);
+            self.batch_length = self.batch_length.saturating_add(length);
+        }
+    }
+
+    /// Whether so much came of the server's lines that it is to be put and told now: a client that reads is to be told all of it,
+    /// and may be owed so much and no more.
+    pub(crate) fn is_long(&self) -> bool {
+        let bound = match self.clients.first() {
+            Some(client) => client.bound(),
+            None => MOST_AT_ONCE,
+        };
+        // (a line behind what is half of the bound fits into the other half)
+        if bound / 2 < LONGEST {
+            return self.batch_length > 0;
+        }
+        self.batch_length > MOST_AT_ONCE.min(bound / 2)
+    }
+
     /// Whether the last of what came of the server's lines is that a channel was entered.
     pub(crate) fn has_entered(&self) -> bool {
         matches!(self.batch.parts().last(), Some(BatchPart::Entered(_)))
@@ -141,6 +195,7 @@ impl<'a, C: Connection, V: NetworkView> NetworkParts<'a, C, V> {
         if self.batch.parts().is_empty() {
             return;
         }
+        self.batch_length = 0;
         let none = Batch::new(self.alloc);
         let mut batch = mem::replace(&mut self.batch, none);
         self.put_batch(pass, &batch);

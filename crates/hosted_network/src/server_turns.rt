@@ -15,9 +15,9 @@ use node_ports::{Connection, Fresh, NetworkView, NodePass};
 /// each client, at once.
 const LINES: usize = 128;
 
-/// What the clocks of a node read.
+/// When a turn is: what the clocks of the node read.
 #[derive(Clone, Copy)]
-pub struct Clocks {
+pub struct TurnTime {
     /// The moment (IRCv3 server-time).
     pub moment: Moment,
     /// Milliseconds, which only go on.
@@ -26,7 +26,7 @@ pub struct Clocks {
 
 /// Why the connection to a server ended.
 #[derive(Clone, Copy, Debug, PartialEq, Eq)]
-pub enum Ending {
+pub enum ServerEnd {
     /// The connection is lost, or the session is over.
     Lost(Loss),
     /// There was no memory for what a line comes to, or the node didn't take all of it.
@@ -38,10 +38,12 @@ pub enum Ending {
 pub(crate) enum Step {
     /// There may be more to do.
     Again,
+    /// There may be more to do, and not in this turn.
+    Later,
     /// There is nothing more for now.
     Rest,
     /// The connection is to be ended.
-    Over(Ending),
+    Over(ServerEnd),
 }
 
 impl<'a, C: Connection, V: NetworkView> NetworkParts<'a, C, V> {
@@ -147,43 +149,45 @@ impl<'a, C: Connection, V: NetworkView> NetworkParts<'a, C, V> {
     }
 
     // Takes the server's next line, or more bytes where there is none.
-    fn server_step(&mut self, chunk: &mut [u8], clocks: Clocks) -> Step
-        requires clock { ∥ C.facts.clock clocks.moment ∥₁ }
+    fn server_step(&mut self, chunk: &mut [u8], time: TurnTime) -> Step
+        requires clock { ∥ C.facts.clock time.moment ∥₁ }
         requires reached { ∥ IsReached C.facts self.old ∥₁ }
         ensures { ∥ Leads C.facts self.old self.new ∥₁ }
     {
-        match self.server_hears(clocks.moment) {
+        match self.server_hears(time.moment) {
             Ok(Hearing::Line | Hearing::LeftOut) => Step::Again,
             Ok(Hearing::Full) => {
                 self.make_room();
                 Step::Again
             }
             Ok(Hearing::More) => {
-                if self.server_reads(chunk, clocks.now) {
+                if self.server_reads(chunk, time.now) {
                     Step::Again
                 } else {
                     Step::Rest
                 }
             }
-            Err(HearFault::Again) => Step::Rest,
-            Err(HearFault::GivenUp | HearFault::Lost) => Step::Over(Ending::NoMemory),
+            Err(HearFault::Again) => Step::Later,
+            Err(HearFault::GivenUp | HearFault::Lost) => Step::Over(ServerEnd::NoMemory),
         }
     }
 
-    // The same. What came of the lines is put and told once a channel was entered, so that its marker is told as the channel is
-    // (IRCv3 draft/read-marker).
+    // The same. What came of the lines is put and told once that is much, and once a channel was entered, so that its marker is told as
+    // the channel is (IRCv3 draft/read-marker).
     fn server_line<N: NodePass<Connection = C, View = V>>(
         &mut self,
         pass: &mut N,
         chunk: &mut [u8],
-        clocks: Clocks,
+        time: TurnTime,
     ) -> Step
-        requires clock { ∥ C.facts.clock clocks.moment ∥₁ }
+        requires clock { ∥ C.facts.clock time.moment ∥₁ }
         requires reached { ∥ IsReached C.facts self.old ∥₁ }
         ensures { ∥ Leads C.facts self.old self.new ∥₁ }
     {
-        let step = self.server_step(chunk, clocks);
-        if !self.has_entered() {
+        let parts = self.batch.parts().len();
+        let step = self.server_step(chunk, time);
+        self.count_line(parts);
+        if !self.has_entered() && !self.is_long() {
             return step;
         }
         self.flush(pass);
@@ -195,16 +199,16 @@ impl<'a, C: Connection, V: NetworkView> NetworkParts<'a, C, V> {
         &mut self,
         pass: &mut N,
         chunk: &mut [u8],
-        clocks: Clocks,
+        time: TurnTime,
     ) -> Step
-        requires clock { ∥ C.facts.clock clocks.moment ∥₁ }
+        requires clock { ∥ C.facts.clock time.moment ∥₁ }
         requires reached { ∥ IsReached C.facts self.old ∥₁ }
         ensures { ∥ Leads C.facts self.old self.new ∥₁ }
     {
-        // (the clocks themselves would be moved in the loop)
-        let Clocks { moment, now } = clocks;
+        // (the time itself would be moved in the loop)
+        let TurnTime { moment, now } = time;
         for _ in 0..LINES {
-            let step = self.server_line(pass, chunk, Clocks { moment, now });
+            let step = self.server_line(pass, chunk, TurnTime { moment, now });
             if step != Step::Again {
                 return step;
             }
@@ -225,7 +229,7 @@ impl<'a, C: Connection, V: NetworkView> NetworkParts<'a, C, V> {
     }
 
     // Why the connection to the server is to be ended after such a step, where it is.
-    fn server_ending(&self, step: Step, now: u64) -> Option<Ending>
+    fn server_ending(&self, step: Step, now: u64) -> Option<ServerEnd>
         ensures open { result ≡ None → is_over step ≡ false }
         ensures there { result ≡ None → is_some self.now.server ≡ true }
     {
@@ -233,10 +237,10 @@ impl<'a, C: Connection, V: NetworkView> NetworkParts<'a, C, V> {
             return Some(ending);
         }
         let Some(server) = &self.server else {
-            return Some(Ending::NoMemory);
+            return Some(ServerEnd::NoMemory);
         };
         match server.is_over(now) {
-            Some(loss) => Some(Ending::Lost(loss)),
+            Some(loss) => Some(ServerEnd::Lost(loss)),
             None => None,
         }
     }
@@ -247,16 +251,16 @@ impl<'a, C: Connection, V: NetworkView> NetworkParts<'a, C, V> {
         &mut self,
         pass: &mut N,
         chunk: &mut [u8],
-        clocks: Clocks,
+        time: TurnTime,
     ) -> Step
-        requires clock { ∥ C.facts.clock clocks.moment ∥₁ }
+        requires clock { ∥ C.facts.clock time.moment ∥₁ }
         requires reached { ∥ IsReached C.facts self.old ∥₁ }
         ensures leads { ∥ Leads C.facts self.old self.new ∥₁ }
         ensures put { self.new.batch ≡ [] }
         ensures over { is_some self.new.server ≡ not (is_over result) }
     {
-        let now = clocks.now;
-        let step = self.server_lines(pass, chunk, clocks);
+        let now = time.now;
+        let step = self.server_lines(pass, chunk, time);
         self.flush(pass);
         self.server_sends();
         let Some(ending) = self.server_ending(step, now) else {

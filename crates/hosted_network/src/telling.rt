@@ -14,7 +14,7 @@ use crate::parts::NetworkParts;
 use crate::shares::{Share, Shares};
 use crate::told::Told;
 use byte_text::{NoMemory, Text};
-use network_client::Client;
+use network_client::{Client, Fall};
 use node_ports::{Connection, NetworkView};
 use std::alloc::Global;
 
@@ -67,18 +67,18 @@ fn tell_client<C: Connection>(
     };
     let is_known = is_read || !facts.caps.read_marker;
     if !(is_known && shares.has_session(facts)) {
-        client.fall();
+        client.fall(Fall::NoEntry);
         return;
     }
     let Ok(at) = shares.find(alloc, facts, client.nick()) else {
-        client.fall();
+        client.fall(Fall::NoMemory);
         return;
     };
     let Some(share) = shares.get(at) else {
         return;
     };
     let Ok(nick) = new_nick(alloc, client.nick(), share) else {
-        client.fall();
+        client.fall(Fall::NoMemory);
         return;
     };
     tell_text(client, &share.text, nick);

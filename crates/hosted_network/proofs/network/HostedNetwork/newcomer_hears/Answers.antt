@@ -2,4 +2,4 @@ use Rattle.hosted_network.proofs.LogLemmas.{reached_both}
 use Rattle.hosted_network.proofs.network.HostedNetwork.newcomer_hears.Goals as goal
 
 pub invariant_of-self : goal.invariant_of-self
-invariant_of-self g c = reached_both c.self.invariant c.newcomer_hears.ensures
+invariant_of-self g c = reached_both c.self.invariant c.newcomer_hears.ensures.leads
