@@ -1,0 +1,3 @@
+mod MadeLemmas
+mod RestartLemmas
+mod OtherLemmas
