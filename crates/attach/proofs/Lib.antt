@@ -1,1 +1,3 @@
+mod BoxLemmas
 mod HallLemmas
+mod StepLemmas

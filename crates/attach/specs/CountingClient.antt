@@ -1,6 +1,6 @@
 -- What a contract sees of a counting client.
 use Rattle.std.specs.Prelude.{ℕ, ◌+◌, ◌-◌, ◌^◌, List, length, min}
-use Rattle.client_places.specs.Attachment.{AttachmentState, new_client, with_line, without_first}
+use Rattle.attach.specs.Attachment.{AttachmentState, new_client, with_line, without_first}
 
 -- the client, and how many lines and bytes it accepted
 pub record CountingClientState : Type 0 where

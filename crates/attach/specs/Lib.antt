@@ -1,4 +1,9 @@
--- What a reader must believe: clients that count or record, and halls.
+-- What a reader must believe: clients, their places, the steps that seats make, the laws, clients that count or record, and halls.
+pub mod Attachment
+pub mod Places
+pub mod Hold
+pub mod Steps
+pub mod Laws
 pub mod CountingClient
 pub mod Recorder
 pub mod Hall

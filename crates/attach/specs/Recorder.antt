@@ -1,7 +1,7 @@
 -- What a contract sees of a recorder.
 use Rattle.std.specs.Prelude.{ℕ, List, [], ◌++◌}
 use Rattle.circular_buffer.specs.Buffer.{keep_last}
-use Rattle.client_places.specs.Attachment.{AttachmentState, new_client, with_line, without_first}
+use Rattle.attach.specs.Attachment.{AttachmentState, new_client, with_line, without_first}
 
 -- the client, and the last bytes that it accepted
 pub record RecorderState : Type 0 where

@@ -1,9 +1,11 @@
 //! A client that counts what it accepted.
 ghost use Rattle.std.specs.Prelude.{◌≡◌, ◌++◌, ◌↔◌, length, take, drop, min, IsErr, OnOk, OnErr, IfOk, IfErr};
-ghost use Rattle.client_places.specs.Attachment.{Exceeds};
+ghost use Rattle.attach.specs.Attachment.{Exceeds};
 ghost use Rattle.attach.specs.CountingClient.{counting_without_first, new_counting_client, with_counted_line};
 
-use client_places::{Attachment, NoRing, Overrun, RingClient, Stand};
+use crate::attachment::{Attachment, Overrun};
+use crate::places::Stand;
+use crate::ring_client::{NoRing, RingClient};
 use std::alloc::Global;
 use std::marker::Model;
 

@@ -1,10 +1,11 @@
 //! A worker's attachments, each under a key.
 ghost use Rattle.std.specs.Prelude.{◌≡◌, ◌++◌, ◌↔◌, None, Some, IfOk, IfErr, OnOk, OnErr, length, IfSome, IfNone, IsSomeAnd, min, take, drop};
-ghost use Rattle.client_places.specs.Attachment.{Exceeds, with_line, without_first};
+ghost use Rattle.attach.specs.Attachment.{Exceeds, with_line, without_first};
 ghost use Rattle.attach.specs.Hall.{Changes};
 ghost use Rattle.std.specs.FinMap as map;
 
-use client_places::{Attachment, Boxed, Overrun};
+use crate::attachment::{Attachment, Overrun};
+use crate::boxed::Boxed;
 use slab::Slab;
 use std::alloc::Global;
 use std::marker::Model;

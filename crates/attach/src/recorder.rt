@@ -1,10 +1,12 @@
 //! A client that remembers the last bytes which it accepted.
 ghost use Rattle.std.specs.Prelude.{◌≡◌, ◌≤◌, ◌++◌, ◌↔◌, length, take, drop, min, vec_capacity, IsErr, OnOk, OnErr, IfOk, IfErr};
-ghost use Rattle.client_places.specs.Attachment.{Exceeds};
+ghost use Rattle.attach.specs.Attachment.{Exceeds};
 ghost use Rattle.attach.specs.Recorder.{recording_without_first, new_recorder, with_recorded_line};
 
+use crate::attachment::{Attachment, Overrun};
+use crate::places::Stand;
+use crate::ring_client::{NoRing, RingClient};
 use circular_buffer::HeapCircularBuffer;
-use client_places::{Attachment, NoRing, Overrun, RingClient, Stand};
 use std::alloc::Global;
 use std::marker::Model;
 

@@ -8,9 +8,9 @@ ghost use Rattle.network_log.specs.declared.origin.Origin.TheVariants.{ClientCam
 
 use crate::fall::Fall;
 use crate::port::{Port, PortFault};
+use attach::{Attachment, RingClient};
 use byte_text::Text;
 use chat_query::Facts;
-use client_places::{Attachment, RingClient};
 use client_session::{Effect, Session};
 use node_ports::{Connection, Input, Pending};
 use std::marker::Model;

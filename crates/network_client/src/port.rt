@@ -2,8 +2,8 @@
 ghost use Rattle.std.specs.Prelude.{◌≡◌, IfOk};
 
 use crate::mail::Mail;
-use bnc_ports::{Clocks, Event, Unreached};
-use client_places::RingClient;
+use attach::RingClient;
+use node_events::{Clocks, Event, Unreached};
 use node_ports::{Connection, Fresh};
 use std::net::SocketAddr;
 

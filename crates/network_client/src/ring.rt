@@ -7,8 +7,8 @@ ghost use Rattle.network_log.specs.declared.origin.Origin.TheVariants.{ClientCam
 
 use crate::client::Client;
 use crate::fall::Fall;
+use attach::{Attachment, Overrun, RingClient};
 use byte_text::find_byte;
-use client_places::{Attachment, Overrun, RingClient};
 use node_ports::{Connection, Halt};
 
 /// So many bytes at most of what is owed go out by one write.

@@ -8,8 +8,8 @@ ghost use Rattle.network_client.specs.Steps as spec;
 use crate::client::Client;
 use crate::fall::Fall;
 use crate::ring::send_all;
+use attach::{Attachment, Overrun, RingClient};
 use byte_text::Text;
-use client_places::{Attachment, Overrun, RingClient};
 use client_session::Effect;
 use node_ports::Connection;
 

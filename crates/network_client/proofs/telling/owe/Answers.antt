@@ -1,6 +1,6 @@
 use Rattle.std.proofs.Common.{◌++◌, refl, subst, sym}
 use Rattle.std.proofs.Math.Logic.{∥∥₁_map}
-use Rattle.client_places.specs.Attachment.{AttachmentState}
+use Rattle.attach.specs.Attachment.{AttachmentState}
 use Rattle.network_log.specs.Telling.{IsToldToClient}
 use Rattle.network_client.proofs.RingLemmas.{first_told}
 use Rattle.network_client.proofs.telling.owe.Goals as goal

@@ -1,2 +1,0 @@
-mod BoxLemmas
-mod StepLemmas

@@ -1,5 +1,0 @@
-use Rattle.std.proofs.Common.{◌≡◌, None}
-use Rattle.client_places.proofs.places.Stand.first_free.Given as goal
-
-abbrev pub invariant-loop-place : goal.invariant-loop-place
-invariant-loop-place l = (l.hold.place ≡ None) × (l.hold.table ≡ l.initial.hold.table)
