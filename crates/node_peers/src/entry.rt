@@ -140,6 +140,14 @@ impl<C: Connection> Entry<C> {
         self.is_busy |= self.peer.loss().is_some() || self.peer.can_send();
     }
 
+    /// The own hello is said again, where nothing else was for long enough.
+    pub(crate) fn repeat_hello(&mut self, turn: &Turn<'_, C>, room: &mut Vec<u8>)
+        ensures { spec.IsSameSeat self.old self.new }
+    {
+        self.peer.repeat_hello(turn, room);
+        self.wake();
+    }
+
     /// Bytes may be there, or room for bytes.
     pub(crate) fn mark(&mut self, is_readable: bool, is_writable: bool)
         ensures { spec.IsSameSeat self.old self.new }
@@ -177,9 +185,8 @@ impl<C: Connection> Entry<C> {
         self.peer.publish();
     }
 
-    /// What is due of it by now: why it is to be closed, where it is. The own hello is said again where nothing else was for long
-    /// enough.
-    pub(crate) fn review(&mut self, turn: &Turn<'_, C>, room: &mut Vec<u8>) -> Option<Loss>
+    /// What is due of it by now: why it is to be closed, where it is.
+    pub(crate) fn review(&mut self, turn: &Turn<'_, C>) -> Option<Loss>
         ensures same { spec.IsSameSeat self.old self.new }
         ensures loss { result ≡ spec.overdue turn.now.at self.old }
     {
@@ -192,7 +199,6 @@ impl<C: Connection> Entry<C> {
         if self.peer.tick(turn.at) {
             return Some(Loss::Unacknowledged);
         }
-        self.peer.repeat_hello(turn, room);
         None
     }
 

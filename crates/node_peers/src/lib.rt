@@ -27,7 +27,6 @@ mod peer_link;
 mod peer_record;
 mod peers;
 mod quiet;
-mod refusals;
 mod sending;
 mod supply;
 mod turn;

@@ -88,15 +88,24 @@ impl<C: Connection> Peers<C> {
             return self.close(turn, number, loss, operator);
         }
         self.advance(turn, number, pass, operator);
+        self.repeat_hello(turn, number);
     }
 
-    // Why that connection is to be closed by now, where it is: no others are. Where it isn't, the own hello may be said again.
+    // The own hello is said again over that connection, where nothing else was for long enough.
+    fn repeat_hello(&mut self, turn: &Turn<'_, C>, number: usize) {
+        let Some(entry) = self.entries.get_mut(&number) else {
+            return;
+        };
+        entry.repeat_hello(turn, &mut self.room);
+    }
+
+    // Why that connection is to be closed by now, where it is: no others are.
     fn review(&mut self, turn: &Turn<'_, C>, number: usize) -> Option<Loss>
         ensures { IfSome (seat_at self.old number) (λ seat. result ≡ overdue turn.now.at seat) }
     {
         let Some(entry) = self.entries.get_mut(&number) else {
             return None;
         };
-        entry.review(turn, &mut self.room)
+        entry.review(turn)
     }
 }
