@@ -57,7 +57,7 @@ impl<'a, C: Connection, V: NetworkView> HostedNetwork<'a, C, V> {
         &mut self,
         place: usize,
         pass: &mut N,
-        tools: &mut Tools<'_>,
+        tools: &mut Tools,
         moment: Moment,
     ) -> ClientTurn
         requires place { place < length self.old.network.guests }

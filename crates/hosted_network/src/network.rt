@@ -141,6 +141,11 @@ impl<'a, C: Connection, V: NetworkView> HostedNetwork<'a, C, V> {
         self.parts.has_server()
     }
 
+    /// Whether a client's line is said to its server now: not too much is owed to it, or none is there.
+    pub fn server_takes_lines(&self) -> bool {
+        self.parts.server_takes_lines()
+    }
+
     /// Whether its server can be sent something at once.
     pub fn server_can_send(&self) -> bool {
         self.parts.server_can_send()

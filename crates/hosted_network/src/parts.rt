@@ -148,6 +148,14 @@ impl<'a, C: Connection, V: NetworkView> NetworkParts<'a, C, V> {
         self.server.is_some()
     }
 
+    /// Whether a client's line is said to its server now: not too much is owed to it, or none is there.
+    pub(crate) fn server_takes_lines(&self) -> bool {
+        match &self.server {
+            Some(server) => server.has_credit(),
+            None => true,
+        }
+    }
+
     /// Whether its server can be sent something at once.
     pub(crate) fn server_can_send(&self) -> bool {
         match &self.server {

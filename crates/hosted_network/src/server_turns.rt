@@ -1,5 +1,5 @@
 //! The turns of a network's server.
-ghost use Rattle.std.specs.Prelude.{◌≡◌, ◌≢◌, ℕ, List, None, [], true, false, is_some, not};
+ghost use Rattle.std.specs.Prelude.{◌≡◌, ◌≢◌, ℕ, List, None, OnErr, OnOk, [], true, false, is_some, not};
 ghost use Rattle.network_log.specs.Log.{ServerComes, ServerGets, run, step, without_server};
 ghost use Rattle.network_log.specs.Truth.{IsReached, Leads};
 ghost use Rattle.network_log.specs.declared.origin.Origin.TheVariants.{NetworkDialed};
@@ -9,7 +9,7 @@ use crate::parts::NetworkParts;
 use chat_change::Moment;
 use network_laws::a_server_is_heard_over_its_own_connection;
 use network_server::{HearFault, Hearing, Loss, Server, Site};
-use node_ports::{Connection, Fresh, NetworkView, NodePass};
+use node_ports::{Connection, Fresh, NetworkView, NodePass, ReceiveFault};
 
 /// So many lines of a server are taken in one turn: about as many as one read brings, so that what they come to is put, and written to
 /// each client, at once.
@@ -96,20 +96,18 @@ impl<'a, C: Connection, V: NetworkView> NetworkParts<'a, C, V> {
         true
     }
 
-    // Takes in bytes that come over the server's connection. False where none is there.
-    fn server_reads(&mut self, chunk: &mut [u8], now: u64) -> bool
-        ensures got { result ≡ true → (bytes : List ℕ)
-            × (self.new ≡ step C.facts (ServerGets bytes) self.old) }
-        ensures none { result ≡ false → self.new ≡ self.old }
+    // Takes in bytes that come over the server's connection.
+    fn server_reads(&mut self, chunk: &mut [u8], now: u64) -> Result<(), ReceiveFault>
+        ensures got { OnOk result ((bytes : List ℕ)
+            × (self.new ≡ step C.facts (ServerGets bytes) self.old)) }
+        ensures none { OnErr result (self.new ≡ self.old) }
         ensures leads { ∥ Leads C.facts self.old self.new ∥₁ }
     {
         let Some(server) = &mut self.server else {
-            return false;
+            return Err(ReceiveFault::Closed);
         };
-        let Ok(_) = server.receive(chunk, now) else {
-            return false;
-        };
-        true
+        server.receive(chunk, now)?;
+        Ok(())
     }
 
     // What came of the server's lines is let go: nobody is told, nothing is put, and the connection is closed.
@@ -160,13 +158,12 @@ impl<'a, C: Connection, V: NetworkView> NetworkParts<'a, C, V> {
                 self.make_room();
                 Step::Again
             }
-            Ok(Hearing::More) => {
-                if self.server_reads(chunk, time.now) {
-                    Step::Again
-                } else {
-                    Step::Rest
-                }
-            }
+            Ok(Hearing::More) => match self.server_reads(chunk, time.now) {
+                Ok(()) => Step::Again,
+                // (the port tells only once that bytes are there)
+                Err(ReceiveFault::NoMemory) => Step::Later,
+                Err(_) => Step::Rest,
+            },
             Err(HearFault::Again) => Step::Later,
             Err(HearFault::GivenUp | HearFault::Lost) => Step::Over(ServerEnd::NoMemory),
         }

@@ -16,13 +16,13 @@ const WRITES: usize = 4;
 
 /// What the turns of clients work with.
 #[derive(Drop)]
-pub struct Tools<'t> {
+pub struct Tools {
     /// Room for what a connection gives.
-    pub chunk: &'t mut [u8],
+    pub chunk: Vec<u8>,
     /// Feeders that are lent to clients.
-    pub feeders: &'t mut Feeders,
+    pub feeders: Feeders,
     /// Room for the text of an answer.
-    pub room: &'t mut Vec<u8>,
+    pub room: Vec<u8>,
 }
 
 /// What a client's turn came to.
@@ -34,6 +34,8 @@ pub enum ClientTurn {
     Rest,
     /// Its line waits, since too much is owed to the network's server.
     Waits,
+    /// It sends nothing more, and leaves once it was told all.
+    Ending,
     /// It is gone, and leaves.
     Gone,
 }
@@ -93,7 +95,7 @@ impl<'a, C: Connection, V: NetworkView> NetworkParts<'a, C, V> {
         &mut self,
         place: usize,
         pass: &mut N,
-        tools: &mut Tools<'_>,
+        tools: &mut Tools,
     ) -> Option<ClientTurn>
         requires place { place < length self.old.guests }
         requires reached { ∥ IsReached C.facts self.old ∥₁ }
@@ -110,16 +112,20 @@ impl<'a, C: Connection, V: NetworkView> NetworkParts<'a, C, V> {
     }
 
     // More bytes of a client are taken in. None where there were some.
-    fn client_takes_in(&mut self, place: usize, tools: &mut Tools<'_>) -> Option<ClientTurn>
+    fn client_takes_in(&mut self, place: usize, tools: &mut Tools) -> Option<ClientTurn>
         requires { place < length self.old.guests }
         ensures leads { ∥ Leads C.facts self.old self.new ∥₁ }
         ensures count { length self.new.guests ≡ length self.old.guests }
     {
-        match self.client_reads(place, tools.chunk, tools.feeders) {
+        match self.client_reads(place, tools.chunk.as_mut_slice(), &mut tools.feeders) {
             Filled::More => None,
             Filled::Nothing => Some(ClientTurn::Rest),
             Filled::NoMemory => Some(ClientTurn::Gone),
             Filled::Closed => {
+                let (owed, _) = self.clients[place].owed();
+                if owed > 0 {
+                    return Some(ClientTurn::Ending);
+                }
                 self.client_falls(place, Fall::Closed);
                 Some(ClientTurn::Gone)
             }
@@ -131,7 +137,7 @@ impl<'a, C: Connection, V: NetworkView> NetworkParts<'a, C, V> {
         &mut self,
         place: usize,
         pass: &mut N,
-        tools: &mut Tools<'_>,
+        tools: &mut Tools,
         moment: Moment,
     ) -> Option<ClientTurn>
         requires place { place < length self.old.guests }
@@ -145,7 +151,7 @@ impl<'a, C: Connection, V: NetworkView> NetworkParts<'a, C, V> {
         }
         match act_of(self.clients[place].next_effect()) {
             Act::Say => self.client_says(place),
-            Act::Ask => self.client_is_answered(place, pass, tools.room),
+            Act::Ask => self.client_is_answered(place, pass, &mut tools.room),
             Act::Put => self.client_marks(place, pass),
             Act::Close => {
                 self.client_closes(place);
@@ -170,7 +176,7 @@ impl<'a, C: Connection, V: NetworkView> NetworkParts<'a, C, V> {
         &mut self,
         place: usize,
         pass: &mut N,
-        tools: &mut Tools<'_>,
+        tools: &mut Tools,
         moment: Moment,
     ) -> ClientTurn
         requires place { place < length self.old.guests }
@@ -242,7 +248,8 @@ impl<'a, C: Connection, V: NetworkView> NetworkParts<'a, C, V> {
             return ClientTurn::Gone;
         }
         let (owed, _) = client.owed();
-        if self.can_be_sent(place) || (has_moved && owed == 0) {
+        let may_go_on = has_moved || turn == ClientTurn::Ending;
+        if self.can_be_sent(place) || (may_go_on && owed == 0) {
             return ClientTurn::Again;
         }
         turn
@@ -254,7 +261,7 @@ impl<'a, C: Connection, V: NetworkView> NetworkParts<'a, C, V> {
         &mut self,
         place: usize,
         pass: &mut N,
-        tools: &mut Tools<'_>,
+        tools: &mut Tools,
         moment: Moment,
     ) -> ClientTurn
         requires place { place < length self.old.guests }

@@ -5,11 +5,11 @@ use Rattle.hosted_network.proofs.ServerLemmas.{gets, got}
 use Rattle.hosted_network.proofs.parts.NetworkParts.server_reads.Goals as goal
 
 pub returns-clause-got : goal.returns-clause-got
-returns-clause-got g c = λ _.
-    (take c.in-Ok.field-0 c.receive.new.chunk, got g.C.Connection.facts _ c.self.view_is (ap host_of c.in-Some.is) c.in-Ok.ensures.event)
+returns-clause-got g c =
+    (take c.in_ok-receive.field-0 c.receive.new.chunk, got g.C.Connection.facts _ c.self.view_is (ap host_of c.in-Some.is) c.in_ok-receive.ensures.event)
 
 pub returns-clause-leads : goal.returns-clause-leads
 returns-clause-leads g c =
     let at = ap host_of c.in-Some.is in
-    ∥∥₁_map c.in-Ok.ensures.evidence
-    (gets (take c.in-Ok.field-0 c.receive.new.chunk) c.self.view_is at (got g.C.Connection.facts _ c.self.view_is at c.in-Ok.ensures.event))
+    ∥∥₁_map c.in_ok-receive.ensures.evidence
+    (gets (take c.in_ok-receive.field-0 c.receive.new.chunk) c.self.view_is at (got g.C.Connection.facts _ c.self.view_is at c.in_ok-receive.ensures.event))
