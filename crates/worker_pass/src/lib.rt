@@ -6,6 +6,7 @@
 //! what is new, publish what waits, and tell clients of read markers that a peer brought. Read [`WorkerPass`] first.
 #![tactic(auto)]
 
+mod gate;
 mod marked;
 mod pass;
 mod publisher;
@@ -14,7 +15,7 @@ mod view;
 mod witness;
 mod work_pass;
 
-pub use bnc_ports::Gate;
+pub use gate::Gate;
 pub use pass::WorkerPass;
 pub use put_list::PutList;
 pub use view::WorkerView;

@@ -1,12 +1,12 @@
 //! A worker's way into the node that it shares with others.
 ghost use Rattle.std.specs.Prelude.{◌≡◌, ◌≢◌, Err, MatchBool};
 
+use crate::gate::Gate;
 use crate::marked::MarkedBuffers;
 use crate::publisher::Publisher;
 use crate::view::WorkerView;
 use crate::witness::Witness;
 use crate::work_pass::WorkPass;
-use bnc_ports::Gate;
 use byte_text::NoMemory;
 use chat_change::{Buffer, Change, Moment, MsgId};
 use chat_history::{Delta, DeltaFault, NoEntry};
