@@ -25,12 +25,12 @@ PUT, ABSORB = r"\bshared_node::\S*::put(_now)?\b", r"\bchat_state::\S*::absorb(_
 # What a line that is relayed to one client comes to, each part with all that it calls. A message waits for the turn's end, and is
 # told then with those behind it.
 PARTS = (
-    ("it is read, and its session takes it", (r"\bwork_servers::\S*::hear_line\b",)),
+    ("it is read, and its session takes it", (r"\bnetwork_server::\S*::hear\b",)),
     ("it is put into the node", (PUT,)),
-    ("it is told to the client", (r"\bwork_clients::\S*::tell_message\b", r"\bwork_clients::\S*::tell_untold\b")),
+    ("it is told to the client", (r"\bhosted_network::\S*::tell_all\b",)),
 )
 # (what calls `turn` may stand within its own caller)
-ALL = r"\bbnc_work::worker::(serve|try_work|begin|run|turn)\b"
+ALL = r"\bbnc_work::\S*::(try_work|turn)\b"
 
 
 def instructions(of, log):

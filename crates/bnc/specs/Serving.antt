@@ -5,9 +5,9 @@ use Rattle.std.specs.IoError.{error_kind}
 use Rattle.std.specs.declared.io.Error.{Error}
 use Rattle.std.specs.List.{All}
 use Rattle.std.specs.declared.alloc.Global.{Global}
-use Rattle.bnc_ports.specs.declared.serve_fault.ServeFault.{ServeFault}
-use Rattle.worker_io.specs.declared.worker_config.WorkEnd.{WorkEnd}
-use Rattle.worker_io.specs.declared.worker_config.WorkEnd.TheVariants.{Failed}
+use Rattle.node_events.specs.declared.serve_fault.ServeFault.{ServeFault}
+use Rattle.bnc_work.specs.declared.worker_config.WorkEnd.{WorkEnd}
+use Rattle.bnc_work.specs.declared.worker_config.WorkEnd.TheVariants.{Failed}
 use Rattle.node_config.specs.declared.config.Config.{Config}
 use Rattle.node_config.specs.declared.fault.ConfigFault.{ConfigFault}
 use Rattle.node_config.specs.Document.{IsRefused}

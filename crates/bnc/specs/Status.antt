@@ -5,8 +5,8 @@ use Rattle.std.specs.declared.io.ErrorKind.{ErrorKind}
 use Rattle.std.specs.declared.io.ErrorKind.TheVariants as kind_case
 use Rattle.bnc.specs.declared.ending.End.{End}
 use Rattle.bnc.specs.declared.ending.End.TheVariants.{Usage, NoMemory, Device, File, Node, Config}
-use Rattle.bnc_ports.specs.declared.serve_fault.ServeFault.{ServeFault}
-use Rattle.bnc_ports.specs.declared.serve_fault.ServeFault.TheVariants as serve_case
+use Rattle.node_events.specs.declared.serve_fault.ServeFault.{ServeFault}
+use Rattle.node_events.specs.declared.serve_fault.ServeFault.TheVariants as serve_case
 use Rattle.bnc_server.specs.declared.fault.ReplayFault.{ReplayFault}
 use Rattle.bnc_server.specs.declared.fault.ReplayFault.TheVariants as replay_case
 use Rattle.chat_change.specs.declared.faults.ChangeFault.{ChangeFault}

@@ -3,10 +3,10 @@ ghost use Rattle.std.specs.Prelude.{◌≡◌};
 ghost use Rattle.bnc.specs.Status.{status_of, end_of_file, end_of_words};
 ghost use Rattle.bnc.specs.Serving.{IsEndOfConfig};
 
-use bnc_ports::ServeFault;
 use bnc_server::ReplayFault;
 use chat_change::ChangeFault;
 use node_config::{ConfigFault, NamedFault};
+use node_events::ServeFault;
 use std::alloc::Global;
 use std::fmt;
 use std::io::ErrorKind;

@@ -1,6 +1,6 @@
 //! The first line of the operator's log.
 use crate::version::{LOGIC, PROGRAM};
-use bnc_ports::Event;
+use node_events::Event;
 use operator_log::Log;
 use std::sync::Wait;
 use std::time::Clock;

@@ -26,9 +26,8 @@ use crate::logging::tell_version;
 use crate::node::run_prepared;
 use crate::program::end_of_program;
 use bnc_work::WorkEnd;
-use client_places::{Boxed, RingClient};
 use node_config::Config;
-use node_intake::{Prepared, ServeFault, prepare};
+use node_intake::{ServeFault, prepare};
 use operator_log::Log;
 use std::io::BufWriter;
 use std::process::ExitCode;
@@ -66,16 +65,6 @@ fn exit(rt: &HostRuntime, done: Result<(), End<'_>>, is_read: bool) -> ExitCode
 
 fn main(rt: HostRuntime) -> ExitCode {
     let alloc = rt.alloc();
-    // Only here may the boxes of clients be made.
-    let boxed = move |client: RingClient| -> Option<Boxed> {
-        match Box::new(alloc, client) {
-            Ok(client) => {
-                let client: Boxed = client;
-                Some(client)
-            }
-            Err(_) => None,
-        }
-    };
     let words = match given_words(&rt) {
         Ok(words) => words,
         Err(end) => return exit(&rt, Err(end), true),
@@ -92,13 +81,7 @@ fn main(rt: HostRuntime) -> ExitCode {
         let log = Log::begin(&handle)?;
         tell_version(&handle, &log);
         let ends = match prepare(&handle, &log, config) {
-            Ok(
-                Prepared {
-                    intake,
-                    beginnings,
-                    floors,
-                },
-            ) => run_prepared(&handle, &log, intake, beginnings, floors, boxed),
+            Ok(prepared) => run_prepared(&handle, &log, prepared),
             Err(fault) => Err(fault),
         };
         is_read.store(log.end(&handle), Ordering::SeqCst);

@@ -1,21 +1,19 @@
 //! The run of a node over sockets: its name, its floors, and its workers, each on a thread of its own. What is made before, and
 //! who takes connections in, is `node_intake`; what a worker does is `bnc_work`.
 ghost use Rattle.change_log.specs.Names.{IsNamed};
+ghost use Rattle.bnc_sockets.specs.Settings.{facts_of};
+ghost use Rattle.bnc_work.specs.Settings.{AreSettingsOf};
 
-use bnc_ports::{Carries, Gate};
-use bnc_work::{WorkEnd, WorkPort, WorkerConfig, work_all};
-use chat_change::Change;
-use client_places::{Attachment, RingClient};
-use node_intake::{Intake, ServeFault, begin_node};
+use bnc_sockets::{Dialer, Site, ports_of};
+use bnc_work::{WorkEnd, WorkerConfig, work_all};
+use node_intake::{Prepared, ServeFault, begin_node};
 use operator_log::Log;
 use shared_node::{Naming, Unnamed};
 use std::marker::Brand;
 use std::sync::Wait;
 use std::thread::Threads;
 use std::time::Clock;
-use work_clients::ToClient;
-use work_peers::ToPeer;
-use work_servers::ToServer;
+use worker_pass::Gate;
 
 // A gate that is always open.
 #[derive(Drop)]
@@ -27,60 +25,49 @@ impl Gate for Open {
     }
 }
 
-/// Runs a node of that name, which is to have a pass for each post. The floors are put first. Connections are taken in on a
-/// thread of its own, and each worker runs on one of its own. It answers how the workers ended, once all have. A worker that
-/// ends makes the others end.
-///
-/// `boxed` makes of a client the attachment that its worker keeps; none where there is no memory.
-fn run_node<J, R, X, P, F>(
+/// Runs a node of that name, which is to have a pass for each port, at a site of what never changes of it. The floors are put
+/// first. Connections are taken in on a thread of its own, and each worker runs on one of its own. It answers how the workers
+/// ended, once all have. A worker that ends makes the others end.
+fn run_node<J, S, R, D>(
     rt: &R,
     log: &Log,
-    intake: Intake<X>,
-    beginnings: Vec<(WorkerConfig<X>, P)>,
-    floors: Vec<Change>,
+    prepared: Prepared<D>,
     name: Unnamed,
-    boxed: F,
 ) -> Result<Vec<WorkEnd>, ServeFault>
 where
     J: Naming + Send + Sync,
+    S: Site + Send + Sync,
     R: Threads + Wait + Clock + AllocGlobal + Copy + Send + Sync + Drop + 'static,
-    X: Attachment + Send + 'static,
-    P: WorkPort + Send,
-    <P as Carries<ToClient>>::Connection: Send,
-    <P as Carries<ToServer>>::Connection: Send,
-    <P as Carries<ToPeer>>::Connection: Send,
-    F: Fn(RingClient) -> Option<X> + Send + Drop + 'static,
+    D: Dialer + Send,
     requires named { IsNamed J.book J.name J.parts name }
-    requires callable { F.IsAlwaysCallable boxed }
+    requires site { AreSettingsOf (facts_of S.settings) prepared.settings }
 {
-    let (node, jobs) = match begin_node::<J, _, _, _, _>(
-        rt, log, name, intake, beginnings, floors, boxed,
-    ) {
-        Ok(begun) => begun,
-        Err(fault) => return Err(fault),
+    let Prepared {
+        intake,
+        setups,
+        settings,
+        waiting,
+        floors,
+    } = prepared;
+    let ports = ports_of::<S, R, D>(rt, setups)?;
+    let (node, jobs) = begin_node::<J, _, _>(rt, log, name, intake, ports, &floors)?;
+    let config = WorkerConfig {
+        settings: &settings,
+        waiting,
     };
-    Ok(work_all(rt, &node, jobs, &Open)?)
+    Ok(work_all(rt, &node, config, jobs, &Open)?)
 }
 
 /// Runs a node as [`run_node`] does, under a name that no other node of the program has.
-pub(crate) fn run_prepared<R, X, P, F>(
+pub(crate) fn run_prepared<R, D>(
     rt: &R,
     log: &Log,
-    intake: Intake<X>,
-    beginnings: Vec<(WorkerConfig<X>, P)>,
-    floors: Vec<Change>,
-    boxed: F,
+    prepared: Prepared<D>,
 ) -> Result<Vec<WorkEnd>, ServeFault>
 where
     R: Threads + Wait + Clock + AllocGlobal + Copy + Send + Sync + Drop + 'static,
-    X: Attachment + Send + 'static,
-    P: WorkPort + Send,
-    <P as Carries<ToClient>>::Connection: Send,
-    <P as Carries<ToServer>>::Connection: Send,
-    <P as Carries<ToPeer>>::Connection: Send,
-    F: Fn(RingClient) -> Option<X> + Send + Drop + 'static,
-    requires { F.IsAlwaysCallable boxed }
+    D: Dialer + Send,
 {
-    let name = Unnamed::new(beginnings.len());
-    run_node::<Brand, _, _, _, _>(rt, log, intake, beginnings, floors, name, boxed)
+    let name = Unnamed::new(prepared.setups.len());
+    run_node::<Brand, Brand, R, D>(rt, log, prepared, name)
 }

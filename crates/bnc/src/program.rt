@@ -11,12 +11,12 @@ use crate::ending::End;
 use crate::replaying::replay_script;
 use crate::serving::serve_file;
 use crate::words::{Command, command_in};
-use bnc_ports::ServeFault;
+use bnc_work::WorkEnd;
 use node_config::Config;
+use node_events::ServeFault;
 use std::alloc::Global;
 use std::io;
 use std::io::{BufWriter, Read, Write};
-use worker_io::WorkEnd;
 
 /// Does what the words ask for. `read` reads a file, and `serve` runs a node by a configuration.
 pub(crate) fn end_of_program<'a, In, Out, Files, Node>(

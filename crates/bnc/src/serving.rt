@@ -5,11 +5,11 @@ ghost use Rattle.std.specs.List.{All};
 ghost use Rattle.bnc.specs.Serving.{IsConfigOf, IsEndOfRun, Serves};
 
 use crate::ending::End;
-use bnc_ports::ServeFault;
+use bnc_work::WorkEnd;
 use node_config::{Config, read_config};
+use node_events::ServeFault;
 use std::alloc::Global;
 use std::io;
-use worker_io::WorkEnd;
 
 /// The configuration in a file, by what reading the file gave.
 fn config_in<'a>(alloc: Global, path: &'a str, read: io::Result<Vec<u8>>) -> Result<Config, End<'a>>

@@ -1,8 +1,8 @@
 //! What the operator is told.
 use crate::fault::KeepFault;
 use crate::lost::Lost;
-use bnc_ports::Event;
 use bstr::BStr;
+use node_events::Event;
 use std::fmt;
 use std::net::SocketAddr;
 

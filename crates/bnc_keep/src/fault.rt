@@ -1,7 +1,7 @@
 //! Why nothing is kept.
 use crate::damage::Damage;
-use bnc_ports::StartFault;
 use byte_text::NoMemory;
+use node_events::StartFault;
 use real_file::OpenError;
 use std::alloc::AllocError;
 use std::{fmt, io};

@@ -1,6 +1,6 @@
 //! Why a connection with a peer ended.
-use bnc_ports::Reason;
 use gossip_link::Fault;
+use node_events::Reason;
 use std::fmt;
 
 /// Why a connection with a peer ended.

@@ -8,7 +8,6 @@ use crate::event::KeeperEvent;
 use crate::kept::{carry_out, send_next};
 use crate::lost::Lost;
 use crate::shared::Common;
-use bnc_ports::{Event, Reason};
 use byte_text::NoMemory;
 use chat_history::DELTA_LIMIT;
 use gossip_link::{
@@ -17,6 +16,7 @@ use gossip_link::{
 };
 use irc_line::{Feeder, Next};
 use node_config::PeerConfig;
+use node_events::{Event, Reason};
 use std::alloc::{AllocError, Global};
 use std::io::{ErrorKind, Read, Write};
 use std::sync::{Arc, Wait};

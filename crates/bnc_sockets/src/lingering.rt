@@ -3,7 +3,6 @@ use mio::net::TcpStream;
 use std::alloc::Global;
 use std::collections::VecDeque;
 use std::io::{ErrorKind, Read};
-use std::net::Shutdown;
 
 // So many stay at most. Where one more is closed, the one that was closed first goes.
 const MOST: usize = 16;
@@ -56,9 +55,9 @@ impl Late {
     }
 }
 
-// Connections that were closed here. The system resets a connection that is closed while bytes of the other end lie unread, and
-// the other end then may lose what was sent to it last. So what comes is read, until the other end closes too, for a second at
-// most.
+// Connections that were closed here for sending. The system resets a connection that is closed while bytes of the other end lie
+// unread, and the other end then may lose what was sent to it last. So what comes is read, until the other end closes too, for a
+// second at most.
 #[derive(Drop)]
 pub(crate) struct Lingering {
     // in the order in which they were closed
@@ -77,9 +76,8 @@ impl Lingering {
         self.late.is_empty()
     }
 
-    // Closes a connection for sending, and lets it stay. Where there is no memory for that it goes at once.
+    // Lets a connection stay. Where there is no memory for that it goes at once.
     pub(crate) fn add(&mut self, stream: TcpStream, now: u64) {
-        let _ = stream.shutdown(Shutdown::Write);
         let mut late = Late {
             stream,
             until: now.saturating_add(PATIENCE),

@@ -1,26 +1,28 @@
 //! The port of a worker over sockets.
 
+use crate::addresses::Addresses;
 use crate::connection::SocketConnection;
+use crate::departed::Departed;
+use crate::dialed::{BeingMade, Dialed, Made};
+use crate::dialer::Dialer;
 use crate::handing::{Delivery, Mailbox, Newcomer, Newcomers};
 use crate::lingering::Lingering;
-use crate::socket::{Outcome, Socket, Stage};
-use bnc_ports::{
-    Carries, Clocks, Connection, Dial, Event, Halt, Happening, Kind, Port, PortFault, Unreached,
-};
+use crate::setup::PortSetup;
+use crate::site::Site;
+use crate::times::{monotonic_ms, now_ms};
 use crossbeam_channel::Receiver;
 use mio::event::Event as Readiness;
 use mio::net::TcpStream;
-use mio::{Events, Interest, Poll, Token, Waker};
+use mio::{Events, Poll};
+use network_client::{Dial, Happening, Mail, Port, PortFault};
+use node_events::{Clocks, Event, Unreached};
+use node_ports::{Connection, Fresh, Origin};
 use operator_log::Log;
 use std::alloc::AllocError;
-use std::collections::BTreeMap;
-use std::io;
-use std::net::{Net, SocketAddr};
+use std::net::SocketAddr;
+use std::sync::atomic::{AtomicU64, Ordering};
 use std::sync::{Arc, Wait};
 use std::time::{Clock, Duration};
-
-// The token of the waker. Those of sockets are their numbers.
-const WAKER: Token = Token(usize::MAX);
 
 // How many events the system tells at once.
 const EVENTS: usize = 32;
@@ -32,34 +34,11 @@ const BETWEEN_LOOKS: usize = 2 * EVENTS;
 // How long a worker waits at most, in milliseconds.
 const PATIENCE: u64 = 1000;
 
-/// Where networks and peers are, in the order of the configuration.
-#[derive(Drop)]
-pub struct Addresses {
-    pub networks: Vec<SocketAddr>,
-    pub peers: Vec<SocketAddr>,
-}
-
-impl Addresses {
-    /// A copy of the list.
-    pub fn try_clone(&self) -> Result<Addresses, AllocError> {
-        Ok(Addresses {
-            networks: self.networks.clone()?,
-            peers: self.peers.clone()?,
-        })
-    }
-
-    fn of(&self, what: Dial) -> Option<SocketAddr> {
-        match what {
-            Dial::Network(network) => self.networks.get(network).copied(),
-            Dial::Peer(peer) => self.peers.get(peer).copied(),
-        }
-    }
-}
-
-/// The connections of one worker, over sockets; workers tell each other an `M`. As it is dropped, the workers of all its
-/// mailboxes are told to end.
-pub struct SocketPort<R: Wait + Drop, M: Drop> {
+/// Where one worker's connections come from, over sockets. It keeps none of them, but for those that are being made and those that
+/// were let go. As it is dropped, the workers of all its mailboxes are told to end.
+pub struct SocketPort<C: Connection, R: Wait + Drop, D: Dialer> {
     rt: R,
+    dialer: D,
     poll: Poll,
     events: Events,
     // The next event to be looked at.
@@ -72,23 +51,25 @@ pub struct SocketPort<R: Wait + Drop, M: Drop> {
     is_turn_of_events: bool,
     // Whether a delivery comes next of what was handed in, before a newcomer.
     is_turn_of_parcels: bool,
-    deliveries: Receiver<Delivery<M>>,
+    deliveries: Receiver<Delivery<C>>,
     newcomers: Newcomers,
-    mailboxes: Vec<Mailbox<M>>,
-    sockets: BTreeMap<usize, Socket>,
-    // Those that the worker has closed.
+    mailboxes: Vec<Mailbox<C>>,
+    being_made: BeingMade,
+    // Those that were let go, and those of them that were looked at.
+    departed: Departed,
     lingering: Lingering,
-    // The number of the next socket. No two have the same one, so what was meant for a socket that is gone reaches no other.
-    number: usize,
+    // The number of the node's next connection.
+    serial: Arc<AtomicU64>,
     addresses: Addresses,
     log: Log,
 }
 
-impl<R: Wait + Drop, M: Drop> Drop for SocketPort<R, M> {
+impl<C: Connection, R: Wait + Drop, D: Dialer> Drop for SocketPort<C, R, D> {
     fn drop(self) {
         self.stop_all();
         let Self {
             rt: _,
+            dialer: _,
             poll: _,
             events: _,
             at: _,
@@ -99,16 +80,17 @@ impl<R: Wait + Drop, M: Drop> Drop for SocketPort<R, M> {
             deliveries: _,
             newcomers: _,
             mailboxes: _,
-            sockets: _,
+            being_made: _,
+            departed: _,
             lingering: _,
-            number: _,
+            serial: _,
             addresses: _,
             log: _,
         } = self;
     }
 }
 
-impl<R: Wait + Drop, M: Drop> SocketPort<R, M> {
+impl<C: Connection, R: Wait + Drop, D: Dialer> SocketPort<C, R, D> {
     // Tells all workers to end.
     fn stop_all(&self) {
         for mailbox in self.mailboxes.iter() {
@@ -117,23 +99,42 @@ impl<R: Wait + Drop, M: Drop> SocketPort<R, M> {
     }
 }
 
-impl<R: Net + Wait + Clock + AllocGlobal + Drop, M: Drop> SocketPort<R, M> {
-    /// The port of the worker whose deliveries and newcomers arrive there, and whose poll has the waker of [`waker_of`].
-    /// `mailboxes` are those of all workers, in their order.
-    pub fn new(
+// Where a connection comes from that was dialed.
+fn origin_of(what: Dial) -> Origin {
+    match what {
+        Dial::Network(place) => Origin::NetworkDialed(place),
+        Dial::Peer(place) => Origin::PeerDialed(place),
+    }
+}
+
+impl<S: Site, R: Wait + Clock + AllocGlobal + Drop, D: Dialer> SocketPort<
+    SocketConnection<S>,
+    R,
+    D,
+> {
+    // The port of the worker of that setup, to which deliveries arrive there. `mailboxes` are those of all workers, in their
+    // order.
+    pub(crate) fn new(
         rt: R,
-        poll: Poll,
-        deliveries: Receiver<Delivery<M>>,
-        newcomers: Newcomers,
-        mailboxes: Vec<Mailbox<M>>,
-        addresses: Addresses,
-        log: Log,
-    ) -> Result<SocketPort<R, M>, AllocError> {
-        let events = Events::with_capacity(rt.alloc(), EVENTS)?;
-        let sockets = BTreeMap::new(rt.alloc());
-        let lingering = Lingering::new(rt.alloc());
+        setup: PortSetup<D>,
+        deliveries: Receiver<Delivery<SocketConnection<S>>>,
+        mailboxes: Vec<Mailbox<SocketConnection<S>>>,
+    ) -> Result<SocketPort<SocketConnection<S>, R, D>, AllocError> {
+        let alloc = rt.alloc();
+        let events = Events::with_capacity(alloc, EVENTS)?;
+        let departed = Departed::new(alloc)?;
+        let PortSetup {
+            dialer,
+            poll,
+            waker: _,
+            newcomers,
+            serial,
+            addresses,
+            log,
+        } = setup;
         Ok(SocketPort {
             rt,
+            dialer,
             poll,
             events,
             at: 0,
@@ -144,53 +145,41 @@ impl<R: Net + Wait + Clock + AllocGlobal + Drop, M: Drop> SocketPort<R, M> {
             deliveries,
             newcomers,
             mailboxes,
-            sockets,
-            lingering,
-            number: 0,
+            being_made: BeingMade::new(alloc),
+            departed,
+            lingering: Lingering::new(alloc),
+            serial,
             addresses,
             log,
         })
     }
 
-    // Registers a connection under a new number. Where that fails it is closed.
-    fn add(&mut self, stream: TcpStream, address: SocketAddr, stage: Stage) -> Option<usize> {
+    // A connection over that stream, over which nothing went. None where there is no memory.
+    fn fresh(
+        &self,
+        stream: TcpStream,
+        address: SocketAddr,
+        origin: Origin,
+    ) -> Option<Fresh<SocketConnection<S>>> {
         // Without it small lines wait for one another.
         let _ = stream.set_nodelay(true);
-        let number = self.number;
-        self.number = number.checked_add(1)?;
-        let socket = Socket {
-            stream,
-            address,
-            stage,
-        };
-        if self.sockets.insert(number, socket).is_err() {
-            return None;
+        let departed = self.departed.try_clone().ok()?;
+        let serial = self.serial.fetch_add(1, Ordering::SeqCst);
+        Some(SocketConnection::over(stream, address, origin, serial, departed))
+    }
+
+    // Takes in the sockets that were let go since.
+    fn take_departed(&mut self) {
+        for _ in 0..EVENTS {
+            let Some(stream) = self.departed.pop() else {
+                return;
+            };
+            let now = monotonic_ms(&self.rt).unwrap_or(0);
+            self.lingering.add(stream, now);
         }
-        if self.register(number) {
-            return Some(number);
-        }
-        self.close_socket(number);
-        None
     }
 
-    fn register(&mut self, number: usize) -> bool {
-        let Some(socket) = self.sockets.get_mut(&number) else {
-            return false;
-        };
-        let interests = Interest::READABLE | Interest::WRITABLE;
-        let registry = self.poll.registry();
-        registry
-            .register(&mut socket.stream, Token(number), interests)
-            .is_ok()
-    }
-
-    // A stream that is dropped is closed, and leaves the poll.
-    fn close_socket(&mut self, number: usize) {
-        drop(self.sockets.remove(&number));
-    }
-
-    // Reads on from the sockets that the worker has closed. Each look of at most a second does so, and bytes that come meanwhile
-    // end it.
+    // Reads on from the sockets that were let go. Each look of at most a second does so, and bytes that come meanwhile end it.
     fn read_lingering(&mut self) {
         if self.lingering.is_empty() {
             return;
@@ -201,7 +190,7 @@ impl<R: Net + Wait + Clock + AllocGlobal + Drop, M: Drop> SocketPort<R, M> {
     }
 
     // What another worker handed in next.
-    fn next_parcel(&self) -> Option<Happening<M>> {
+    fn next_parcel(&self) -> Option<Happening<SocketConnection<S>>> {
         match self.deliveries.try_recv(&self.rt) {
             Ok(Delivery::Mail(mail)) => Some(Happening::Mail(mail)),
             Ok(Delivery::Stop) => Some(Happening::Ended),
@@ -209,8 +198,8 @@ impl<R: Net + Wait + Clock + AllocGlobal + Drop, M: Drop> SocketPort<R, M> {
         }
     }
 
-    // Who came in next. A peer for whom there is no memory is closed.
-    fn next_newcomer(&mut self) -> Option<Happening<M>> {
+    // Who came in next. One for whom there is no memory is closed.
+    fn next_newcomer(&mut self) -> Option<Happening<SocketConnection<S>>> {
         for _ in 0..usize::MAX {
             let newcomer = self.newcomers.next(&self.rt)?;
             let happening = self.let_in(newcomer);
@@ -221,28 +210,27 @@ impl<R: Net + Wait + Clock + AllocGlobal + Drop, M: Drop> SocketPort<R, M> {
         None
     }
 
-    fn let_in(&mut self, newcomer: Newcomer) -> Option<Happening<M>> {
+    fn let_in(&self, newcomer: Newcomer) -> Option<Happening<SocketConnection<S>>> {
         match newcomer {
             Newcomer::Client {
                 stream,
                 address,
-                ticket,
+                ring,
             } => {
-                // The worker is told also where that fails: it finds no connection then, and lets the place go.
-                let number = self.number;
-                let _ = self.add(stream, address, Stage::Connected);
-                Some(Happening::Client { number, ticket })
+                let fresh = self.fresh(stream, address, Origin::ClientCame)?;
+                Some(Happening::Client { fresh, ring })
             }
             Newcomer::Peer { stream, address } => {
-                let number = self.add(stream, address, Stage::Connected)?;
-                Some(Happening::Peer { number })
+                let fresh = self.fresh(stream, address, Origin::PeerCame)?;
+                Some(Happening::Came(fresh))
             }
-            Newcomer::Leave { ticket } => Some(Happening::Leave { ticket }),
+            Newcomer::Leave => Some(Happening::Leave),
+            Newcomer::Stop => Some(Happening::Ended),
         }
     }
 
     // What was handed in next: deliveries and newcomers by turns, as long as both are there.
-    fn next_handed(&mut self) -> Option<Happening<M>> {
+    fn next_handed(&mut self) -> Option<Happening<SocketConnection<S>>> {
         let is_turn_of_parcels = self.is_turn_of_parcels;
         self.is_turn_of_parcels = !is_turn_of_parcels;
         if is_turn_of_parcels {
@@ -259,7 +247,7 @@ impl<R: Net + Wait + Clock + AllocGlobal + Drop, M: Drop> SocketPort<R, M> {
     }
 
     // What the next event that the system told says, where one is left that says something.
-    fn next_event(&mut self) -> Option<Happening<M>> {
+    fn next_event(&mut self) -> Option<Happening<SocketConnection<S>>> {
         for _ in 0..EVENTS {
             let event = self.events.iter().as_slice().get(self.at).copied()?;
             self.at = self.at.saturating_add(1);
@@ -272,7 +260,7 @@ impl<R: Net + Wait + Clock + AllocGlobal + Drop, M: Drop> SocketPort<R, M> {
     }
 
     // What is there: events, and what was handed in, by turns, as long as both are there.
-    fn next_there(&mut self) -> Option<Happening<M>> {
+    fn next_there(&mut self) -> Option<Happening<SocketConnection<S>>> {
         let is_turn_of_events = self.is_turn_of_events;
         self.is_turn_of_events = !is_turn_of_events;
         self.taken = self.taken.saturating_add(1);
@@ -289,35 +277,35 @@ impl<R: Net + Wait + Clock + AllocGlobal + Drop, M: Drop> SocketPort<R, M> {
         }
     }
 
-    // An event may be an old one, of a socket that is gone. None where it says nothing.
-    fn read_event(&mut self, event: &Readiness) -> Option<Happening<M>> {
-        if event.token() == WAKER {
-            return None;
+    // An event may be an old one, of a connection that is gone. None where it says nothing, as that of the waker.
+    fn read_event(&mut self, event: &Readiness) -> Option<Happening<SocketConnection<S>>> {
+        let token = event.token();
+        if !BeingMade::is_token(token) {
+            return Some(Happening::Ready {
+                token: token.0,
+                is_readable: event.is_readable() || event.is_read_closed() || event.is_error(),
+                is_writable: event.is_writable() || event.is_write_closed(),
+            });
         }
-        let number = event.token().0;
-        let kept = self.sockets.get_mut(&number)?;
-        if let Stage::Connecting(what) = kept.stage {
-            return self.read_outcome(number, what);
+        match self.being_made.take(self.poll.registry(), token)? {
+            Made::There(dialed) => Some(self.come(dialed)),
+            Made::Refused(what, why) => Some(Happening::Refused { what, why }),
         }
-        Some(Happening::Ready {
-            number,
-            readable: event.is_readable() || event.is_read_closed() || event.is_error(),
-            writable: event.is_writable() || event.is_write_closed(),
-        })
     }
 
-    fn read_outcome(&mut self, number: usize, what: Dial) -> Option<Happening<M>> {
-        let kept = self.sockets.get_mut(&number)?;
-        match kept.outcome() {
-            Outcome::Pending => None,
-            Outcome::Connected => {
-                kept.stage = Stage::Connected;
-                Some(Happening::Opened { number, what })
-            }
-            Outcome::Failed(why) => {
-                self.close_socket(number);
-                Some(Happening::Refused { number, what, why })
-            }
+    // A connection that was dialed is there.
+    fn come(&self, dialed: Dialed) -> Happening<SocketConnection<S>> {
+        let Dialed {
+            stream,
+            address,
+            what,
+        } = dialed;
+        match self.fresh(stream, address, origin_of(what)) {
+            Some(fresh) => Happening::Came(fresh),
+            None => Happening::Refused {
+                what,
+                why: Unreached::NoMemory,
+            },
         }
     }
 
@@ -336,12 +324,14 @@ impl<R: Net + Wait + Clock + AllocGlobal + Drop, M: Drop> SocketPort<R, M> {
     }
 }
 
-impl<R: Net + Wait + Clock + AllocGlobal + Drop, M: Drop> Port for SocketPort<R, M> {
-    type Mail = M;
+impl<S: Site, R: Wait + Clock + AllocGlobal + Drop, D: Dialer> Port
+    for SocketPort<SocketConnection<S>, R, D> {
+    type Connection = SocketConnection<S>;
 
     // The sockets are looked at before each `Nothing`, and after some happenings at the latest: so in each turn of a worker that
     // takes as many at once.
-    fn next(&mut self, patience: u64) -> Result<Happening<M>, PortFault> {
+    fn next(&mut self, patience: u64) -> Result<Happening<SocketConnection<S>>, PortFault> {
+        self.take_departed();
         if self.taken >= BETWEEN_LOOKS {
             self.look(0)?;
         }
@@ -358,30 +348,46 @@ impl<R: Net + Wait + Clock + AllocGlobal + Drop, M: Drop> Port for SocketPort<R,
         Ok(Happening::Nothing)
     }
 
-    // What a worker opened is closed by its own value alone.
-    fn give_up(&mut self, number: usize) {
-        match self.sockets.get(&number) {
-            Some(kept) if kept.stage != Stage::Open => self.close_socket(number),
-            _ => {}
-        }
-    }
-
-    fn dial(&mut self, what: Dial) -> Result<usize, Unreached> {
+    fn dial(&mut self, what: Dial) -> Result<(), Unreached> {
         let Some(address) = self.addresses.of(what) else {
             return Err(Unreached::Gone);
         };
-        let stream = TcpStream::connect(&self.rt, address)?;
-        match self.add(stream, address, Stage::Connecting(what)) {
-            Some(socket) => Ok(socket),
-            None => Err(Unreached::NoMemory),
-        }
+        let stream = self.dialer.connect(address)?;
+        let dialed = Dialed {
+            stream,
+            address,
+            what,
+        };
+        self.being_made.add(self.poll.registry(), dialed)
     }
 
     fn target(&self, what: Dial) -> Option<SocketAddr> {
         self.addresses.of(what)
     }
 
-    fn send_mail(&mut self, worker: usize, mail: M) -> Result<(), PortFault> {
+    fn watch(
+        &mut self,
+        connection: &mut SocketConnection<S>,
+        token: usize,
+    ) -> Result<(), PortFault> {
+        match connection.register(self.poll.registry(), token) {
+            Ok(()) => Ok(()),
+            Err(_) => Err(PortFault),
+        }
+    }
+
+    fn unwatch(&mut self, connection: &mut SocketConnection<S>) {
+        let _ = connection.deregister(self.poll.registry());
+    }
+
+    fn send_mail(
+        &mut self,
+        worker: usize,
+        mail: &mut Option<Mail<SocketConnection<S>>>,
+    ) -> Result<(), PortFault> {
+        let Some(mail) = mail.take() else {
+            return Ok(());
+        };
         let Some(mailbox) = self.mailboxes.get(worker) else {
             drop(mail);
             return Err(PortFault);
@@ -393,13 +399,6 @@ impl<R: Net + Wait + Clock + AllocGlobal + Drop, M: Drop> Port for SocketPort<R,
         self.mailboxes.len()
     }
 
-    fn backlog(&self, worker: usize) -> usize {
-        match self.mailboxes.get(worker) {
-            Some(mailbox) => mailbox.waiting(),
-            None => 0,
-        }
-    }
-
     fn clocks(&mut self) -> Result<Clocks, PortFault> {
         match (now_ms(&self.rt), monotonic_ms(&self.rt)) {
             (Some(wall), Some(monotonic)) => Ok(Clocks { wall, monotonic }),
@@ -409,75 +408,5 @@ impl<R: Net + Wait + Clock + AllocGlobal + Drop, M: Drop> Port for SocketPort<R,
 
     fn report(&mut self, event: &Event<'_>) {
         self.log.report(&self.rt, event);
-    }
-}
-
-impl<K: Kind, R: Net + Wait + Clock + AllocGlobal + Drop, M: Drop> Carries<K> for SocketPort<R, M> {
-    type Connection = SocketConnection;
-
-    fn open(&mut self, number: usize) -> Option<SocketConnection> {
-        let kept = self.sockets.get_mut(&number)?;
-        if kept.open() {
-            Some(SocketConnection::new(number))
-        } else {
-            None
-        }
-    }
-
-    fn receive(
-        &mut self,
-        connection: &mut SocketConnection,
-        buffer: &mut [u8],
-    ) -> Result<usize, Halt> {
-        let Some(number) = self.sockets.get_mut(&connection.number()) else {
-            return Err(Halt::Closed);
-        };
-        let count = number.receive(buffer)?;
-        connection.note_received(&buffer[..count]);
-        Ok(count)
-    }
-
-    fn send(&mut self, connection: &mut SocketConnection, bytes: &[u8]) -> Result<usize, Halt> {
-        let Some(number) = self.sockets.get_mut(&connection.number()) else {
-            return Err(Halt::Closed);
-        };
-        let count = number.send(bytes)?;
-        connection.note_sent(&bytes[..count]);
-        Ok(count)
-    }
-
-    fn close(&mut self, connection: SocketConnection) {
-        if let Some(socket) = self.sockets.remove(&connection.number()) {
-            let now = monotonic_ms(&self.rt).unwrap_or(0);
-            self.lingering.add(socket.stream, now);
-        }
-    }
-
-    fn address(&self, connection: &SocketConnection) -> Option<SocketAddr> {
-        match self.sockets.get(&connection.number()) {
-            Some(number) => Some(number.address),
-            None => None,
-        }
-    }
-}
-
-/// Milliseconds since 1970 began, by the wall clock. None where the system has no such clock.
-pub fn now_ms<R: Clock>(rt: &R) -> Option<u64> {
-    let now = rt.since_1970().ok()?;
-    u64::try_from(now.as_millis()).ok()
-}
-
-/// Milliseconds by the system's monotonic clock. None where it has none.
-pub fn monotonic_ms<R: Clock>(rt: &R) -> Option<u64> {
-    let now = rt.monotonic().ok()?;
-    u64::try_from(now.as_millis()).ok()
-}
-
-/// The waker of a poll, under the token that a port knows.
-pub fn waker_of<R: AllocGlobal>(rt: &R, poll: &Poll) -> io::Result<Arc<Waker>> {
-    let waker = Waker::new(poll.registry(), WAKER)?;
-    match Arc::new(rt.alloc(), waker) {
-        Ok(waker) => Ok(waker),
-        Err(error) => Err(io::Error::from(error)),
     }
 }

@@ -1,3 +1,2 @@
-pub mod FloorsLemmas
-pub mod PuttingLemmas
-pub mod TakingLemmas
+mod AgreementLemmas
+mod OrderLemmas

@@ -1,2 +1,8 @@
--- What a reader must believe: what a worker may put into its node.
-pub mod Putting
+-- ---- what a reader has to believe: which settings are those of a node, and timers with their moments and which of them is due
+
+pub mod Settings
+pub mod Timers
+-- ---- what only the proofs use of the code: the orders, and how the two collections of timers agree
+
+pub mod Order
+pub mod Agreement

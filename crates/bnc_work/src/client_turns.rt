@@ -1,176 +1,237 @@
-//! The turns of clients.
-use crate::marker_turns::{ask_gate, tell_mark_of};
-use crate::node::Node;
-use crate::publisher::Publisher;
-use crate::server_turns::do_said;
-use crate::work_port::{PortClients, PortServers, WorkPort};
-use bnc_ports::{Carries, Connection, Port, Reason};
-use chat_change::Change;
-use client_places::Attachment;
-use network_session::mail_said;
-use passed_lines::Mail;
-use work_clients::{ClientEffect, ClientPut, ClientStep, Clients, ToClient};
-use worker_io::{Context, WorkEnd};
+//! The turns of the clients of networks.
+use crate::hosting::Attendee;
+use crate::reasons::of_client;
+use crate::seats::Seat;
+use crate::timer::Timer;
+use crate::visitor_turns::PATIENCE;
+use crate::worker::Worker;
+use hosted_network::ClientTurn;
+use network_client::{Fall, Port};
+use node_events::Event;
+use node_ports::Connection;
+use worker_pass::WorkPass;
 
-/// So many steps a client has before the others have their turn.
-const STEPS: usize = 64;
-
-/// Messages that came are told, and those clients that have something to do by now have a turn each.
-pub(crate) fn serve_clients<N: Node, X: Attachment, P: WorkPort>(
-    publisher: &mut Publisher<N>,
-    context: &mut Context<P>,
-    clients: &mut PortClients<X, P>,
-    servers: &mut PortServers<P>,
-) -> Result<(), WorkEnd> {
-    clients.tell_untold(context);
-    for _ in 0..clients.busy_count() {
-        if let Some(number) = clients.next_busy() {
-            serve_client(publisher, context, clients, servers, number)?;
+impl<'a, C, P, N> Worker<'a, C, P, N>
+where
+    C: Connection,
+    P: Port<Connection = C>,
+    N: WorkPass<Connection = C>,
+{
+    /// What the port tells of the connection of that token, which has something to do then.
+    pub(crate) fn mark(&mut self, token: usize, is_readable: bool, is_writable: bool) {
+        match self.seats.get(token) {
+            Some(Seat::Visitor(_)) => {
+                if let Some(visitor) = self.seats.visitor(token) {
+                    visitor.newcomer.mark(is_readable, is_writable);
+                }
+            }
+            Some(Seat::Client { network, order }) => {
+                let (network, order) = (*network, *order);
+                self.mark_client(network, order, is_readable, is_writable);
+            }
+            Some(Seat::Server { network }) => {
+                let network = *network;
+                if let Some(hosting) = self.networks.get_mut(network) {
+                    hosting.network.mark_server(is_readable, is_writable);
+                }
+            }
+            Some(Seat::Peer) => {
+                if let Some(peers) = &mut self.peers {
+                    peers.mark(token, is_readable, is_writable);
+                }
+                return;
+            }
+            Some(Seat::Away) | None => return,
         }
+        self.seats.wake(token);
     }
-    Ok(())
-}
 
-// The turn of one client.
-fn serve_client<N: Node, X: Attachment, P: WorkPort>(
-    publisher: &mut Publisher<N>,
-    context: &mut Context<P>,
-    clients: &mut PortClients<X, P>,
-    servers: &mut PortServers<P>,
-    number: usize,
-) -> Result<(), WorkEnd> {
-    let mut has_more = true;
-    for _ in 0..STEPS {
-        match clients.step(context, publisher.node.reader(), number) {
-            ClientStep::Do => do_client(publisher, context, clients, servers, number)?,
-            ClientStep::Again => {}
-            ClientStep::End(reason) => clients.end(context, number, reason),
-            ClientStep::Wait => break,
-            ClientStep::Rest => {
-                has_more = false;
-                break;
-            }
-            ClientStep::Over(reason) => {
-                clients.close(context, number, reason);
-                return Ok(());
-            }
-        }
-    }
-    clients.finish(context, number, has_more);
-    Ok(())
-}
-
-// Does what a line of a client comes to, in its order. Where something of it is refused the client is closed, and nothing is
-// left of it.
-fn do_client<N: Node, X: Attachment, P: WorkPort>(
-    publisher: &mut Publisher<N>,
-    context: &mut Context<P>,
-    clients: &mut PortClients<X, P>,
-    servers: &mut PortServers<P>,
-    number: usize,
-) -> Result<(), WorkEnd> {
-    clients.note_registration(context, number);
-    for _ in 0..usize::MAX {
-        let done = match clients.next_effect(context.view.alloc, number) {
-            Ok(Some(ClientEffect::Ask)) => answer(&mut publisher.node, context, clients, number),
-            Ok(Some(ClientEffect::Put(put))) => put_for(publisher, context, clients, number, put),
-            Ok(Some(ClientEffect::Upstream)) => {
-                let done = hand_up(publisher, context, clients, servers, number);
-                clients.line_done(number);
-                done
-            }
-            Ok(Some(ClientEffect::Close)) => {
-                clients.end(context, number, Reason::Ended);
-                Ok(())
-            }
-            Ok(None) => return Ok(()),
-            Err(reason) => {
-                clients.close(context, number, reason);
-                Ok(())
-            }
+    fn mark_client(&mut self, network: usize, order: u64, is_readable: bool, is_writable: bool) {
+        let Some(hosting) = self.networks.get_mut(network) else {
+            return;
         };
-        done?;
+        let Some(place) = hosting.place_of(order) else {
+            return;
+        };
+        if place < hosting.network.client_count() {
+            hosting.network.mark_client(place, is_readable, is_writable);
+        }
     }
-    Ok(())
-}
 
-// Answers what a client asks, where the gate lets the answer out.
-fn answer<N: Node, X: Attachment, C: Connection, P: Carries<ToClient, Connection = C>>(
-    node: &mut N,
-    context: &mut Context<P>,
-    clients: &mut Clients<X, C>,
-    number: usize,
-) -> Result<(), WorkEnd> {
-    ask_gate(node, &context.view)?;
-    if let Err(reason) = clients.answer(context, node.reader(), number) {
-        clients.close(context, number, reason);
+    /// The client of that token has its turn.
+    pub(crate) fn serve(&mut self, token: usize) {
+        match self.seats.get(token) {
+            Some(Seat::Visitor(_)) => self.serve_visitor(token),
+            Some(Seat::Client { network, order }) => {
+                let (network, order) = (*network, *order);
+                self.serve_client(token, network, order);
+            }
+            Some(Seat::Server { .. } | Seat::Peer | Seat::Away) | None => {}
+        }
     }
-    Ok(())
-}
 
-// Puts a client's marker, and tells the other sessions. Where it waits to be published, nobody can be told yet, and the
-// client can't be answered.
-fn put_for<
-    N: Node,
-    X: Attachment,
-    C: Connection,
-    P: Port<Mail = Mail> + Carries<ToClient, Connection = C>,
->(
-    publisher: &mut Publisher<N>,
-    context: &mut Context<P>,
-    clients: &mut Clients<X, C>,
-    number: usize,
-    put: ClientPut,
-) -> Result<(), WorkEnd> {
-    let (is_published, change) = publisher.put_of_client(context, put);
-    let done = if is_published {
-        tell_put(&mut publisher.node, context, clients, number, &change)
-    } else {
-        clients.close(context, number, Reason::NoMemory);
-        Ok(())
-    };
-    drop(change);
-    done
-}
+    // A client of a network has its turn.
+    fn serve_client(&mut self, token: usize, index: usize, order: u64) {
+        let Some(hosting) = self.networks.get_mut(index) else {
+            return;
+        };
+        let Some(place) = hosting.place_of(order) else {
+            return;
+        };
+        if place >= hosting.network.client_count() {
+            return;
+        }
+        let turn = hosting
+            .network
+            .client_turn(place, &mut self.pass, &mut self.tools, self.moment);
+        self.end_client_turn(token, index, place, turn);
+        self.after_turn(index);
+    }
 
-// The other sessions are told what a client put.
-fn tell_put<
-    N: Node,
-    X: Attachment,
-    C: Connection,
-    P: Port<Mail = Mail> + Carries<ToClient, Connection = C>,
->(
-    node: &mut N,
-    context: &mut Context<P>,
-    clients: &mut Clients<X, C>,
-    number: usize,
-    change: &Change,
-) -> Result<(), WorkEnd> {
-    match change {
-        Change::Mark { buffer, .. } => tell_mark_of(node, context, clients, buffer, Some(number)),
-        _ => Ok(()),
+    fn end_client_turn(&mut self, token: usize, index: usize, place: usize, turn: ClientTurn) {
+        if turn == ClientTurn::Again {
+            self.seats.wake(token);
+        }
+        let Some(hosting) = self.networks.get_mut(index) else {
+            return;
+        };
+        let Some(attendee) = hosting.attendees.get_mut(place) else {
+            return;
+        };
+        attendee.waits = turn == ClientTurn::Waits;
+        if attendee.is_leaving || place >= hosting.network.client_count() {
+            return;
+        }
+        let is_ending = turn == ClientTurn::Ending;
+        if hosting.network.client(place).facts().is_some() && !is_ending {
+            return;
+        }
+        attendee.is_leaving = true;
+        let until = self.now.saturating_add(PATIENCE);
+        if self.timers.try_set(Timer::Client(token), until).is_err() {
+            hosting.network.client_falls(place, Fall::NoMemory);
+        }
     }
-}
 
-// Hands a client's line to its network's server, or to the worker that serves the network.
-fn hand_up<N: Node, X: Attachment, P: WorkPort>(
-    publisher: &mut Publisher<N>,
-    context: &mut Context<P>,
-    clients: &mut PortClients<X, P>,
-    servers: &mut PortServers<P>,
-    number: usize,
-) -> Result<(), WorkEnd> {
-    let (Some(network), Some(said)) = (clients.network(number), clients.line_for_server(number))
-    else {
-        return Ok(());
-    };
-    let worker = context.view.server_of(network);
-    if worker == context.view.worker {
-        let step = servers.say(context, network, &said);
-        return do_said(publisher, context, clients, servers, step);
+    /// Behind a turn of one of the network's clients, or of its server: what clients were told goes out, who is gone leaves, and what
+    /// is owed to the server goes out at its next turn.
+    pub(crate) fn after_turn(&mut self, index: usize) {
+        let Some(hosting) = self.networks.get_mut(index) else {
+            return;
+        };
+        hosting.has_unsent = hosting.network.clients_send();
+        if let Some(server) = hosting.server {
+            self.seats.wake(server);
+        }
+        self.clients_leave(index);
     }
-    if mail_said(context, worker, network, &said).is_err() {
-        clients.close(context, number, Reason::NoMemory);
+
+    /// Clients of networks that can be sent more at once are sent it.
+    pub(crate) fn send_unsent(&mut self) {
+        for index in 0..self.networks.len() {
+            let Some(hosting) = self.networks.get_mut(index) else {
+                return;
+            };
+            if hosting.has_unsent {
+                hosting.has_unsent = hosting.network.clients_send();
+                self.clients_leave(index);
+            }
+        }
     }
-    Ok(())
+
+    /// Those clients of the network that are gone leave. The operator is told.
+    pub(crate) fn clients_leave(&mut self, index: usize) {
+        let Some(hosting) = self.networks.get(index) else {
+            return;
+        };
+        let count = hosting.network.client_count();
+        let mut has_some = false;
+        for place in (0..count).rev() {
+            has_some |= self.client_leaves(index, place);
+        }
+        if !has_some {
+            return;
+        }
+        if let Some(hosting) = self.networks.get_mut(index) {
+            hosting.network.clients_leave();
+        }
+    }
+
+    // Whether the client at that place is gone. If so, its seat goes, and the operator is told.
+    fn client_leaves(&mut self, index: usize, place: usize) -> bool {
+        let Some(hosting) = self.networks.get(index) else {
+            return false;
+        };
+        if place >= hosting.network.client_count() || place >= hosting.attendees.len() {
+            return false;
+        }
+        if !hosting.network.client(place).is_gone() {
+            return false;
+        }
+        self.tell_left(index, place);
+        self.leave_attendance(index, place);
+        true
+    }
+
+    // The operator is told of a client of the network that is gone.
+    fn tell_left(&mut self, index: usize, place: usize) {
+        let Some(hosting) = self.networks.get(index) else {
+            return;
+        };
+        if place >= hosting.network.client_count() {
+            return;
+        }
+        let client = hosting.network.client(place);
+        let config = hosting.network.config();
+        let event = Event::ClientOut {
+            account: config.account.as_bytes(),
+            network: config.network.as_bytes(),
+            address: client.connection().address(),
+            reason: of_client(client.why()),
+        };
+        self.port.report(&event);
+    }
+
+    // What the worker keeps of the client at that place goes, with its seat and its timer.
+    fn leave_attendance(&mut self, index: usize, place: usize) {
+        let Some(hosting) = self.networks.get_mut(index) else {
+            return;
+        };
+        if place >= hosting.attendees.len() {
+            return;
+        }
+        let Attendee { token, .. } = hosting.attendees.remove(place);
+        self.timers.clear(Timer::Client(token));
+        self.seats.remove(token);
+    }
+
+    /// A client whose session has ended had long enough to read what it was told last.
+    pub(crate) fn client_is_due(&mut self, token: usize) {
+        let Some(Seat::Client { network, order }) = self.seats.get(token) else {
+            return;
+        };
+        let (index, order) = (*network, *order);
+        let Some(hosting) = self.networks.get_mut(index) else {
+            return;
+        };
+        let Some(place) = hosting.place_of(order) else {
+            return;
+        };
+        if place < hosting.network.client_count() {
+            hosting.network.client_falls(place, Fall::Ended);
+            self.clients_leave(index);
+        }
+    }
+
+    /// The clients of a network are told the read marker of that target, where it rose (IRCv3 draft/read-marker).
+    pub(crate) fn inform(&mut self, network: usize, target: &[u8]) {
+        let Some(index) = self.index_of(network) else {
+            return;
+        };
+        let Some(hosting) = self.networks.get_mut(index) else {
+            return;
+        };
+        hosting.network.inform(&mut self.pass, target);
+        self.after_turn(index);
+    }
 }

@@ -1,279 +1,248 @@
 //! The turns of networks' servers.
-use crate::entries::spread;
-use crate::marker_turns::tell_mark_to_all;
-use crate::node::Node;
-use crate::publisher::Publisher;
-use crate::work_port::{PortClients, PortServers, WorkPort};
-use bnc_ports::{Carries, Connection, Port, Reason};
-use byte_text::NoMemory;
-use client_places::Attachment;
-use network_session::{
-    Deed, News, PutQueue, ServerEffects, ServerPut, is_another_behind, mail_line, mail_others,
-};
-use passed_lines::{Live, Mail, Passed};
-use work_clients::{Clients, ToClient};
-use work_servers::{SaidStep, ServerStep, Servers, ToServer};
-use worker_io::{Context, WorkEnd};
+use crate::reasons::of_server;
+use crate::seats::Seat;
+use crate::timer::Timer;
+use crate::worker::Worker;
+use cluster_directory::SessionConfig;
+use hosted_network::{ServerEnd, ServerTurn, TurnTime};
+use network_client::{Dial, Port};
+use node_events::{Event, Reason, Unreached};
+use node_ports::{Connection, Fresh};
+use worker_pass::WorkPass;
 
-/// So many lines of a server are taken before the others have their turn: about as many as one read brings, so that what
-/// they come to is written to each client at once.
-const STEPS: usize = 128;
-
-/// The turn of one server. While another worker is behind with its mail, none of its lines is taken. Its messages are put
-/// as one list: at the end of the turn, or before anything else that a line comes to is done.
-pub(crate) fn serve_server<N: Node, X: Attachment, P: WorkPort>(
-    publisher: &mut Publisher<N>,
-    context: &mut Context<P>,
-    clients: &mut PortClients<X, P>,
-    servers: &mut PortServers<P>,
-    number: usize,
-) -> Result<(), WorkEnd> {
-    let steps = if is_another_behind(context) { 0 } else { STEPS };
-    let mut has_more = true;
-    let mut over = None;
-    for _ in 0..steps {
-        match servers.step(context, number) {
-            ServerStep::Do(effects) => {
-                do_step(publisher, context, clients, servers, number, effects)?;
-            }
-            ServerStep::Again => {}
-            ServerStep::Rest => {
-                has_more = false;
-                break;
-            }
-            ServerStep::Over(reason) => {
-                over = Some(reason);
-                break;
-            }
-        }
-    }
-    put_queued(publisher, context, clients, servers, number);
-    let update = servers.end_turn(context, number, over, has_more);
-    spread(context, clients, update, false);
-    Ok(())
-}
-
-// What a line of a server comes to: a message waits behind those of the lines before it, and anything else is done.
-fn do_step<N: Node, X: Attachment, P: WorkPort>(
-    publisher: &mut Publisher<N>,
-    context: &mut Context<P>,
-    clients: &mut PortClients<X, P>,
-    servers: &mut PortServers<P>,
-    number: usize,
-    effects: ServerEffects,
-) -> Result<(), WorkEnd> {
-    if servers.queue_message(&mut publisher.queue, number, &effects) {
-        servers.recycle(number, effects);
-        return Ok(());
-    }
-    if put_queued(publisher, context, clients, servers, number) {
-        return do_server(publisher, context, clients, servers, number, effects);
-    }
-    drop(effects);
-    Ok(())
-}
-
-// Puts the messages that wait, as one list, and tells them. False where the node refuses some: these are told to nobody, and the
-// connection is closed.
-fn put_queued<N: Node, X: Attachment, P: WorkPort>(
-    publisher: &mut Publisher<N>,
-    context: &mut Context<P>,
-    clients: &mut PortClients<X, P>,
-    servers: &mut PortServers<P>,
-    number: usize,
-) -> bool {
-    let count = publisher.queue.len();
-    if count == 0 {
-        return true;
-    }
-    let taken = publisher.put_queue(context);
-    if let Some(network) = servers.network(number) {
-        tell_queued(context, clients, network, &publisher.queue, taken);
-    }
-    publisher.queue.clear();
-    if taken < count {
-        close_server(context, clients, servers, number, Reason::NoMemory);
-        return false;
-    }
-    true
-}
-
-// Tells so many of the messages of a network that wait, the first ones.
-fn tell_queued<
-    X: Attachment,
+impl<'a, C, P, N> Worker<'a, C, P, N>
+where
     C: Connection,
-    P: Port<Mail = Mail> + Carries<ToClient, Connection = C>,
->(
-    context: &mut Context<P>,
-    clients: &mut Clients<X, C>,
-    network: usize,
-    queue: &PutQueue,
-    count: usize,
-) {
-    for place in 0..count {
-        if let Some(live) = queue.message(place) {
-            tell_live(context, clients, network, live);
-        }
-    }
-}
-
-// Closes the connection with a server. All workers learn that the network is without one.
-fn close_server<
-    X: Attachment,
-    C: Connection,
-    S: Connection,
-    P: Port<Mail = Mail> + Carries<ToClient, Connection = C> + Carries<ToServer, Connection = S>,
->(
-    context: &mut Context<P>,
-    clients: &mut Clients<X, C>,
-    servers: &mut Servers<S>,
-    number: usize,
-    reason: Reason,
-) {
-    let update = servers.close(context, number, reason);
-    spread(context, clients, update, false);
-}
-
-/// Does what a client's line comes to at the network's server.
-pub(crate) fn do_said<N: Node, X: Attachment, P: WorkPort>(
-    publisher: &mut Publisher<N>,
-    context: &mut Context<P>,
-    clients: &mut PortClients<X, P>,
-    servers: &mut PortServers<P>,
-    step: Option<SaidStep>,
-) -> Result<(), WorkEnd> {
-    let Some(SaidStep { number, effects }) = step else {
-        return Ok(());
-    };
-    match effects {
-        Ok(effects) => {
-            do_server(publisher, context, clients, servers, number, effects)?;
-            clients.tell_untold(context);
-        }
-        Err(NoMemory) => close_server(context, clients, servers, number, Reason::NoMemory),
-    }
-    Ok(())
-}
-
-/// Does what a line of a server, or for it, comes to. Where the node refuses a change, the rest is left and the
-/// connection is closed: nobody is told what the node doesn't have. All workers' sessions of the network are told the read
-/// marker of a channel that was joined by the line.
-pub(crate) fn do_server<N: Node, X: Attachment, P: WorkPort>(
-    publisher: &mut Publisher<N>,
-    context: &mut Context<P>,
-    clients: &mut PortClients<X, P>,
-    servers: &mut PortServers<P>,
-    number: usize,
-    effects: ServerEffects,
-) -> Result<(), WorkEnd> {
-    let update = servers.note_entry(context, number);
-    spread(context, clients, update, effects.has_passed_on());
-    if do_effects(publisher, context, clients, servers, number, &effects) {
-        servers.recycle(number, effects);
-        return tell_joined(&mut publisher.node, context, clients, servers, number);
-    }
-    drop(effects);
-    close_server(context, clients, servers, number, Reason::NoMemory);
-    Ok(())
-}
-
-// All workers' sessions of the network are told the read marker of a channel that was joined.
-fn tell_joined<
-    N: Node,
-    X: Attachment,
-    C: Connection,
-    S: Connection,
-    P: Port<Mail = Mail> + Carries<ToClient, Connection = C>,
->(
-    node: &mut N,
-    context: &mut Context<P>,
-    clients: &mut Clients<X, C>,
-    servers: &mut Servers<S>,
-    number: usize,
-) -> Result<(), WorkEnd> {
-    let Some(network) = servers.network(number) else {
-        return Ok(());
-    };
-    let Some(channel) = servers.take_joined(number) else {
-        return Ok(());
-    };
-    tell_mark_to_all(node, context, clients, network, channel.as_bytes(), None)
-}
-
-// Does these in their order. False where the node refuses a change: the rest is left then.
-fn do_effects<N: Node, X: Attachment, P: WorkPort>(
-    publisher: &mut Publisher<N>,
-    context: &mut Context<P>,
-    clients: &mut PortClients<X, P>,
-    servers: &mut PortServers<P>,
-    number: usize,
-    effects: &ServerEffects,
-) -> bool {
-    for place in 0..usize::MAX {
-        let Some(deed) = effects.at(place) else {
-            return true;
+    P: Port<Connection = C>,
+    N: WorkPass<Connection = C>,
+{
+    /// Dials the server of that network, where that is due by now.
+    pub(crate) fn dial_server(&mut self, index: usize) {
+        let now = self.now;
+        let Some(hosting) = self.networks.get_mut(index) else {
+            return;
         };
-        match deed {
-            Deed::Sent => {}
-            Deed::Put(put) => {
-                if !put_from(publisher, context, clients, servers, number, &put) {
-                    return false;
-                }
-            }
-            Deed::PassOn(passed) => {
-                if let Some(network) = servers.network(number) {
-                    pass_on(context, clients, network, &passed);
-                }
-            }
-            Deed::Close => servers.end(number, Reason::Ended),
+        if !hosting.network.take_due(now) {
+            return;
+        }
+        let place = hosting.network.place();
+        if let Err(why) = self.port.dial(Dial::Network(place)) {
+            self.server_unreached(place, why);
         }
     }
-    true
-}
 
-// Puts what a server's line came to, and says whether the node has it. A message is told in the turn in which it comes, also
-// where it waits to be published.
-fn put_from<
-    N: Node,
-    X: Attachment,
-    C: Connection,
-    S: Connection,
-    P: Port<Mail = Mail> + Carries<ToClient, Connection = C>,
->(
-    publisher: &mut Publisher<N>,
-    context: &mut Context<P>,
-    clients: &mut Clients<X, C>,
-    servers: &Servers<S>,
-    number: usize,
-    put: &ServerPut<'_>,
-) -> bool {
-    if !publisher.put_of_server(context, put) {
-        return false;
+    /// The server of the network at that place could not be reached. It is dialed later.
+    pub(crate) fn server_unreached(&mut self, place: usize, why: Unreached) {
+        let Some(index) = self.index_of(place) else {
+            return;
+        };
+        let Some(hosting) = self.networks.get_mut(index) else {
+            return;
+        };
+        hosting.network.server_unreached(self.now);
+        let config = hosting.network.config();
+        let event = Event::UpstreamUnreachable {
+            account: config.account.as_bytes(),
+            network: config.network.as_bytes(),
+            address: self.port.target(Dial::Network(place)),
+            why,
+        };
+        self.port.report(&event);
+        self.set_server_timer(index);
     }
-    if let (Some(network), Some(live)) = (servers.network(number), servers.live(number, put)) {
-        tell_live(context, clients, network, live);
+
+    // What is due of the network's server next is looked after then.
+    fn set_server_timer(&mut self, index: usize) {
+        let Some(hosting) = self.networks.get(index) else {
+            return;
+        };
+        if let Some(at) = hosting.network.due_at() {
+            self.timers.set(Timer::Server(index), at);
+        }
     }
-    true
+
+    /// A connection is there that was dialed for the server of the network at that place. Where it can't be used, it is let go, and the
+    /// server is dialed later.
+    pub(crate) fn server_comes(&mut self, place: usize, fresh: Fresh<C>) {
+        let Some(index) = self.index_of(place) else {
+            return drop(fresh);
+        };
+        let Ok(token) = self.seats.insert(Seat::Server { network: index }) else {
+            drop(fresh);
+            return self.end_server(index, Reason::NoMemory);
+        };
+        let Fresh { mut connection, .. } = fresh;
+        let is_watched = self.port.watch(&mut connection, token).is_ok();
+        let fresh = Fresh { connection };
+        let Some(hosting) = self.networks.get_mut(index) else {
+            self.seats.remove(token);
+            return drop(fresh);
+        };
+        let now = self.now;
+        let was = hosting.server.take();
+        if !is_watched {
+            drop(fresh);
+            hosting.network.server_unreached(now);
+        } else if hosting.network.server_comes(fresh, now) {
+            hosting.server = Some(token);
+        }
+        let is_there = hosting.server.is_some();
+        if let Some(was) = was {
+            self.seats.remove(was);
+        }
+        if is_there {
+            self.seats.wake(token);
+            return self.set_server_timer(index);
+        }
+        self.seats.remove(token);
+        self.end_server(index, Reason::NoMemory);
+    }
+
+    // The session with the network's server is over, or couldn't begin: the operator is told, and by which words the server refused it.
+    // It is dialed later.
+    fn end_server(&mut self, index: usize, reason: Reason) {
+        let Some(hosting) = self.networks.get_mut(index) else {
+            return;
+        };
+        if let Some(token) = hosting.server.take() {
+            self.seats.remove(token);
+        }
+        hosting.is_up = false;
+        if hosting.network.due_at().is_none() {
+            hosting.network.server_unreached(self.now);
+        }
+        self.tell_down(index, reason);
+        self.set_server_timer(index);
+    }
+
+    // The operator is told that the session with the network's server is over, or couldn't begin.
+    fn tell_down(&mut self, index: usize, reason: Reason) {
+        let Some(hosting) = self.networks.get(index) else {
+            return;
+        };
+        let words = given(hosting.network.refusal());
+        let event = down(hosting.network.config(), reason, words);
+        self.port.report(&event);
+    }
+
+    /// The server of a network has its turn.
+    pub(crate) fn serve_server(&mut self, token: usize) {
+        let Some(Seat::Server { network }) = self.seats.get(token) else {
+            return;
+        };
+        let network = *network;
+        self.server_turn(network);
+    }
+
+    fn server_turn(&mut self, index: usize) {
+        let Some(hosting) = self.networks.get_mut(index) else {
+            return;
+        };
+        let time = TurnTime {
+            moment: self.moment,
+            now: self.now,
+        };
+        let tools = &mut self.tools;
+        let turn = hosting
+            .network
+            .server_turn(&mut self.pass, tools.chunk.as_mut_slice(), time);
+        self.note_up(index);
+        match turn {
+            ServerTurn::Again => self.wake_server(index),
+            ServerTurn::Rest => self.wake_if_unsent(index),
+            ServerTurn::Over(end) => self.end_server(index, of_server(end)),
+        }
+        self.wake_waiting(index);
+        self.after_server_turn(index);
+    }
+
+    // Behind a turn of its server what clients were told goes out, and who is gone leaves.
+    fn after_server_turn(&mut self, index: usize) {
+        let Some(hosting) = self.networks.get_mut(index) else {
+            return;
+        };
+        hosting.has_unsent = hosting.network.clients_send();
+        self.clients_leave(index);
+    }
+
+    // The server has something to do where it can be sent more at once.
+    fn wake_if_unsent(&mut self, index: usize) {
+        let Some(hosting) = self.networks.get(index) else {
+            return;
+        };
+        if hosting.network.server_can_send() {
+            self.wake_server(index);
+        }
+    }
+
+    fn wake_server(&mut self, index: usize) {
+        let Some(hosting) = self.networks.get(index) else {
+            return;
+        };
+        if let Some(token) = hosting.server {
+            self.seats.wake(token);
+        }
+    }
+
+    // The operator is told of a network that is up.
+    fn note_up(&mut self, index: usize) {
+        let Some(hosting) = self.networks.get_mut(index) else {
+            return;
+        };
+        let is_up = hosting.network.is_up();
+        if is_up && !hosting.is_up {
+            let config = hosting.network.config();
+            self.port.report(&Event::UpstreamUp {
+                account: config.account.as_bytes(),
+                network: config.network.as_bytes(),
+                nick: hosting.network.nick(),
+            });
+        }
+        hosting.is_up = is_up;
+    }
+
+    // The clients of the network whose lines wait for its server have something to do.
+    fn wake_waiting(&mut self, index: usize) {
+        let Some(hosting) = self.networks.get_mut(index) else {
+            return;
+        };
+        if !hosting.network.server_takes_lines() {
+            return;
+        }
+        for place in 0..hosting.attendees.len() {
+            let Some(attendee) = hosting.attendees.get_mut(place) else {
+                return;
+            };
+            if attendee.waits {
+                attendee.waits = false;
+                self.seats.wake(attendee.token);
+            }
+        }
+    }
+
+    /// Something is due of a network's server: it is dialed, or given up where nothing came of it for too long.
+    pub(crate) fn look_after_server(&mut self, index: usize) {
+        let Some(hosting) = self.networks.get(index) else {
+            return;
+        };
+        if hosting.network.has_server() {
+            self.server_turn(index);
+            return self.set_server_timer(index);
+        }
+        self.dial_server(index);
+    }
 }
 
-// A message that the node has is told to the sessions that hear it: those of other workers by mail, and those of this one at the
-// end of the turn, or before they are told anything else.
-fn tell_live<
-    X: Attachment,
-    C: Connection,
-    P: Port<Mail = Mail> + Carries<ToClient, Connection = C>,
->(context: &mut Context<P>, clients: &mut Clients<X, C>, network: usize, live: Live<'_>) {
-    clients.tell_message(context, network, &live);
-    mail_others(context, &News::Live { network, live });
+fn down<'e>(config: &'e SessionConfig, reason: Reason, words: Option<&'e [u8]>) -> Event<'e> {
+    Event::UpstreamDown {
+        account: config.account.as_bytes(),
+        network: config.network.as_bytes(),
+        reason,
+        words,
+    }
 }
 
-// A line is passed on to all workers' sessions of the network.
-fn pass_on<X: Attachment, C: Connection, P: Port<Mail = Mail> + Carries<ToClient, Connection = C>>(
-    context: &mut Context<P>,
-    clients: &mut Clients<X, C>,
-    network: usize,
-    passed: &Passed<'_>,
-) {
-    mail_line(context, network, passed);
-    clients.pass_on(context, network, passed);
+// Those words, where there are any.
+fn given(words: &[u8]) -> Option<&[u8]> {
+    if words.is_empty() { None } else { Some(words) }
 }

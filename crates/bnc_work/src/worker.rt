@@ -1,385 +1,423 @@
 //! One worker: what comes, and who has something to do.
-use crate::client_turns::serve_clients;
-use crate::entries::{spread, tell_entry};
-use crate::gated_node::GatedNode;
-use crate::marker_turns::tell_mark;
-use crate::node::Node;
-use crate::peer_turns::serve_peers;
-use crate::publisher::Publisher;
-use crate::server_turns::{do_said, do_server, serve_server};
-use crate::work_port::{PortClients, PortPeers, PortServers, WorkPort};
-use bnc_ports::{Connection, Dial, Gate, Happening, Port, Unreached};
+ghost use Rattle.std.specs.Prelude.{◌≡◌, ◌≤◌, ◌+◌, IfOk, true};
+ghost use Rattle.bnc_work.specs.Settings.{AreSettingsOf};
+
+use crate::clock::{ReadTime, read_time};
+use crate::hosting::Hosting;
+use crate::logged_port::LoggedPort;
+use crate::schedule::Schedule;
+use crate::seats::Seats;
+use crate::settings::NodeSettings;
+use crate::timer::Timer;
+use crate::waiting::Waiting;
+use crate::worker_config::{WorkEnd, WorkerConfig};
 use byte_text::NoMemory;
 use chat_change::Moment;
-use client_places::Attachment;
-use cluster_directory::NodeName;
-use network_session::{is_another_behind, keep_entry};
-use passed_lines::Mail;
-use shared_node::{Ends, Naming, NodeTaker, Pass, SharedNode};
-use std::sync::Wait;
-use work_clients::Clients;
-use work_peers::Peers;
-use work_servers::Servers;
-use worker_io::{Beginning, Context, NodeView, Timer, WorkEnd, WorkerConfig, clock};
+use hosted_network::{HostedNetwork, Tools};
+use network_client::{Dial, Happening, Mail, Port};
+use node_events::{ClockWatch, Clocks, Event, Refusals};
+use node_peers::Peers;
+use node_ports::{Connection, Feeders, Fresh, Origin};
+use std::alloc::Global;
+use worker_pass::WorkPass;
 
 /// A worker looks after its timers at least so often, in milliseconds.
 const LONGEST: u64 = 60_000;
 
+/// So many bytes come in at once.
+const CHUNK: usize = 16_384;
+
 /// So much that happened is taken in one turn.
 const HAPPENINGS: usize = 64;
 
-/// So many timers are looked after in one turn.
-const TIMERS: usize = 64;
+/// A worker: its port, what the clocks read, its way into the node, its networks, the peers where it has them, and who else comes.
+pub(crate) struct Worker<'a, C, P, N>
+where
+    C: Connection,
+    P: Port<Connection = C>,
+    N: WorkPass<Connection = C>,
+{
+    pub(crate) alloc: Global,
+    /// Which worker this is of how many.
+    pub(crate) number: usize,
+    pub(crate) workers: usize,
+    pub(crate) settings: &'a NodeSettings,
+    pub(crate) waiting: Waiting,
+    pub(crate) port: LoggedPort<P>,
+    /// Now, by the wall clock.
+    pub(crate) moment: Moment,
+    /// Now, by the monotonic clock in milliseconds: what is due is due by it.
+    pub(crate) now: u64,
+    pub(crate) timers: Schedule,
+    /// How many clients were refused.
+    pub(crate) refusals: Refusals,
+    /// Room for bytes that come, for lines that come, and for answers.
+    pub(crate) tools: Tools,
+    pub(crate) pass: N,
+    pub(crate) seats: Seats<C>,
+    pub(crate) networks: Vec<Hosting<'a, C, N::View>>,
+    /// The first worker has them.
+    pub(crate) peers: Option<Peers<C>>,
+    /// The tokens of the connections with other nodes.
+    pub(crate) peer_tokens: Vec<usize>,
+    /// Looks at the clocks before floors are put.
+    pub(crate) watch: ClockWatch,
+    /// Whether what waits to be published is to be tried again.
+    pub(crate) is_publishing: bool,
+    pub(crate) ghost are_own: { AreSettingsOf C.facts settings.now },
+    pub(crate) ghost it_was_read: { ∥ C.facts.clock moment ∥₁ },
+}
 
-/// A worker whose servers wait for one that is behind looks again after so many milliseconds.
-const PAUSE: u64 = 1;
-
-/// Serves the connections of the port as worker `worker` of those that the port counts, until the gate shuts or the port
-/// ends or fails. Where there is no memory to begin, or the clocks aren't read, that is a failure too.
-///
-/// It serves clients that connect, in sessions of their own; the servers of its networks, to which it connects; worker 0,
-/// the node's peers; and what other workers tell it. Only what `pass` is asked, the sessions' lines and the messages of
-/// servers are written to clients.
-pub fn work<J: Naming, R: Ends, W: Wait + AllocGlobal, X: Attachment, P: WorkPort, G: Gate>(
-    rt: &W,
-    worker: usize,
-    node: &SharedNode<J, R>,
-    pass: Pass<J>,
-    config: WorkerConfig<X>,
-    port: P,
-    gate: &G,
-) -> WorkEnd {
-    match try_work(rt, worker, node, pass, config, port, gate) {
-        Ok(end) => end,
-        Err(NoMemory) => WorkEnd::Failed,
+// Written out, so that this is proved once, and not in each function that lets a worker go.
+impl<'a, C, P, N> Drop for Worker<'a, C, P, N>
+where
+    C: Connection,
+    P: Port<Connection = C>,
+    N: WorkPass<Connection = C>,
+{
+    fn drop(self) {
+        let Self {
+            alloc: _,
+            number: _,
+            workers: _,
+            settings: _,
+            waiting: _waiting,
+            port: _port,
+            moment: _,
+            now: _,
+            timers: _timers,
+            refusals: _,
+            tools: _tools,
+            pass: _pass,
+            seats: _seats,
+            networks: _networks,
+            peers: _peers,
+            peer_tokens: _peer_tokens,
+            watch: _,
+            is_publishing: _,
+        } = self;
     }
 }
 
-/// Serves as [`work`] does, and tells where there is no memory to begin.
-pub(crate) fn try_work<
-    J: Naming,
-    R: Ends,
-    W: Wait + AllocGlobal,
-    X: Attachment,
-    P: WorkPort,
-    G: Gate,
->(
-    rt: &W,
-    worker: usize,
-    node: &SharedNode<J, R>,
-    pass: Pass<J>,
-    config: WorkerConfig<X>,
-    port: P,
-    gate: &G,
-) -> Result<WorkEnd, NoMemory> {
-    let taker = NodeTaker::new(node, pass, rt);
-    let node = GatedNode { taker, gate };
-    let mut port = port;
-    match clock(&mut port) {
-        Some(time) => serve(rt, worker, node, time, config, port),
-        None => {
-            drop(node);
-            drop(config);
-            drop(port);
-            Ok(WorkEnd::Failed)
-        }
-    }
+// So many timers must not be lost: one of each network's server, that of the peers, that of the floors, and that of what waits.
+fn room_of(networks: usize) -> usize {
+    networks.saturating_add(3)
 }
 
-// Serves from that time on.
-fn serve<W: Wait + AllocGlobal, N: Node, X: Attachment, P: WorkPort>(
-    rt: &W,
-    number: usize,
-    node: N,
-    time: (u64, Moment),
-    config: WorkerConfig<X>,
-    port: P,
-) -> Result<WorkEnd, NoMemory> {
-    match Beginning::new(rt.alloc(), number, port.workers(), time, config) {
-        Ok(beginning) => begin(rt, node, beginning, port),
-        Err(NoMemory) => {
-            drop(node);
-            drop(port);
-            Err(NoMemory)
-        }
-    }
-}
-
-// Serves from that beginning on, at which there is no connection.
-fn begin<W: Wait, N: Node, X: Attachment, P: WorkPort>(
-    rt: &W,
-    node: N,
-    Beginning { view, lobby, peers }: Beginning<X>,
-    port: P,
-) -> Result<WorkEnd, NoMemory> {
-    let count = peers.len();
-    let mut context = match Context::new(view, port, count) {
-        Ok(context) => context,
-        Err(NoMemory) => {
-            drop(node);
-            drop(lobby);
-            drop(peers);
-            return Err(NoMemory);
-        }
-    };
-    let Ok((mut servers, mut peers)) = tables_of(&context.view, peers) else {
-        drop(node);
-        drop(lobby);
-        drop(context);
+fn tools(alloc: Global) -> Result<Tools, NoMemory> {
+    let Ok(chunk) = vec![in alloc; 0u8; CHUNK] else {
         return Err(NoMemory);
     };
-    let mut publisher = Publisher::new(node, &context.view);
-    let mut clients = Clients::new(context.view.alloc, lobby);
-    let end = run(
-        rt,
-        &mut publisher,
-        &mut context,
-        &mut clients,
-        &mut servers,
-        &mut peers,
-    );
-    drop(publisher);
-    drop(context);
-    drop(clients);
-    drop(servers);
-    drop(peers);
-    Ok(end)
+    Ok(Tools {
+        chunk,
+        feeders: Feeders::new(alloc)?,
+        room: Vec::new(alloc),
+    })
 }
 
-// What happens next, for which the port may wait so long. The clocks are read then.
-fn next_happening<P: Port>(
-    context: &mut Context<P>,
-    patience: u64,
-) -> Result<Happening<P::Mail>, WorkEnd> {
-    let Ok(happening) = context.port.next(patience) else {
-        return Err(WorkEnd::Failed);
-    };
-    if context.read_clock() {
-        Ok(happening)
-    } else {
-        Err(WorkEnd::Failed)
+impl<'a, C, P, N> Worker<'a, C, P, N>
+where
+    C: Connection,
+    P: Port<Connection = C>,
+    N: WorkPass<Connection = C>,
+{
+    /// The worker of that number, with the networks that fall to it. The first one has the peers.
+    pub(crate) fn new(
+        alloc: Global,
+        number: usize,
+        config: WorkerConfig<'a>,
+        port: P,
+        pass: N,
+        time: ReadTime<C>,
+    ) -> Result<Worker<'a, C, P, N>, NoMemory>
+        requires own { AreSettingsOf C.facts config.settings.now }
+        requires given { N.given pass ≡ 0 }
+    {
+        let mut worker = Worker::bare(alloc, number, config, port, pass, time)?;
+        for place in 0..worker.settings.accounts.count() {
+            if !worker.host(place) {
+                return Err(NoMemory);
+            }
+        }
+        worker.take_peers()?;
+        Ok(worker)
     }
-}
 
-// A connection that was dialed could not be made.
-fn refused<S: Connection, E: Connection, P: Port>(
-    context: &mut Context<P>,
-    servers: &mut Servers<S>,
-    peers: &mut Peers<E>,
-    number: usize,
-    what: Dial,
-    why: Unreached,
-) {
-    context.port.give_up(number);
-    match what {
-        Dial::Network(network) => servers.retry(context, network, why),
-        Dial::Peer(place) => peers.retry(context, place, why),
+    // The same, without networks and peers.
+    fn bare(
+        alloc: Global,
+        number: usize,
+        config: WorkerConfig<'a>,
+        port: P,
+        pass: N,
+        time: ReadTime<C>,
+    ) -> Result<Worker<'a, C, P, N>, NoMemory>
+        requires own { AreSettingsOf C.facts config.settings.now }
+        ensures given { IfOk result (λ worker. N.given worker.pass ≡ N.given pass) }
+    {
+        let WorkerConfig { settings, waiting } = config;
+        let tools = tools(alloc)?;
+        let timers = Schedule::new(alloc, room_of(settings.accounts.count()))?;
+        let ReadTime { moment, now, .. } = time;
+        let clocks = Clocks {
+            wall: moment.ms(),
+            monotonic: now,
+        };
+        let workers = port.workers();
+        Ok(Worker {
+            alloc,
+            number,
+            workers,
+            settings,
+            waiting,
+            port: LoggedPort::new(port, clocks.wall),
+            moment,
+            now,
+            timers,
+            refusals: Refusals::new(now),
+            tools,
+            pass,
+            seats: Seats::new(alloc),
+            networks: Vec::new(alloc),
+            peers: None,
+            peer_tokens: Vec::new(alloc),
+            watch: ClockWatch::new(clocks),
+            is_publishing: false,
+        })
     }
-}
 
-// A worker's servers and its peers, of these names, without a connection.
-fn tables_of<S: Connection, E: Connection>(
-    view: &NodeView,
-    names: Vec<NodeName>,
-) -> Result<(Servers<S>, Peers<E>), NoMemory> {
-    let peers = Peers::new(view.alloc, &view.terms, names)?;
-    let servers = Servers::new(view.alloc, view.networks.len())?;
-    Ok((servers, peers))
-}
-
-// Connects to the servers of this worker's networks, and works until the gate shuts, or the port ends or fails. The first
-// worker connects to peers too, and has the floors put.
-fn run<W: Wait, N: Node, X: Attachment, P: WorkPort>(
-    rt: &W,
-    publisher: &mut Publisher<N>,
-    context: &mut Context<P>,
-    clients: &mut PortClients<X, P>,
-    servers: &mut PortServers<P>,
-    peers: &mut PortPeers<P>,
-) -> WorkEnd {
-    servers.dial_all(context);
-    if context.view.worker == 0 {
-        context.set_timer(Timer::Floors, 0);
-        peers.dial_all(context);
+    // Reads the clocks anew. False where they aren't read.
+    fn read_clocks(&mut self) -> bool {
+        let Some(time) = read_time::<C, LoggedPort<P>>(&mut self.port) else {
+            return false;
+        };
+        let ReadTime { moment, now, .. } = time;
+        self.moment = moment;
+        self.now = now;
+        true
     }
-    for _ in rt.forever() {
-        if let Err(end) = turn(publisher, context, clients, servers, peers) {
-            return end;
+
+    /// What the clocks read last.
+    pub(crate) fn clocks(&self) -> Clocks {
+        Clocks {
+            wall: self.moment.ms(),
+            monotonic: self.now,
         }
     }
-    unreachable!()
-}
 
-// What happened, what is due, and the turns of one server, and of each client and each peer that has something to do. So a
-// client or a peer waits for one turn of a server, however many lines that has.
-fn turn<N: Node, X: Attachment, P: WorkPort>(
-    publisher: &mut Publisher<N>,
-    context: &mut Context<P>,
-    clients: &mut PortClients<X, P>,
-    servers: &mut PortServers<P>,
-    peers: &mut PortPeers<P>,
-) -> Result<(), WorkEnd> {
-    take_happenings(publisher, context, clients, servers, peers)?;
-    look_after_timers(publisher, context, clients, servers, peers);
-    clients.tell_refusals(context);
-    peers.tell_refusals(context);
-    context.begin_turn();
-    if let Some(number) = servers.next_busy() {
-        serve_server(publisher, context, clients, servers, number)?;
+    // The operator is told once a minute how many clients were refused that weren't told one by one, and how many connections were
+    // closed for want of memory.
+    fn tell_counts(&mut self) {
+        if let Some(count) = self.refusals.take_untold(self.now) {
+            self.port.report(&Event::ClientsRefused { count });
+        }
+        self.port.tell_shortage(self.now);
     }
-    serve_clients(publisher, context, clients, servers)?;
-    serve_peers(publisher, context, clients, peers)
-}
 
-// What happened, as far as it is there at once. What mail brings is kept once it is told.
-fn take_happenings<N: Node, X: Attachment, P: WorkPort>(
-    publisher: &mut Publisher<N>,
-    context: &mut Context<P>,
-    clients: &mut PortClients<X, P>,
-    servers: &mut PortServers<P>,
-    peers: &mut PortPeers<P>,
-) -> Result<(), WorkEnd> {
-    let is_busy = publisher.has_published || clients.busy_count() > 0 || peers.busy_count() > 0;
-    let mut patience = if is_busy {
-        0
-    } else {
-        patience(context, servers)
-    };
-    for _ in 0..HAPPENINGS {
-        let happening = next_happening(context, patience)?;
-        let done = act_on(publisher, context, clients, servers, peers, &happening);
-        keep_entry(&mut context.view, happening);
-        if !done? {
+    /// Which worker serves the network at that place.
+    pub(crate) fn worker_of(&self, network: usize) -> usize {
+        network.checked_rem(self.workers).unwrap_or(0)
+    }
+
+    /// The network's place among those of its worker, where that is this one.
+    pub(crate) fn index_of(&self, network: usize) -> Option<usize> {
+        if self.worker_of(network) != self.number {
+            return None;
+        }
+        network.checked_div(self.workers)
+    }
+
+    // The network at that place is served here, where it falls to this worker. Views were given of places below it alone. False for
+    // want of memory.
+    fn host(&mut self, place: usize) -> bool
+        requires { N.given self.old.pass ≤ place }
+        ensures { result ≡ true → N.given self.new.pass ≤ place + 1 }
+    {
+        if self.worker_of(place) != self.number {
+            return true;
+        }
+        let Ok(view) = self.pass.view(place) else {
+            return false;
+        };
+        let settings = self.settings;
+        let now = self.now;
+        let hosted = HostedNetwork::new(
+            self.alloc,
+            &settings.accounts,
+            settings.terms.me(),
+            view,
+            now,
+        );
+        let Ok(network) = hosted else {
+            return false;
+        };
+        self.networks
+            .push(Hosting::new(self.alloc, network))
+            .is_ok()
+    }
+
+    // The first worker has the peers.
+    fn take_peers(&mut self) -> Result<(), NoMemory> {
+        if self.number != 0 {
             return Ok(());
         }
-        patience = 0;
-    }
-    Ok(())
-}
-
-// How long the port may wait, where neither a client nor a peer has something to do.
-fn patience<S: Connection, P: Port>(context: &Context<P>, servers: &Servers<S>) -> u64 {
-    if servers.busy_count() > 0 {
-        return if is_another_behind(context) { PAUSE } else { 0 };
-    }
-    match context.timers.next() {
-        Some(at) => at.saturating_sub(context.view.now).min(LONGEST),
-        None => LONGEST,
-    }
-}
-
-// Does what comes of it. False where nothing happened.
-fn act_on<N: Node, X: Attachment, P: WorkPort>(
-    publisher: &mut Publisher<N>,
-    context: &mut Context<P>,
-    clients: &mut PortClients<X, P>,
-    servers: &mut PortServers<P>,
-    peers: &mut PortPeers<P>,
-    happening: &Happening<Mail>,
-) -> Result<bool, WorkEnd> {
-    match happening {
-        Happening::Client { number, ticket } => {
-            clients.admit(context, *number, *ticket);
-        }
-        Happening::Leave { ticket } => clients.give_way(*ticket),
-        Happening::Peer { number } => peers.begin(context, *number, None),
-        Happening::Opened { number, what } => match what {
-            Dial::Network(network) => {
-                begin_server(publisher, context, clients, servers, *number, *network)?;
+        let settings = self.settings;
+        let mut names = Vec::new(self.alloc);
+        for name in settings.peers.iter() {
+            let name = name.try_clone(self.alloc)?;
+            if names.push(name).is_err() {
+                return Err(NoMemory);
             }
-            Dial::Peer(place) => peers.begin(context, *number, Some(*place)),
-        },
-        Happening::Refused { number, what, why } => {
-            refused(context, servers, peers, *number, *what, *why);
         }
-        Happening::Ready {
-            number,
-            readable,
-            writable,
-        } => {
-            let _ = clients.mark(*number, *readable, *writable)
-                || servers.mark(*number, *readable, *writable)
-                || peers.mark(*number, *readable, *writable);
-        }
-        Happening::Mail(mail) => read_mail(publisher, context, clients, servers, mail)?,
-        Happening::Nothing => return Ok(false),
-        Happening::Ended => return Err(WorkEnd::Ended),
-    }
-    Ok(true)
-}
-
-// A connection with a network's server that was dialed is there.
-fn begin_server<N: Node, X: Attachment, P: WorkPort>(
-    publisher: &mut Publisher<N>,
-    context: &mut Context<P>,
-    clients: &mut PortClients<X, P>,
-    servers: &mut PortServers<P>,
-    number: usize,
-    network: usize,
-) -> Result<(), WorkEnd> {
-    match servers.begin(context, number, network) {
-        Some(effects) => do_server(publisher, context, clients, servers, number, effects),
-        None => Ok(()),
-    }
-}
-
-// Does what another worker tells.
-fn read_mail<N: Node, X: Attachment, P: WorkPort>(
-    publisher: &mut Publisher<N>,
-    context: &mut Context<P>,
-    clients: &mut PortClients<X, P>,
-    servers: &mut PortServers<P>,
-    mail: &Mail,
-) -> Result<(), WorkEnd> {
-    match mail {
-        Mail::Entry {
-            network,
-            entry,
-            is_passed_on,
-        } => tell_entry(context, clients, *network, entry, *is_passed_on),
-        Mail::Live { network, live } => clients.tell_message(context, *network, &live.lend()),
-        Mail::Relay { network, line } => clients.pass_on(context, *network, &line.lend()),
-        Mail::Say { network, said } => {
-            let step = servers.say(context, *network, &said.lend());
-            return do_said(publisher, context, clients, servers, step);
-        }
-        Mail::Marked { network, target } => {
-            let node = &mut publisher.node;
-            return tell_mark(node, context, clients, *network, target.as_bytes(), None);
-        }
-        Mail::Published => publisher.has_published = true,
-    }
-    Ok(())
-}
-
-// What is due now.
-fn look_after_timers<N: Node, X: Attachment, P: WorkPort>(
-    publisher: &mut Publisher<N>,
-    context: &mut Context<P>,
-    clients: &mut PortClients<X, P>,
-    servers: &mut PortServers<P>,
-    peers: &mut PortPeers<P>,
-) {
-    for _ in 0..TIMERS {
-        let Some(timer) = context.timers.take_due(context.view.now) else {
-            return;
+        let now = self.now;
+        let Ok(peers) = Peers::new(self.alloc, &settings.terms, names, now) else {
+            return Err(NoMemory);
         };
-        match timer {
-            Timer::RetryNetwork(network) => servers.dial(context, network),
-            Timer::QuietUpstream(number) => {
-                let update = servers.check_quiet(context, number);
-                spread(context, clients, update, false);
+        self.peers = Some(peers);
+        Ok(())
+    }
+
+    /// Dials the servers of its networks, and has the floors put that are due, where this is the first worker.
+    pub(crate) fn begin(&mut self) {
+        for index in 0..self.networks.len() {
+            self.dial_server(index);
+        }
+        if self.number == 0 {
+            self.timers.set(Timer::Floors, self.now.saturating_add(0));
+            self.dial_peers();
+            self.set_peers_timer();
+        }
+    }
+
+    /// What happened, what is due, and the turns of those that have something to do: of each client and each peer, and of one server.
+    /// So a client or a peer waits for one turn of a server, however many lines that has.
+    pub(crate) fn turn(&mut self) -> Result<(), WorkEnd> {
+        self.take_happenings()?;
+        self.look_after_timers();
+        self.tell_counts();
+        self.serve_busy();
+        if let Some(token) = self.seats.next_busy_server() {
+            self.serve_server(token);
+        }
+        self.send_unsent();
+        self.tell_news();
+        self.publish_later();
+        if self.pass.is_shut() {
+            return Err(WorkEnd::GateShut);
+        }
+        Ok(())
+    }
+
+    // Each client and each peer that has something to do by now has a turn.
+    fn serve_busy(&mut self) {
+        for _ in 0..self.seats.busy_count() {
+            if let Some(token) = self.seats.next_busy() {
+                self.serve(token);
             }
-            Timer::Unregistered(number) => {
-                clients.check_registered(context, number);
-                peers.check_greeted(context, number);
+        }
+        self.serve_peers();
+    }
+
+    // Whether somebody has something to do.
+    fn is_busy(&self) -> bool {
+        if self.seats.is_busy() || self.networks.iter().any(|hosting| hosting.has_unsent) {
+            return true;
+        }
+        match &self.peers {
+            Some(peers) => peers.busy_count() > 0,
+            None => false,
+        }
+    }
+
+    // How long the port may wait.
+    fn patience(&self) -> u64 {
+        if self.is_busy() {
+            return 0;
+        }
+        let now = self.now;
+        let counts = self.refusals.due_at();
+        let at = match (self.timers.next(), counts) {
+            (Some(at), Some(counts)) => at.min(counts),
+            (Some(at), None) | (None, Some(at)) => at,
+            (None, None) => return LONGEST,
+        };
+        at.saturating_sub(now).min(LONGEST)
+    }
+
+    // What happened, as far as it is there at once.
+    fn take_happenings(&mut self) -> Result<(), WorkEnd> {
+        let mut patience = self.patience();
+        for _ in 0..HAPPENINGS {
+            let Ok(happening) = self.port.next(patience) else {
+                return Err(WorkEnd::Failed);
+            };
+            if !self.read_clocks() {
+                drop(happening);
+                return Err(WorkEnd::Failed);
             }
-            Timer::RetryPeer(_)
-            | Timer::UnansweredPacket(_)
-            | Timer::QuietPeer(_)
-            | Timer::AbsentPeer(_) => peers.look_after(context, publisher.node.reader(), timer),
-            Timer::Floors => publisher.put_floors(context),
-            Timer::Publish => publisher.publish(context),
+            if !self.act_on(happening)? {
+                return Ok(());
+            }
+            patience = 0;
+        }
+        Ok(())
+    }
+
+    // Does what comes of it. False where nothing happened.
+    fn act_on(&mut self, happening: Happening<C>) -> Result<bool, WorkEnd> {
+        match happening {
+            Happening::Client { fresh, ring } => self.client_comes(fresh, ring),
+            Happening::Came(fresh) => self.comes(fresh),
+            Happening::Refused { what, why } => match what {
+                Dial::Network(place) => self.server_unreached(place, why),
+                Dial::Peer(place) => self.peer_unreached(place, why),
+            },
+            Happening::Ready {
+                token,
+                is_readable,
+                is_writable,
+            } => self.mark(token, is_readable, is_writable),
+            Happening::Leave => self.seats.wake_asked(&self.waiting),
+            Happening::Mail(mail) => self.read_mail(mail),
+            Happening::Nothing => return Ok(false),
+            Happening::Ended => return Err(WorkEnd::Ended),
+        }
+        Ok(true)
+    }
+
+    // A connection is there that another node opened, or that was dialed.
+    fn comes(&mut self, fresh: Fresh<C>) {
+        match fresh.connection.origin() {
+            Origin::NetworkDialed(place) => self.server_comes(place, fresh),
+            Origin::PeerCame | Origin::PeerDialed(_) => self.peer_comes(fresh),
+            // (those come with their rings)
+            Origin::ClientCame => drop(fresh),
+        }
+    }
+
+    // What another worker tells.
+    fn read_mail(&mut self, mail: Mail<C>) {
+        match mail {
+            Mail::Arrives(moving) => self.arrives(moving),
+            Mail::Published => self.publish_to_peers(),
+            Mail::Marked { network, target } => self.inform(network, target.as_bytes()),
+        }
+    }
+
+    // What is due now.
+    fn look_after_timers(&mut self) {
+        for _ in 0..HAPPENINGS {
+            let Some(timer) = self.timers.take_due(self.now) else {
+                return;
+            };
+            match timer {
+                Timer::Server(index) => self.look_after_server(index),
+                Timer::Newcomer(token) => self.visitor_is_due(token),
+                Timer::Client(token) => self.client_is_due(token),
+                Timer::Peers => self.look_after_peers(),
+                Timer::Floors => self.put_floors(),
+                Timer::Publish => self.publish(),
+            }
         }
     }
 }

@@ -1,6 +1,6 @@
 -- What is told where what the node holds can't be shared among its workers: the same fault, by the same name.
-use Rattle.bnc_ports.specs.declared.serve_fault.ServeFault.{ServeFault}
-use Rattle.bnc_ports.specs.declared.serve_fault.ServeFault.TheVariants.{NoMemory, BadCount, NoReader}
+use Rattle.node_events.specs.declared.serve_fault.ServeFault.{ServeFault}
+use Rattle.node_events.specs.declared.serve_fault.ServeFault.TheVariants.{NoMemory, BadCount, NoReader}
 use Rattle.shared_node.specs.declared.faults.NodeFault.{NodeFault}
 use Rattle.shared_node.specs.declared.faults.NodeFault.TheVariants as node_case
 

@@ -1,13 +1,13 @@
 //! The floors that are put before the workers of a node begin.
 ghost use Rattle.std.specs.Prelude.{◌≡◌, ◌++◌, IfOk, IsTrue};
 ghost use Rattle.std.specs.Option.{option_to_list};
-ghost use Rattle.node_intake.specs.WorkerConfigs as spec;
+ghost use Rattle.node_intake.specs.Floors as spec;
 
-use bnc_ports::{Event, ServeFault};
 use bnc_sockets::now_ms;
 use byte_text::NoMemory;
 use chat_change::{Account, Change, Moment};
 use node_config::AccountConfig;
+use node_events::{Event, ServeFault};
 use operator_log::Log;
 use shared_node::{Ends, Naming, Pass, SharedNode};
 use std::alloc::Global;

@@ -3,11 +3,9 @@ use crate::listeners::{Caller, Entrance, Listeners};
 use crate::places::ClientPlaces;
 use crate::queue::{MOST_QUEUED, Queue};
 use crate::worker_intakes::WorkerIntakes;
-use bnc_ports::{Reason, ServeFault};
+use attach::RingClient;
 use bnc_sockets::{WorkerIntake, monotonic_ms};
-use client_places::{Attachment, Boxed, RingClient, Stand};
-use passed_lines::Mail;
-use std::alloc::Global;
+use node_events::{Reason, ServeFault};
 use std::sync::Wait;
 use std::thread;
 use std::thread::Threads;
@@ -20,39 +18,24 @@ const PEERS_PATIENCE: u64 = 1;
 /// turn, and peers to worker 0. Where each place is taken those give way who have waited longest to be registered. As long as 16
 /// peers wait for worker 0, the next ones wait in the queue of the system.
 #[derive(Drop)]
-pub struct Intake<X = Boxed> {
+pub struct Intake {
     listeners: Listeners,
     queue: Queue,
     places: ClientPlaces,
-    workers: WorkerIntakes<X>,
+    workers: WorkerIntakes,
     // How many bytes may be owed to a client.
     bound: usize,
 }
 
-// A client at that place, with room for so many bytes that it may be owed.
-fn attachment_at<X, F: Fn(RingClient) -> Option<X>>(
-    alloc: Global,
-    stand: Stand,
-    bound: usize,
-    boxed: &F,
-) -> Option<X>
-    requires { F.IsAlwaysCallable boxed.now }
-{
-    match RingClient::new(alloc, stand, bound) {
-        Ok(client) => boxed(client),
-        Err(_) => None,
-    }
-}
-
-impl<X: Attachment> Intake<X> {
+impl Intake {
     // Nobody is there, and nobody waits.
     pub(crate) fn new(
         listeners: Listeners,
         queue: Queue,
         places: ClientPlaces,
-        intakes: Vec<WorkerIntake<Mail, X>>,
+        intakes: Vec<WorkerIntake>,
         bound: usize,
-    ) -> Intake<X> {
+    ) -> Intake {
         Intake {
             listeners,
             queue,
@@ -63,15 +46,12 @@ impl<X: Attachment> Intake<X> {
     }
 
     // Takes connections in from now on, on a thread of its own. Once the system can't wait for them the workers are told to end.
-    pub(crate) fn begin<R, F>(self, rt: &R, boxed: F) -> Result<(), ServeFault>
+    pub(crate) fn begin<R>(self, rt: &R) -> Result<(), ServeFault>
     where
         R: Threads + Wait + Clock + AllocGlobal + Copy + Send + Drop + 'static,
-        X: Send + 'static,
-        F: Fn(RingClient) -> Option<X> + Send + Drop + 'static,
-        requires { F.IsAlwaysCallable boxed }
     {
         self.listeners.tell(rt);
-        if receive_in_a_thread(*rt, self, boxed) {
+        if receive_in_a_thread(*rt, self) {
             Ok(())
         } else {
             Err(ServeFault::NoThread)
@@ -79,20 +59,14 @@ impl<X: Attachment> Intake<X> {
     }
 
     // Takes connections in for as long as the system can wait for them. Then the workers are told to end.
-    fn receive<R: Wait + Clock + AllocGlobal, F: Fn(RingClient) -> Option<X>>(
-        &mut self,
-        rt: &R,
-        boxed: &F,
-    )
-        requires { F.IsAlwaysCallable boxed.now }
-    {
+    fn receive<R: Wait + Clock + AllocGlobal>(&mut self, rt: &R) {
         for _ in rt.forever() {
             // (first, since the system doesn't tell once more of those whom a full queue left waiting)
-            self.seat_all(rt, boxed);
+            self.seat_all(rt);
             let was_client = self.queue.take_client(rt, &mut self.listeners);
             let is_crowded = !self.workers.has_room_for_a_peer();
             let was_peer = !is_crowded && self.take_peer(rt);
-            if !was_client && !was_peer && !self.wait(is_crowded) {
+            if !was_client && !was_peer && !self.wait(rt, is_crowded) {
                 break;
             }
             self.queue.tell_refusals(rt);
@@ -102,11 +76,11 @@ impl<X: Attachment> Intake<X> {
 
     // Waits until somebody connects, or until it is time to look at something else. False where the system can't wait. (Nor does
     // the system tell once more of nodes that connected while worker 0 had no room for them.)
-    fn wait(&mut self, is_crowded: bool) -> bool {
+    fn wait<R: Clock>(&mut self, rt: &R, is_crowded: bool) -> bool {
         let most = if is_crowded {
             Some(PEERS_PATIENCE)
         } else {
-            self.queue.patience()
+            self.queue.patience(rt)
         };
         self.listeners.wait(most)
     }
@@ -124,13 +98,7 @@ impl<X: Attachment> Intake<X> {
     }
 
     // Hands in those who wait for a place, in their order and as far as places are free.
-    fn seat_all<R: Wait + Clock + AllocGlobal, F: Fn(RingClient) -> Option<X>>(
-        &mut self,
-        rt: &R,
-        boxed: &F,
-    )
-        requires { F.IsAlwaysCallable boxed.now }
-    {
+    fn seat_all<R: Wait + Clock + AllocGlobal>(&mut self, rt: &R) {
         for _ in 0..MOST_QUEUED {
             if self.queue.len() == 0 {
                 return;
@@ -139,22 +107,22 @@ impl<X: Attachment> Intake<X> {
                 return self.make_way(rt);
             };
             let place = stand.place();
-            let attachment = attachment_at(rt.alloc(), stand, self.bound, boxed);
-            self.seat_next(rt, place, attachment);
+            let ring = RingClient::new(rt.alloc(), stand, self.bound).ok();
+            self.seat_next(rt, place, ring);
         }
     }
 
-    // Hands in who has waited longest for a place, with its attachment. Where there was no memory for that it is closed.
-    fn seat_next<R: Wait + Clock>(&mut self, rt: &R, place: usize, attachment: Option<X>) {
+    // Hands in who has waited longest for a place, with its ring. Where there was no memory for that it is closed.
+    fn seat_next<R: Wait + Clock>(&mut self, rt: &R, place: usize, ring: Option<RingClient>) {
         let Some((stream, address)) = self.queue.pop() else {
             return;
         };
-        let Some(attachment) = attachment else {
+        let Some(ring) = ring else {
             return self.queue.tell_refused(rt, address, Reason::NoMemory);
         };
         self.places.begin(place);
-        if let Some(handed) = self.workers.hand_client(rt, stream, address, attachment) {
-            self.places.note(place, handed);
+        if self.workers.hand_client(rt, stream, address, ring) {
+            self.places.note(place);
         }
     }
 
@@ -162,11 +130,15 @@ impl<X: Attachment> Intake<X> {
     // left to be asked, those who wait for a place are closed.
     fn make_way<R: Wait + Clock>(&mut self, rt: &R) {
         let now = monotonic_ms(rt).unwrap_or(0);
+        let mut are_asked = false;
         for _ in self.places.count_leaving(now)..self.queue.len() {
-            match self.places.ask_longest(now) {
-                Some(handed) => self.workers.ask_to_leave(rt, handed),
-                None => break,
+            if !self.places.ask_longest(now) {
+                break;
             }
+            are_asked = true;
+        }
+        if are_asked {
+            self.workers.tell_leave(rt);
         }
         if self.places.count_leaving(now) == 0 {
             self.queue.refuse_all(rt);
@@ -175,18 +147,13 @@ impl<X: Attachment> Intake<X> {
 }
 
 // Takes connections in on a thread of its own. False where the system gives no thread.
-fn receive_in_a_thread<R, X, F>(rt: R, intake: Intake<X>, boxed: F) -> bool
+fn receive_in_a_thread<R>(rt: R, intake: Intake) -> bool
 where
     R: Threads + Wait + Clock + AllocGlobal + Copy + Send + Drop + 'static,
-    X: Attachment + Send + 'static,
-    F: Fn(RingClient) -> Option<X> + Send + Drop + 'static,
-    requires { F.IsAlwaysCallable boxed }
 {
-    let run = move ||
-        requires { F.IsAlwaysCallable boxed }
-    {
+    let run = move || {
         let mut intake = intake;
-        intake.receive(&rt, &boxed);
+        intake.receive(&rt);
     };
     thread::spawn(&rt, run).is_ok()
 }

@@ -1,7 +1,7 @@
 //! The sockets on which a node accepts connections.
-use bnc_ports::{Event, ServeFault};
 use mio::net::{TcpListener, TcpStream};
 use mio::{Events, Interest, Poll, Token};
+use node_events::{Event, ServeFault};
 use operator_log::Log;
 use std::io;
 use std::io::ErrorKind;

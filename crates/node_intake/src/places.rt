@@ -1,23 +1,15 @@
 //! The places of clients, and who gives way where each is taken.
-use bnc_ports::{ServeFault, Waiting};
-use client_places::{ClaimFault, Clerk, Places, Stand};
+use attach::{ClaimFault, Clerk, Places, Stand};
+use bnc_work::Waiting;
+use node_events::ServeFault;
 use std::alloc::{AllocError, Global};
 
 // After so many milliseconds a client that was asked to go is taken to stay.
 const PATIENCE: u64 = 1000;
 
-// A client that was handed to a worker.
-#[derive(Clone, Copy)]
-pub(crate) struct Handed {
-    // The worker's place among the others.
-    pub(crate) worker: usize,
-    pub(crate) ticket: u64,
-}
-
 // Who was handed in last at a place.
 #[derive(Clone, Copy)]
 struct Seat {
-    handed: Handed,
     // How many were handed in before, at any place.
     before: u64,
     // When it was asked to go, by the monotonic clock.
@@ -57,12 +49,7 @@ impl ClientPlaces {
         })
     }
 
-    // How many places there are.
-    pub(crate) fn len(&self) -> usize {
-        self.seats.len()
-    }
-
-    // Who waits to be registered, for a worker that has clients here.
+    // Who waits to be registered, for the workers, who have the clients.
     pub(crate) fn share_waiting(&self) -> Result<Waiting, AllocError> {
         self.waiting.try_clone()
     }
@@ -74,13 +61,12 @@ impl ClientPlaces {
 
     // A client is about to be handed in at that place, and waits to be registered.
     pub(crate) fn begin(&self, place: usize) {
-        self.waiting.set(place, true);
+        self.waiting.begin(place);
     }
 
     // The client at that place was handed in.
-    pub(crate) fn note(&mut self, place: usize, handed: Handed) {
+    pub(crate) fn note(&mut self, place: usize) {
         let seat = Seat {
-            handed,
             before: self.count,
             asked_at: None,
         };
@@ -116,15 +102,18 @@ impl ClientPlaces {
         first
     }
 
-    // Who has waited longest to be registered, of those that weren't asked to go. It is to be asked now.
-    pub(crate) fn ask_longest(&mut self, now: u64) -> Option<Handed> {
-        let place = self.longest()?;
+    // Asks to go who has waited longest to be registered, of those that weren't asked. False where there is nobody.
+    pub(crate) fn ask_longest(&mut self, now: u64) -> bool {
+        let Some(place) = self.longest() else {
+            return false;
+        };
         match self.seats.get_mut(place) {
             Some(Some(seat)) => {
                 seat.asked_at = Some(now);
-                Some(seat.handed)
+                self.waiting.ask(place);
+                true
             }
-            _ => None,
+            _ => false,
         }
     }
 }
@@ -149,7 +138,6 @@ fn number_of(seat: &Option<Seat>) -> Option<u64> {
             Seat {
                 before,
                 asked_at: None,
-                ..
             },
         ) => Some(*before),
         _ => None,

@@ -1,15 +1,14 @@
 //! Clients that wait for a place.
 use crate::listeners::{Caller, Entrance, Listeners};
-use bnc_ports::{Event, Reason, Refusals};
 use bnc_sockets::monotonic_ms;
 use mio::net::TcpStream;
+use node_events::{Event, Reason, Refusals, Shortage};
 use operator_log::Log;
 use std::alloc::{AllocError, Global};
 use std::collections::VecDeque;
 use std::net::SocketAddr;
 use std::sync::Wait;
 use std::time::Clock;
-use worker_io::Shortage;
 
 // So many clients at most wait for a place. Others wait in the queue of the system.
 pub(crate) const MOST_QUEUED: usize = 16;
@@ -29,11 +28,11 @@ pub(crate) struct Queue {
 }
 
 impl Queue {
-    // Nobody waits.
-    pub(crate) fn new(alloc: Global, log: &Log) -> Result<Queue, AllocError> {
+    // Nobody waits, at that moment.
+    pub(crate) fn new(alloc: Global, log: &Log, now: u64) -> Result<Queue, AllocError> {
         Ok(Queue {
             clients: VecDeque::new(alloc),
-            refusals: Refusals::new(),
+            refusals: Refusals::new(now),
             shortage: Shortage::new(),
             log: log.try_clone()?,
         })
@@ -76,11 +75,13 @@ impl Queue {
     }
 
     // For how many milliseconds at most the node waits before a place may be free, or the operator is to be told something.
-    pub(crate) fn patience(&self) -> Option<u64> {
-        if self.clients.is_empty() {
-            self.refusals.patience().or(self.shortage.patience())
-        } else {
-            Some(PATIENCE)
+    pub(crate) fn patience<R: Clock>(&self, rt: &R) -> Option<u64> {
+        if !self.clients.is_empty() {
+            return Some(PATIENCE);
+        }
+        match self.refusals.due_at() {
+            Some(at) => Some(at.saturating_sub(monotonic_ms(rt).unwrap_or(0))),
+            None => self.shortage.patience(),
         }
     }
 

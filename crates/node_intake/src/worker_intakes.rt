@@ -1,41 +1,36 @@
 //! The workers of a node, as those who connect are handed in to them.
-use crate::places::Handed;
+use attach::RingClient;
 use bnc_sockets::WorkerIntake;
-use client_places::{Attachment, Boxed};
 use mio::net::TcpStream;
-use passed_lines::Mail;
 use std::net::SocketAddr;
 use std::sync::Wait;
 
 // An intake for each worker. Clients are handed to the workers in turn, peers to worker 0.
 #[derive(Drop)]
-pub(crate) struct WorkerIntakes<X = Boxed> {
-    intakes: Vec<WorkerIntake<Mail, X>>,
+pub(crate) struct WorkerIntakes {
+    intakes: Vec<WorkerIntake>,
     // The worker to which the next client is handed.
     next: usize,
 }
 
-impl<X: Attachment> WorkerIntakes<X> {
-    pub(crate) fn new(intakes: Vec<WorkerIntake<Mail, X>>) -> WorkerIntakes<X> {
+impl WorkerIntakes {
+    pub(crate) fn new(intakes: Vec<WorkerIntake>) -> WorkerIntakes {
         WorkerIntakes { intakes, next: 0 }
     }
 
-    // Hands a client to the next worker. None where that one has ended.
+    // Hands a client to the next worker. False where that one has ended.
     pub(crate) fn hand_client<R: Wait>(
         &mut self,
         rt: &R,
         stream: TcpStream,
         address: SocketAddr,
-        attachment: X,
-    ) -> Option<Handed> {
+        ring: RingClient,
+    ) -> bool {
         let worker = self.next.checked_rem(self.intakes.len()).unwrap_or(0);
         self.next = worker.wrapping_add(1);
-        let Some(intake) = self.intakes.get_mut(worker) else {
-            return None;
-        };
-        match intake.hand_client(rt, stream, address, attachment) {
-            Ok(ticket) => Some(Handed { worker, ticket }),
-            Err(_) => None,
+        match self.intakes.get(worker) {
+            Some(intake) => intake.hand_client(rt, stream, address, ring).is_ok(),
+            None => false,
         }
     }
 
@@ -54,10 +49,10 @@ impl<X: Attachment> WorkerIntakes<X> {
         }
     }
 
-    // Asks the worker of that client to let it go.
-    pub(crate) fn ask_to_leave<R: Wait>(&self, rt: &R, handed: Handed) {
-        if let Some(intake) = self.intakes.get(handed.worker) {
-            let _ = intake.ask_to_leave(rt, handed.ticket);
+    // Tells the workers that clients were asked to leave. Any of them may have such a client by now.
+    pub(crate) fn tell_leave<R: Wait>(&self, rt: &R) {
+        for intake in self.intakes.iter() {
+            let _ = intake.tell_leave(rt);
         }
     }
 

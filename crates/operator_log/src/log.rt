@@ -3,9 +3,9 @@ ghost use Rattle.std.specs.Prelude.{◌≤◌, vec_capacity};
 ghost use Rattle.operator_log.specs.declared.log_queue.TheConstants.{ROOM};
 
 use crate::log_queue::{LogQueue, room};
-use bnc_ports::{Event, StartFault};
 use bstr::BStr;
 use irc_time::{Moment, write_time};
+use node_events::{Event, StartFault};
 use std::alloc::{AllocError, Global};
 use std::io::{Eprint, Write};
 use std::sync::{Arc, Condvar, Mutex, Wait};

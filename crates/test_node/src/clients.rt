@@ -1,6 +1,6 @@
 //! Clients of each kind, the places that they hold, and halls.
 ghost use Rattle.std.specs.Prelude.{◌≡◌, OnOk, length};
-ghost use Rattle.client_places.specs.Attachment.{with_line};
+ghost use Rattle.attach.specs.Attachment.{with_line};
 ghost use Rattle.attach.specs.Hall.{Changes};
 
 use crate::limits::{is_flushed, is_offered};

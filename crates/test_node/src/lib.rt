@@ -1,6 +1,6 @@
 //! What has to be shown in one process. What the passes of a shared node see of one another's changes: in one thread, also
 //! where memory is refused, and with puts beside asks in two threads and in four (`shared_node`). Places and clients at their
-//! stands (`client_places`), further kinds of clients and halls (`attach`). And calls that no program makes: tags as a list, and
+//! stands (`attach`), further kinds of clients and halls (`attach`). And calls that no program makes: tags as a list, and
 //! a record with tags.
 //!
 //! The contracts of these crates say what most calls do. Here is what no clause promises: that there is memory at the greatest

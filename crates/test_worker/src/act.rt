@@ -1,5 +1,4 @@
 //! What happens at a port.
-use crate::turn::{Turn, turn_in};
 
 /// What happens.
 #[derive(Clone, Copy)]
@@ -12,22 +11,45 @@ pub enum Act<'a> {
     Back(u64),
     /// The clocks can't be read any more.
     Stop,
-    /// The client of that ticket is to leave.
-    Leave(u64),
-    /// So much mail waits for the other worker from now on.
-    Behind(usize),
+    /// The client at that place is asked to leave.
+    Leave(usize),
+    /// What the other worker told next comes.
+    Mail,
     /// So many of the next acts happen at once.
     Together(usize),
+    /// Nothing happens.
+    Pause,
     /// The port fails.
     Fail,
     /// A client comes by that connection, to whom so many bytes may be owed.
     Client(usize, usize),
-    /// A client comes whose attachment doesn't.
-    Stray(usize),
-    /// A node comes.
+    /// A node comes by that connection.
     Peer(usize),
-    /// Something happens to a connection.
+    /// The connection that was begun under that number is there.
+    Opens(usize),
+    /// The connection that was begun under that number can't be made.
+    Refused(usize),
+    /// The other end of that connection does something.
     To(usize, Turn<'a>),
+}
+
+/// What the other end of a connection does.
+#[derive(Clone, Copy)]
+pub enum Turn<'a> {
+    /// A line comes.
+    Line(&'a str),
+    /// A line comes so many times, with whatever comes next.
+    Many(usize, &'a str),
+    /// Bytes come that end no line.
+    Part(&'a str),
+    /// It sends nothing more.
+    Ends,
+    /// It is gone.
+    Gone,
+    /// It takes so many bytes at once, and so many in all.
+    Takes(usize, usize),
+    /// What it sends comes so many bytes at once.
+    Gives(usize),
 }
 
 /// A word, and what stands behind the space after it.
@@ -40,13 +62,41 @@ pub fn number_in(text: &str) -> Option<usize> {
     text.parse::<usize>().ok()
 }
 
-// What comes by a connection, or happens to it.
+fn takes_in(text: &str) -> Option<Turn<'_>> {
+    match text.split_once(" of ") {
+        Some((at_once, most)) => Some(Turn::Takes(number_in(at_once)?, number_in(most)?)),
+        None => Some(Turn::Takes(number_in(text)?, usize::MAX)),
+    }
+}
+
+fn many_in(text: &str) -> Option<Turn<'_>> {
+    let (count, line) = cut(text);
+    Some(Turn::Many(number_in(count)?, line))
+}
+
+// The turn that a word and the text behind it spell.
+fn turn_in<'a>(word: &str, rest: &'a str) -> Option<Turn<'a>> {
+    match word {
+        "<" => Some(Turn::Line(rest)),
+        "+" => Some(Turn::Many(1, rest)),
+        "many" => many_in(rest),
+        "." => Some(Turn::Part(rest)),
+        "ends" => Some(Turn::Ends),
+        "gone" => Some(Turn::Gone),
+        "takes" => takes_in(rest),
+        "gives" => Some(Turn::Gives(number_in(rest)?)),
+        _ => None,
+    }
+}
+
+// What happens to a connection.
 fn act_at(number: usize, text: &str) -> Option<Act<'_>> {
     let (word, rest) = cut(text);
     match word {
         "client" => Some(Act::Client(number, number_in(rest)?)),
-        "stray" => Some(Act::Stray(number)),
         "peer" => Some(Act::Peer(number)),
+        "opens" => Some(Act::Opens(number)),
+        "refused" => Some(Act::Refused(number)),
         _ => Some(Act::To(number, turn_in(word, rest)?)),
     }
 }
@@ -57,8 +107,7 @@ fn numbered_act(word: &str, number: usize) -> Option<Act<'static>> {
         "wait" => Some(Act::Wait(number as u64)),
         "ahead" => Some(Act::Ahead(number as u64)),
         "back" => Some(Act::Back(number as u64)),
-        "leave" => Some(Act::Leave(number as u64)),
-        "behind" => Some(Act::Behind(number)),
+        "leave" => Some(Act::Leave(number)),
         "together" => Some(Act::Together(number)),
         _ => None,
     }
@@ -70,6 +119,8 @@ pub fn act_in(text: &str) -> Option<Act<'_>> {
     match word {
         "stop" => Some(Act::Stop),
         "fail" => Some(Act::Fail),
+        "mail" => Some(Act::Mail),
+        "pause" => Some(Act::Pause),
         _ => match number_in(word) {
             Some(number) => act_at(number, rest),
             None => numbered_act(word, number_in(rest)?),

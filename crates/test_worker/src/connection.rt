@@ -1,54 +1,137 @@
-//! A connection as its worker has it.
-ghost use Rattle.std.specs.Prelude.{◌≡◌, ◌++◌, []};
+//! A connection of a port of memory.
+ghost use Rattle.std.specs.Prelude.{◌≡◌};
 
-use bnc_ports::{Connection, Journal, Piece};
+use crate::line::Line;
+use crate::site::Site;
+use node_ports::{Connection, Fresh, Halt, Journal, Origin, Piece};
+use shared_node::{Naming, Receipt};
+use std::alloc::AllocError;
+use std::marker::PhantomData;
+use std::net::{Ipv4Addr, SocketAddr};
+use std::sync::{Arc, Mutex, Wait};
+use worker_pass::{Witness, WorkerView};
 
-/// A connection of a port of memory.
-#[derive(Drop)]
-pub struct MemoryConnection {
+/// A connection of a node that `S` says, under the number by which the acts of a case name it. Its line is the port's too, which
+/// so plays the other end, and sees that the connection is closed as it is let go.
+pub struct MemoryConnection<S: Site, R: Wait + Drop> {
+    rt: R,
+    line: Arc<Mutex<Line>>,
     number: usize,
+    origin: Origin,
+    serial: u64,
+    // behind how many others it joined a network, if it did
+    joined: Option<u64>,
     received: Journal,
     sent: Journal,
+    of: PhantomData<S>,
 }
 
-impl MemoryConnection {
-    /// The connection of that number, over which nothing came and nothing was sent.
-    pub fn new(number: usize) -> MemoryConnection
-        ensures received { result.received.bytes ≡ [] }
-        ensures sent { result.sent.bytes ≡ [] }
+impl<S: Site, R: Wait + Drop> Drop for MemoryConnection<S, R> {
+    fn drop(self) {
+        self.line.lock(&self.rt).close();
+        let Self {
+            rt: _,
+            line: _,
+            number: _,
+            origin: _,
+            serial: _,
+            joined: _,
+            received: _,
+            sent: _,
+            of: _,
+        } = self;
+    }
+}
+
+impl<S: Site, R: Wait + Drop> MemoryConnection<S, R> {
+    /// The connection of that number over that line, over which nothing went.
+    pub fn over(
+        rt: R,
+        line: Arc<Mutex<Line>>,
+        number: usize,
+        origin: Origin,
+        serial: u64,
+    ) -> Fresh<MemoryConnection<S, R>>
+        ensures { result.connection.origin ≡ origin }
     {
-        MemoryConnection {
-            number,
-            received: Journal::new(),
-            sent: Journal::new(),
+        Fresh {
+            connection: MemoryConnection {
+                rt,
+                line,
+                number,
+                origin,
+                serial,
+                joined: None,
+                received: Journal::new(),
+                sent: Journal::new(),
+                of: PhantomData,
+            },
         }
     }
 
-    /// Keeps that the other end gave these bytes.
-    pub fn note_received(&mut self, bytes: &[u8])
-        ensures received { self.new.received.bytes ≡ self.old.received.bytes ++ bytes.now }
-        ensures sent { self.new.sent.bytes ≡ self.old.sent.bytes }
-    {
-        let piece = Piece { bytes };
-        self.received = self.received.then(&piece);
+    /// The number by which the acts of a case name it.
+    pub fn number(&self) -> usize {
+        self.number
     }
 
-    /// Keeps that the other end took these bytes.
-    pub fn note_sent(&mut self, bytes: &[u8])
-        ensures sent { self.new.sent.bytes ≡ self.old.sent.bytes ++ bytes.now }
-        ensures received { self.new.received.bytes ≡ self.old.received.bytes }
-    {
-        let piece = Piece { bytes };
-        self.sent = self.sent.then(&piece);
+    /// Its line, for the port that tells its worker of it.
+    pub fn line(&self) -> Result<Arc<Mutex<Line>>, AllocError> {
+        Arc::try_clone(&self.line)
     }
 }
 
-impl Connection for MemoryConnection {
-    ghost received = { λ connection. connection.received.bytes };
+impl<S: Site, R: Wait + Drop> Connection for MemoryConnection<S, R> {
+    ghost use Rattle.test_worker.specs.Settings.{facts_of};
 
-    ghost sent = { λ connection. connection.sent.bytes };
+    ghost facts = { facts_of S.settings };
 
-    fn number(&self) -> usize {
-        self.number
+    ghost origin = { λ c. c.origin };
+
+    ghost serial = { λ c. c.serial };
+
+    ghost joined = { λ c. c.joined };
+
+    ghost received = { λ c. c.received.bytes };
+
+    ghost sent = { λ c. c.sent.bytes };
+
+    fn origin(&self) -> Origin {
+        self.origin
     }
+
+    // That of connection 0 isn't known.
+    fn address(&self) -> Option<SocketAddr> {
+        let port = self.number.checked_sub(1)?.checked_add(5001)?;
+        let port = u16::try_from(port).ok()?;
+        Some(SocketAddr::from((Ipv4Addr::LOCALHOST, port)))
+    }
+
+    fn receive(&mut self, buffer: &mut [u8]) -> Result<usize, Halt> {
+        let count = self.line.lock(&self.rt).take(buffer)?;
+        let piece = Piece {
+            bytes: &buffer[..count],
+        };
+        self.received = self.received.then(&piece);
+        Ok(count)
+    }
+
+    fn send(&mut self, bytes: &[u8]) -> Result<usize, Halt> {
+        let count = self.line.lock(&self.rt).put(bytes)?;
+        let piece = Piece {
+            bytes: &bytes[..count],
+        };
+        self.sent = self.sent.then(&piece);
+        Ok(count)
+    }
+
+    fn join(&mut self, _place: usize, joins: u64) {
+        self.joined = Some(joins);
+    }
+}
+
+// Its facts say no more of what is held and put than the words.
+impl<J: Naming, S: Site, R: Wait + Drop> Witness<J> for MemoryConnection<S, R> {
+    fn is_held(_receipt: &Receipt<J>) {}
+
+    fn is_put(_view: &WorkerView<J>) {}
 }

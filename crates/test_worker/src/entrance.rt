@@ -1,52 +1,49 @@
-//! Where the clients of a port of memory come in.
-use bnc_ports::{Arrival, Lobby, Waiting};
-use client_places::{Clerk, Places, RingClient, Stand};
-use rtrb::{Producer, RingBuffer};
+//! Where the clients of a port of memory get their places.
+use crate::lists::with_one;
+use attach::{Clerk, Places, RingClient, Stand};
+use bnc_work::Waiting;
 use std::alloc::Global;
 
-/// Where clients come in.
+/// Hands out the places of clients. Those of each port are its own, behind those of the ports before it.
 #[derive(Drop)]
 pub struct Entrance {
     clerk: Clerk,
-    arrivals: Producer<Arrival<RingClient>>,
-    /// Where they wait, until the worker begins.
-    pub lobby: Option<Lobby<RingClient>>,
-    // of the last client that came
-    ticket: u64,
+    // the places of the ports before it
+    _others: Vec<Stand>,
+    waiting: Waiting,
+}
+
+// Claims so many places.
+fn claimed(alloc: Global, clerk: &mut Clerk, count: usize) -> Option<Vec<Stand>> {
+    let mut stands = Vec::new(alloc);
+    for _ in 0..count {
+        stands = with_one(stands, clerk.claim().ok())?;
+    }
+    Some(stands)
 }
 
 impl Entrance {
-    /// An entrance with so many places. None is want of memory.
-    pub fn new(alloc: Global, places: usize) -> Option<Entrance> {
-        let clerk = Places::new(alloc, places).ok();
-        let waiting = Waiting::new(alloc, places).ok();
-        let ring = RingBuffer::new(alloc, places).ok();
-        let ((clerk, waiting), (arrivals, coming)) = clerk.zip(waiting).zip(ring)?;
+    /// The entrance of that worker, with so many places. None is want of memory.
+    pub fn new(alloc: Global, worker: usize, places: usize, waiting: &Waiting) -> Option<Entrance> {
+        let before = worker.checked_mul(places)?;
+        let mut clerk = Places::new(alloc, before.checked_add(places)?).ok()?;
+        let others = claimed(alloc, &mut clerk, before)?;
         Some(Entrance {
             clerk,
-            arrivals,
-            lobby: Some(Lobby::new(coming, waiting)),
-            ticket: 0,
+            _others: others,
+            waiting: waiting.try_clone().ok()?,
         })
     }
 
-    /// A free place, where there is one.
+    /// A free place, where there is one. A client waits there from now on.
     pub fn claim(&mut self) -> Option<Stand> {
-        self.clerk.claim().ok()
+        let stand = self.clerk.claim().ok()?;
+        self.waiting.begin(stand.place());
+        Some(stand)
     }
 
-    /// Sends an attachment to the lobby, under the next ticket. So many bytes may be owed to it. None is want of memory.
-    pub fn let_in(&mut self, alloc: Global, stand: Stand, bound: usize) -> Option<()> {
-        let arrival = Arrival {
-            ticket: self.ticket.saturating_add(1),
-            attachment: RingClient::new(alloc, stand, bound).ok()?,
-        };
-        self.arrivals.push(arrival).ok()
-    }
-
-    /// The next ticket, which is taken.
-    pub fn take_ticket(&mut self) -> u64 {
-        self.ticket = self.ticket.saturating_add(1);
-        self.ticket
+    /// The client at that place is asked to leave, where it waits.
+    pub fn ask(&self, place: usize) {
+        self.waiting.ask(place);
     }
 }

@@ -1,8 +1,8 @@
 //! The gate of a case.
-use bnc_ports::Gate;
 use std::sync::atomic::{AtomicBool, Ordering};
 use std::thread;
 use std::time::{Clock, Duration};
+use worker_pass::Gate;
 
 /// A gate so often looks whether the other worker has come, a millisecond apart.
 const TURNS: u64 = 10_000;

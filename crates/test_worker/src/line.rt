@@ -1,12 +1,13 @@
-//! One connection of a port of memory.
+//! What a port and a worker share of one connection.
 ghost use Rattle.std.specs.Prelude.{◌≤◌, length, IfOk};
 
-use bnc_ports::{Dial, Halt};
+use crate::act::Turn;
 use byte_text::NoMemory;
+use network_client::Dial;
+use node_ports::{Halt, Pending};
 use std::alloc::Global;
 use std::io;
 use std::io::Write;
-use work_lines::Pending;
 
 /// What the other end does.
 #[derive(Clone, Copy)]
@@ -22,18 +23,56 @@ enum Other {
 /// What the worker did with the connection.
 #[derive(Clone, Copy)]
 enum Own {
-    /// The worker has not opened it.
-    New,
     Open,
     /// It was closed since the last telling.
     JustClosed,
     Closed,
 }
 
+/// What the worker learns of a connection: whether bytes may be there, and whether there may be room for bytes.
+#[derive(Clone, Copy)]
+pub struct Sign {
+    pub is_readable: bool,
+    pub is_writable: bool,
+}
+
+impl Sign {
+    const NOTHING: Sign = Sign {
+        is_readable: false,
+        is_writable: false,
+    };
+
+    const READABLE: Sign = Sign {
+        is_readable: true,
+        is_writable: false,
+    };
+
+    /// The connection is gone, which a read finds and a write.
+    const BROKEN: Sign = Sign {
+        is_readable: true,
+        is_writable: true,
+    };
+
+    fn is_nothing(self) -> bool {
+        !self.is_readable && !self.is_writable
+    }
+}
+
+/// What the worker is told of a connection: under which token, and what.
+#[derive(Clone, Copy)]
+pub struct Readiness {
+    pub token: usize,
+    pub sign: Sign,
+}
+
 /// A connection.
 #[derive(Drop)]
 pub struct Line {
     input: Pending,
+    // so many bytes of the input are there
+    arrived: usize,
+    // so many come at once
+    gives: usize,
     // what was sent since the last telling
     output: Pending,
     // so many bytes the other end takes before the worker learns that it takes more
@@ -44,6 +83,7 @@ pub struct Line {
     left: usize,
     other: Other,
     own: Own,
+    token: Option<usize>,
     dialed: Option<Dial>,
 }
 
@@ -52,12 +92,15 @@ impl Line {
     pub fn new(alloc: Global, dialed: Option<Dial>) -> Line {
         Line {
             input: Pending::new(alloc),
+            arrived: 0,
+            gives: usize::MAX,
             output: Pending::new(alloc),
             at_once: usize::MAX,
             room: usize::MAX,
             left: usize::MAX,
             other: Other::Sends,
-            own: Own::New,
+            own: Own::Open,
+            token: None,
             dialed,
         }
     }
@@ -67,49 +110,74 @@ impl Line {
         self.dialed
     }
 
-    /// The other end takes so many bytes at once, and so many in all, once it was refilled.
-    pub fn set_pace(&mut self, at_once: usize, most: usize) {
-        self.at_once = at_once;
-        self.left = most;
-        self.room = 0;
-    }
-
-    /// These bytes come.
-    pub fn come(&mut self, bytes: &[u8]) -> Result<(), NoMemory> {
-        self.input.push(bytes)
-    }
-
-    /// The other end sends nothing more.
-    pub fn end(&mut self) {
-        self.other = Other::Ended;
-    }
-
-    /// The other end is gone.
-    pub fn go(&mut self) {
-        self.other = Other::Gone;
-    }
-
-    /// The worker opens it, once. Whether it does.
-    pub fn open(&mut self) -> bool {
-        let is_new = matches!(self.own, Own::New);
-        if is_new {
-            self.own = Own::Open;
-        }
-        is_new
-    }
-
-    /// The worker gives it up, which it has not opened.
-    pub fn give_up(&mut self) {
-        if matches!(self.own, Own::New) {
-            self.own = Own::JustClosed;
-        }
+    /// The worker is told of it under that token from now on, or no more.
+    pub fn watch(&mut self, token: Option<usize>) {
+        self.token = token;
     }
 
     /// The worker closes it.
     pub fn close(&mut self) {
-        if matches!(self.own, Own::Open) {
-            self.own = Own::JustClosed;
+        self.own = Own::JustClosed;
+        self.token = None;
+    }
+
+    // What the worker is told, where it watches the connection.
+    fn readiness(&self, sign: Sign) -> Option<Readiness> {
+        if sign.is_nothing() {
+            return None;
         }
+        let token = self.token?;
+        Some(Readiness { token, sign })
+    }
+
+    // These bytes come, at once or by and by.
+    fn come(&mut self, bytes: &[u8]) -> Result<(), NoMemory> {
+        self.input.push(bytes)?;
+        self.arrived = self.arrived.max(self.gives).min(self.input.len());
+        Ok(())
+    }
+
+    // A line comes, so many times.
+    fn come_lines(&mut self, count: usize, text: &str) -> Result<(), NoMemory> {
+        for _ in 0..count {
+            self.come(text.as_bytes())?;
+            self.come(b"\r\n")?;
+        }
+        Ok(())
+    }
+
+    // The other end has its turn.
+    fn turn(&mut self, turn: Turn<'_>) -> Result<Sign, NoMemory> {
+        match turn {
+            Turn::Line(text) => self.come_lines(1, text)?,
+            Turn::Part(text) => self.come(text.as_bytes())?,
+            Turn::Ends => self.other = Other::Ended,
+            Turn::Many(count, text) => {
+                self.come_lines(count, text)?;
+                return Ok(Sign::NOTHING);
+            }
+            Turn::Takes(at_once, most) => {
+                self.at_once = at_once;
+                self.left = most;
+                self.room = 0;
+                return Ok(Sign::NOTHING);
+            }
+            Turn::Gives(count) => {
+                self.gives = count;
+                return Ok(Sign::NOTHING);
+            }
+            Turn::Gone => {
+                self.other = Other::Gone;
+                return Ok(Sign::BROKEN);
+            }
+        }
+        Ok(Sign::READABLE)
+    }
+
+    /// The other end has its turn: what the worker is told of that.
+    pub fn play(&mut self, turn: Turn<'_>) -> Result<Option<Readiness>, NoMemory> {
+        let sign = self.turn(turn)?;
+        Ok(self.readiness(sign))
     }
 
     fn is_dead(&self) -> bool {
@@ -124,15 +192,16 @@ impl Line {
             return Err(Halt::Closed);
         }
         let bytes = self.input.as_bytes();
-        let count = bytes.len().min(buffer.len());
+        let count = bytes.len().min(self.arrived).min(buffer.len());
         if count != 0 {
             buffer[..count].copy_from_slice(&bytes[..count]);
             self.input.take(count);
+            self.arrived = self.arrived.saturating_sub(count);
             return Ok(count);
         }
         match self.other {
-            Other::Sends => Err(Halt::Blocked),
-            Other::Ended | Other::Gone => Err(Halt::Closed),
+            Other::Ended if self.input.is_empty() => Err(Halt::Closed),
+            _ => Err(Halt::Blocked),
         }
     }
 
@@ -155,21 +224,46 @@ impl Line {
         Ok(count)
     }
 
-    /// Whether the other end took what it takes at once, and takes more from now on.
-    pub fn refill(&mut self) -> bool {
-        if self.room != 0 || self.is_dead() {
+    // Whether more of what the other end sent comes, all that had come being taken.
+    fn brings_more(&mut self) -> bool {
+        if self.arrived != 0 {
+            return false;
+        }
+        self.arrived = self.gives.min(self.input.len());
+        self.arrived != 0
+    }
+
+    // Whether the other end took what it takes at once, and takes more from now on.
+    fn takes_more(&mut self) -> bool {
+        if self.room != 0 {
             return false;
         }
         self.room = self.at_once.min(self.left);
         self.room != 0
     }
 
+    /// What the worker is told once it has nothing to do: more comes, or the other end takes more.
+    pub fn go_on(&mut self) -> Option<Readiness> {
+        if self.is_dead() {
+            return None;
+        }
+        let sign = Sign {
+            is_readable: self.brings_more(),
+            is_writable: self.takes_more(),
+        };
+        self.readiness(sign)
+    }
+
+    /// Tells what was sent over it since the last telling.
+    pub fn tell_sent(&mut self, number: usize, out: &mut Vec<u8>) -> io::Result<()> {
+        tell_texts(number, self.output.as_bytes(), out)?;
+        self.output.take(usize::MAX);
+        Ok(())
+    }
+
     /// Tells what was sent over it, and whether the worker closed it, since the last telling.
     pub fn tell(&mut self, number: usize, out: &mut Vec<u8>) -> io::Result<()> {
-        for text in self.output.as_bytes().split(|byte| *byte == b'\n') {
-            tell_text(number, text, out)?;
-        }
-        self.output.take(usize::MAX);
+        self.tell_sent(number, out)?;
         if matches!(self.own, Own::JustClosed) {
             self.own = Own::Closed;
             write!(out, "    {number} closed\n")?;
@@ -184,25 +278,44 @@ const TOLD: usize = 40;
 /// A line of more bytes is longer.
 const LONG: usize = 200;
 
+// Tells lines, and how often those are there that stand there several times in turn.
+fn tell_texts(number: usize, texts: &[u8], out: &mut Vec<u8>) -> io::Result<()> {
+    let mut last: &[u8] = b"";
+    let mut times: u64 = 0;
+    for text in texts.split(|byte| *byte == b'\n') {
+        if text == last {
+            times = times.saturating_add(1);
+        } else {
+            tell_text(number, last, times, out)?;
+            last = text;
+            times = 1;
+        }
+    }
+    tell_text(number, last, times, out)
+}
+
 // Tells a line, which ends with a CR here, or bytes that end no line.
-fn tell_text(number: usize, text: &[u8], out: &mut Vec<u8>) -> io::Result<()> {
+fn tell_text(number: usize, text: &[u8], times: u64, out: &mut Vec<u8>) -> io::Result<()> {
     let (mark, text) = match text {
         [] => return Ok(()),
         [line @ .., b'\r'] => (">", line),
         _ => (".", text),
     };
     write!(out, "    {number} {mark} ")?;
-    if text.len() > LONG {
-        return tell_front(text, out);
+    tell_front(text, out)?;
+    if times > 1 {
+        write!(out, ", {times} times")?;
     }
-    out.extend_from_slice(text)?;
     Ok(out.extend_from_slice(b"\n")?)
 }
 
-// Tells how a long text begins, and how many bytes it has.
+// Tells a text, or how a long one begins, and how many bytes it has.
 fn tell_front(text: &[u8], out: &mut Vec<u8>) -> io::Result<()> {
+    if text.len() <= LONG {
+        return Ok(out.extend_from_slice(text)?);
+    }
     if let Some(front) = text.get(..TOLD) {
         out.extend_from_slice(front)?;
     }
-    write!(out, "… ({} bytes)\n", text.len())
+    write!(out, "… ({} bytes)", text.len())
 }

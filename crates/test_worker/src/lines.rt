@@ -1,48 +1,46 @@
-//! The connections of a port of memory.
-use crate::line::Line;
-use bnc_ports::Dial;
-use std::alloc::{AllocError, Global};
+//! The lines of a port of memory.
+use crate::act::Turn;
+use crate::line::{Line, Readiness};
+use network_client::Dial;
+use std::alloc::Global;
+use std::collections::BTreeMap;
 use std::io;
+use std::sync::{Arc, Mutex, Wait};
 
 /// The first connection that is begun has this number, and the next one the next.
 const DIALED: usize = 10;
 
-/// So many connections a port has at most.
-const LINES: usize = 128;
+/// What a port and a worker share of a connection.
+pub type SharedLine = Arc<Mutex<Line>>;
 
-/// The connections of a port, by their numbers.
+/// The lines of a worker's connections, and of those that it begins, by the numbers by which acts name them.
 #[derive(Drop)]
-pub struct Lines {
+pub struct Lines<R: Wait + Drop> {
+    rt: R,
     alloc: Global,
-    list: Vec<Line>,
+    lines: BTreeMap<usize, SharedLine>,
     // the number of the next one that is begun; None where none can be
     dialed: Option<usize>,
 }
 
-impl Lines {
-    /// Connections over which nothing came and nothing was sent. Whether others can be begun.
-    pub fn new(alloc: Global, can_dial: bool) -> Result<Lines, AllocError> {
-        let mut list = Vec::new(alloc);
-        for _ in 0..LINES {
-            list.push(Line::new(alloc, None))?;
-        }
-        Ok(Lines {
+impl<R: Wait + Drop> Lines<R> {
+    /// No lines yet. Whether connections can be begun.
+    pub fn new(rt: R, alloc: Global, can_dial: bool) -> Lines<R> {
+        Lines {
+            rt,
             alloc,
-            list,
+            lines: BTreeMap::new(alloc),
             dialed: if can_dial { Some(DIALED) } else { None },
-        })
+        }
     }
 
-    /// The connection of that number.
-    pub fn at(&mut self, number: usize) -> Option<&mut Line> {
-        self.list.get_mut(number)
-    }
-
-    /// A new connection in the place of that number. It was dialed, or not.
-    pub fn connect(&mut self, number: usize, dialed: Option<Dial>) -> Option<()> {
-        let alloc = self.alloc;
-        *self.at(number)? = Line::new(alloc, dialed);
-        Some(())
+    /// A new line under that number. It was dialed, or not. None is want of memory.
+    pub fn connect(&mut self, number: usize, dialed: Option<Dial>) -> Option<SharedLine> {
+        let line = Mutex::new(Line::new(self.alloc, dialed));
+        let line = Arc::new(self.alloc, line).ok()?;
+        let shared = Arc::try_clone(&line).ok()?;
+        self.lines.insert(number, line).ok()?;
+        Some(shared)
     }
 
     /// Begins a connection, and answers its number.
@@ -53,15 +51,52 @@ impl Lines {
         Some(number)
     }
 
-    /// The first connection whose other end took what it takes at once, and takes more now.
-    pub fn refilled(&mut self) -> Option<usize> {
-        self.list.iter_mut().position(|line| line.refill())
+    /// The line of a connection that was begun under that number, and whom it is to reach.
+    pub fn dialed(&self, number: usize) -> Option<(SharedLine, Dial)> {
+        let line = self.lines.get(&number)?;
+        let what = line.lock(&self.rt).dialed()?;
+        Some((Arc::try_clone(line).ok()?, what))
+    }
+
+    /// The worker is told of that line under that token from now on.
+    pub fn watch(&mut self, number: usize, line: SharedLine, token: usize) -> Option<()> {
+        line.lock(&self.rt).watch(Some(token));
+        self.lines.insert(number, line).ok()?;
+        Some(())
+    }
+
+    /// The line of that number moves to another port. What was sent over it is told.
+    pub fn let_go(&mut self, number: usize, told: &mut Vec<u8>) -> io::Result<()> {
+        let Some(line) = self.lines.remove(&number) else {
+            return Ok(());
+        };
+        let mut line = line.lock(&self.rt);
+        line.watch(None);
+        line.tell_sent(number, told)
+    }
+
+    /// The other end of that line has its turn: what the worker is told of that. None where the line isn't there, and for
+    /// want of memory.
+    pub fn play(&mut self, number: usize, turn: Turn<'_>) -> Option<Option<Readiness>> {
+        let line = self.lines.get(&number)?;
+        line.lock(&self.rt).play(turn).ok()
+    }
+
+    /// What the worker is told once it has nothing to do: of the first line over which more comes, or whose other end takes more.
+    pub fn go_on(&mut self) -> Option<Readiness> {
+        for line in self.lines.values() {
+            let readiness = line.lock(&self.rt).go_on();
+            if readiness.is_some() {
+                return readiness;
+            }
+        }
+        None
     }
 
     /// Tells what was sent, and which connections were closed, since the last telling.
-    pub fn tell(&mut self, told: &mut Vec<u8>) -> io::Result<()> {
-        for (number, line) in self.list.iter_mut().enumerate() {
-            line.tell(number, told)?;
+    pub fn tell(&self, told: &mut Vec<u8>) -> io::Result<()> {
+        for (number, line) in self.lines.iter() {
+            line.lock(&self.rt).tell(*number, told)?;
         }
         Ok(())
     }

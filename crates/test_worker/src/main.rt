@@ -1,5 +1,5 @@
-//! Shows what a worker does: it plays a worker over a port of memory, act by act, and two workers at once, each in a thread
-//! of its own, and compares what comes of each act with what is to come of it. It stands on `bnc_work`. Read `play` first.
+//! Shows what a worker does: it plays one or two workers over ports of memory, act by act, each in a thread of its own, and compares
+//! what comes of each act with what is to come of it. It stands on `bnc_work`. Read `play` first, and then `port`.
 //! The words name files of cases:
 //!
 //!     == name of the case
@@ -18,7 +18,6 @@
 //! Acts begin a line:
 //!
 //!     1 client 1024       a client comes by connection 1, to whom 1,024 bytes may be owed
-//!     1 stray             a client comes whose attachment doesn't
 //!     1 peer              a node comes
 //!     10 opens            the connection that was begun under that number is there
 //!     10 refused          it can't be made
@@ -26,6 +25,7 @@
 //!     1 + line            a line comes, with what comes next
 //!     1 many 99 line      a line comes 99 times, with what comes next
 //!     1 . bytes           bytes come that end no line
+//!     1 gives 1           what the other end sends from now on comes a byte at once
 //!     1 ends              the other end sends nothing more
 //!     1 gone              the other end is gone
 //!     1 takes 100         the other end takes 100 bytes at once
@@ -33,21 +33,24 @@
 //!     wait 60000          milliseconds pass, by the wall clock and by the monotonic one
 //!     ahead 60000         the wall clock alone is set ahead by so many milliseconds
 //!     back 60000          it is set back by so many
-//!     leave 1             others wait for the place of the client that came under that ticket
-//!     behind 2000         so much mail waits for the other worker from now on
+//!     leave 1             the client at place 1 is asked to leave
+//!     mail                what the other worker told comes, the next of it, for which the port waits
 //!     together 3          the next three acts happen at once
+//!     pause               nothing happens, so that the worker has its turn between two acts that happen at once
 //!     fail                the port fails
 //!     stop                the clocks can't be read any more
 //!
 //! The address of connection 0 isn't known.
 //!
 //! What comes of an act stands behind it, four spaces in. First comes, in its order, which place a client got, what the
-//! operator was told, which connections were begun, and what was told to the other worker; then, connection by connection,
-//! the lines that were sent, behind `>`, bytes that end no line, behind `.`, and whether it was closed. The last line of a
-//! case says how the work ended. A line of more than 200 bytes is printed as the first 40 of them and their count.
+//! operator was told, which connections were begun, what was told to the other worker, and what was sent over a connection that
+//! moves there; then, connection by connection, the lines that were sent, behind `>`, bytes that end no line, behind `.`, and whether
+//! it was closed. The last line of a case says how the work ended. A line of more than 200 bytes is printed as the first 40 of them
+//! and their count, and lines that are alike are printed once, with their number.
 //!
-//! One worker plays a case, in a thread of its own. Where a case has a line `--`, two play at once: the first one what stands
-//! before it, and the other what stands behind it. What one tells the other doesn't reach it; the rows say what that was.
+//! One worker plays a case. Where a case has a line `--`, two play at once: the first one what stands before it, and the other what
+//! stands behind it. Each has clocks and places of its own, those of the other one behind those of the first. A connection is played
+//! where it is.
 #![tactic(auto)]
 
 mod act;
@@ -57,15 +60,15 @@ mod gate;
 mod line;
 mod lines;
 mod lists;
-mod mail;
+mod node_settings;
 mod others;
 mod play;
 mod port;
+mod post;
 mod script;
 mod setting;
+mod site;
 mod times;
-mod turn;
-mod worker_config;
 
 use play::played;
 use setting::{Setting, USUAL, setting_in};
@@ -112,7 +115,7 @@ fn is_right<R>(rt: &R, case: Case<'_>) -> io::Result<bool>
 where
     R: Print + Threads + Wait + Clock + AllocGlobal + Copy + Send + Sync + Drop,
 {
-    let Some(told) = &played(rt, case.setting, case.script) else {
+    let Some(told) = &played(rt, case) else {
         println!(rt; "{} can't be played", case.name)?;
         return Ok(false);
     };

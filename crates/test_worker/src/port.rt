@@ -1,41 +1,49 @@
 //! A port of memory, which plays the acts of a case and tells what comes of them.
-ghost use Rattle.std.specs.Prelude.{take};
+ghost use Rattle.std.specs.Prelude.{◌≡◌};
 
 use crate::act::{Act, act_in};
 use crate::connection::MemoryConnection;
 use crate::entrance::Entrance;
-use crate::lines::Lines;
-use crate::mail::tell_mail;
+use crate::line::Readiness;
+use crate::lines::{Lines, SharedLine};
+use crate::post::{Post, note_mail};
 use crate::script::Script;
 use crate::setting::Setting;
+use crate::site::Site;
 use crate::times::Times;
-use crate::turn::{Sign, Turn, play_turn};
-use bnc_ports::{
-    Carries, Clocks, Connection, Dial, Event, Halt, Happening, Kind, Port, PortFault, Unreached,
-};
-use bnc_work::Mail;
+use attach::RingClient;
+use network_client::{Dial, Happening, Mail, Port, PortFault};
+use node_events::{Clocks, Event, Unreached};
+use node_ports::{Connection, Fresh, Origin};
 use std::alloc::{AllocError, Global};
-use std::io;
 use std::io::{ErrorKind, Write};
-use std::net::{Ipv4Addr, SocketAddr};
+use std::net::SocketAddr;
+use std::sync::Wait;
+use std::time::Clock;
 
 /// A worker that asks more often than this what comes next does so for ever.
-const TURNS: u64 = 1_000_000;
+const TURNS: u64 = 100_000;
+
+// What comes next at a port of memory.
+type Next<S, R> = Happening<MemoryConnection<S, R>>;
+
+/// The port of a worker of the node that `S` says.
+pub type PortOf<S, R> = MemoryPort<MemoryConnection<S, R>, R>;
 
 /// A port of memory. It plays an act where its worker has nothing to do and each other end took what it takes.
 #[derive(Drop)]
-pub struct MemoryPort {
+pub struct MemoryPort<C: Connection, R: Wait + Drop> {
+    rt: R,
     alloc: Global,
     script: Script,
     times: Times,
-    lines: Lines,
-    /// Where its clients come in.
-    pub entrance: Entrance,
+    lines: Lines<R>,
+    entrance: Entrance,
+    post: Post<C>,
+    // so many connections were there
+    serial: u64,
     // so often the worker asked what comes next
     turns: u64,
-    workers: usize,
-    // so much mail waits for the other worker
-    backlog: usize,
     // each act as it stands, and behind it what came of it, with four spaces before it
     told: Vec<u8>,
 }
@@ -47,52 +55,40 @@ fn tell_line(told: &mut Vec<u8>, margin: &str, text: &str) -> Result<(), AllocEr
 }
 
 // The word for whom a connection is begun to, and their place.
-fn dialed(what: Dial) -> (&'static str, usize) {
+fn words_of(what: Dial) -> (&'static str, usize) {
     match what {
         Dial::Network(network) => ("network", network),
         Dial::Peer(peer) => ("peer", peer),
     }
 }
 
-// What comes next by a sign of a connection.
-fn happening(number: usize, sign: Sign) -> Happening<Mail> {
-    match sign {
-        Sign::Nothing => Happening::Nothing,
-        Sign::Ready { readable, writable } => Happening::Ready {
-            number,
-            readable,
-            writable,
-        },
-        Sign::Opened(what) => Happening::Opened { number, what },
-        Sign::Refused(what) => Happening::Refused {
-            number,
-            what,
-            why: Unreached::System(ErrorKind::ConnectionRefused),
-        },
+fn origin_of(what: Dial) -> Origin {
+    match what {
+        Dial::Network(network) => Origin::NetworkDialed(network),
+        Dial::Peer(peer) => Origin::PeerDialed(peer),
     }
 }
 
-impl MemoryPort {
-    /// A port of one of so many workers, on which a script is played. None is want of memory.
+impl<S: Site, R: Wait + Clock + Copy + Drop> MemoryPort<MemoryConnection<S, R>, R> {
+    /// A port on which a script is played. None is want of memory.
     pub fn new(
+        rt: R,
         alloc: Global,
         setting: Setting<'_>,
-        workers: usize,
+        entrance: Entrance,
+        post: Post<MemoryConnection<S, R>>,
         script: &str,
-    ) -> Option<MemoryPort> {
-        let script = Script::new(alloc, script).ok();
-        let lines = Lines::new(alloc, setting.can_dial).ok();
-        let entrance = Entrance::new(alloc, setting.places);
-        let ((script, lines), entrance) = script.zip(lines).zip(entrance)?;
+    ) -> Option<PortOf<S, R>> {
         Some(MemoryPort {
+            rt,
             alloc,
-            script,
+            script: Script::new(alloc, script).ok()?,
             times: Times::new(setting.clock),
-            lines,
+            lines: Lines::new(rt, alloc, setting.can_dial),
             entrance,
+            post,
+            serial: 0,
             turns: 0,
-            workers,
-            backlog: 0,
             told: Vec::new(alloc),
         })
     }
@@ -108,13 +104,8 @@ impl MemoryPort {
         tell_line(&mut self.told, "    ", text)
     }
 
-    /// Tells what was sent, and which connections were closed, since the last telling.
-    pub fn tell_lines(&mut self) -> io::Result<()> {
-        self.lines.tell(&mut self.told)
-    }
-
     // What comes next. None is a port that fails.
-    fn step(&mut self, patience: u64) -> Option<Happening<Mail>> {
+    fn step(&mut self, patience: u64) -> Option<Next<S, R>> {
         self.turns = self.turns.saturating_add(1);
         if self.turns > TURNS {
             return None;
@@ -125,18 +116,19 @@ impl MemoryPort {
         if patience == 0 {
             return Some(Happening::Nothing);
         }
-        if let Some(line) = self.lines.refilled() {
-            return Some(happening(line, Sign::WRITABLE));
+        let readiness = self.lines.go_on();
+        if readiness.is_some() {
+            return Some(ready(readiness));
         }
         if self.times.pass(patience) {
             return Some(Happening::Nothing);
         }
-        self.tell_lines().ok()?;
+        self.lines.tell(&mut self.told).ok()?;
         self.next_act()
     }
 
     // The next act.
-    fn next_act(&mut self) -> Option<Happening<Mail>> {
+    fn next_act(&mut self) -> Option<Next<S, R>> {
         match self.script.next_act() {
             Some(text) => self.play(text.as_str()),
             None => Some(Happening::Ended),
@@ -144,53 +136,82 @@ impl MemoryPort {
     }
 
     // Plays an act, and notes it.
-    fn play(&mut self, text: &str) -> Option<Happening<Mail>> {
+    fn play(&mut self, text: &str) -> Option<Next<S, R>> {
         tell_line(&mut self.told, "", text).ok()?;
         match act_in(text)? {
             Act::Wait(time) => self.times.wait(time),
             Act::Ahead(time) => self.times.set_ahead(time),
             Act::Back(time) => self.times.set_back(time),
             Act::Stop => self.times.stop(),
-            Act::Behind(count) => self.backlog = count,
             Act::Together(count) => self.script.set_together(count),
-            Act::Leave(ticket) => return Some(Happening::Leave { ticket }),
-            Act::Client(line, bound) => return self.bring_client(line, bound),
-            Act::Stray(line) => return self.bring_stray(line),
-            Act::Peer(line) => return self.bring_peer(line),
-            Act::To(line, turn) => return self.play_turn(line, turn),
+            Act::Pause => {}
             Act::Fail => return None,
+            Act::Leave(place) => {
+                self.entrance.ask(place);
+                return Some(Happening::Leave);
+            }
+            Act::Mail => return self.next_mail(),
+            Act::Client(number, bound) => return self.bring_client(number, bound),
+            Act::Peer(number) => return self.bring_peer(number),
+            Act::Opens(number) => return self.open(number),
+            Act::Refused(number) => return self.refuse(number),
+            Act::To(number, turn) => return Some(ready(self.lines.play(number, turn)?)),
         }
         Some(Happening::Nothing)
     }
 
-    // What happens to a connection.
-    fn play_turn(&mut self, number: usize, turn: Turn<'_>) -> Option<Happening<Mail>> {
-        let sign = play_turn(self.lines.at(number)?, turn)?;
-        Some(happening(number, sign))
+    // What the other worker told next. None where it tells nothing.
+    fn next_mail(&mut self) -> Option<Next<S, R>> {
+        Some(Happening::Mail(self.post.next(&self.rt)?))
     }
 
-    fn bring_peer(&mut self, number: usize) -> Option<Happening<Mail>> {
-        self.lines.connect(number, None)?;
-        Some(Happening::Peer { number })
+    // A connection over that line, over which nothing went.
+    fn connection(
+        &mut self,
+        number: usize,
+        line: SharedLine,
+        origin: Origin,
+    ) -> Fresh<MemoryConnection<S, R>>
+        ensures { result.connection.origin ≡ origin }
+    {
+        self.serial = self.serial.wrapping_add(1);
+        MemoryConnection::over(self.rt, line, number, origin, self.serial)
     }
 
-    // A client comes whose attachment isn't in the lobby.
-    fn bring_stray(&mut self, number: usize) -> Option<Happening<Mail>> {
-        self.lines.connect(number, None)?;
-        let ticket = self.entrance.take_ticket();
-        Some(Happening::Client { number, ticket })
+    // A node comes.
+    fn bring_peer(&mut self, number: usize) -> Option<Next<S, R>> {
+        let line = self.lines.connect(number, None)?;
+        let fresh = self.connection(number, line, Origin::PeerCame);
+        Some(Happening::Came(fresh))
     }
 
     // A client comes, if there is a place.
-    fn bring_client(&mut self, number: usize, bound: usize) -> Option<Happening<Mail>> {
+    fn bring_client(&mut self, number: usize, bound: usize) -> Option<Next<S, R>> {
         let Some(stand) = self.entrance.claim() else {
             self.tell("no place").ok()?;
             return Some(Happening::Nothing);
         };
-        let place = stand.place();
-        self.entrance.let_in(self.alloc, stand, bound)?;
-        write!(self.told, "    {number} place {place}\n").ok()?;
-        self.bring_stray(number)
+        write!(self.told, "    {number} place {}\n", stand.place()).ok()?;
+        let ring = RingClient::new(self.alloc, stand, bound).ok()?;
+        let line = self.lines.connect(number, None)?;
+        let fresh = self.connection(number, line, Origin::ClientCame);
+        Some(Happening::Client { fresh, ring })
+    }
+
+    // The connection that was begun under that number is there.
+    fn open(&mut self, number: usize) -> Option<Next<S, R>> {
+        let (line, what) = self.lines.dialed(number)?;
+        let fresh = self.connection(number, line, origin_of(what));
+        Some(Happening::Came(fresh))
+    }
+
+    // It can't be made.
+    fn refuse(&mut self, number: usize) -> Option<Next<S, R>> {
+        let (_, what) = self.lines.dialed(number)?;
+        Some(Happening::Refused {
+            what,
+            why: Unreached::System(ErrorKind::ConnectionRefused),
+        })
     }
 
     // (a field can't be lent by `&` from behind two references, as `Port::clocks` has it below)
@@ -199,28 +220,50 @@ impl MemoryPort {
     }
 
     // Begins a connection.
-    fn begin(&mut self, what: Dial) -> Option<usize> {
+    fn begin(&mut self, what: Dial) -> Option<()> {
         let number = self.lines.begin(what)?;
-        let (kind, place) = dialed(what);
-        write!(self.told, "    {number} dials {kind} {place}\n").ok()?;
-        Some(number)
+        let (kind, place) = words_of(what);
+        write!(self.told, "    {number} dials {kind} {place}\n").ok()
+    }
+
+    // The worker is told of that connection under that token from now on.
+    fn tell_of(&mut self, connection: &MemoryConnection<S, R>, token: usize) -> Option<()> {
+        let line = connection.line().ok()?;
+        self.lines.watch(connection.number(), line, token)
+    }
+
+    // That connection moves to another worker.
+    fn let_go(&mut self, connection: &MemoryConnection<S, R>) {
+        let _ = self.lines.let_go(connection.number(), &mut self.told);
+    }
+
+    // Notes the mail, and hands it to that worker.
+    fn hand(&mut self, worker: usize, mail: Mail<MemoryConnection<S, R>>) -> Option<()> {
+        note_mail(&mut self.told, worker, &mail).ok()?;
+        self.post.hand(&self.rt, worker, mail)
     }
 }
 
-impl Port for &mut MemoryPort {
-    type Mail = Mail;
+// What the worker is told.
+fn ready<S: Site, R: Wait + Drop>(readiness: Option<Readiness>) -> Next<S, R> {
+    match readiness {
+        Some(Readiness { token, sign }) => Happening::Ready {
+            token,
+            is_readable: sign.is_readable,
+            is_writable: sign.is_writable,
+        },
+        None => Happening::Nothing,
+    }
+}
 
-    fn next(&mut self, patience: u64) -> Result<Happening<Mail>, PortFault> {
+impl<S: Site, R: Wait + Clock + Copy + Drop> Port for &mut MemoryPort<MemoryConnection<S, R>, R> {
+    type Connection = MemoryConnection<S, R>;
+
+    fn next(&mut self, patience: u64) -> Result<Next<S, R>, PortFault> {
         (**self).step(patience).ok_or(PortFault)
     }
 
-    fn give_up(&mut self, number: usize) {
-        if let Some(number) = self.lines.at(number) {
-            number.give_up();
-        }
-    }
-
-    fn dial(&mut self, what: Dial) -> Result<usize, Unreached> {
+    fn dial(&mut self, what: Dial) -> Result<(), Unreached> {
         (**self).begin(what).ok_or(Unreached::TooManyFiles)
     }
 
@@ -232,21 +275,31 @@ impl Port for &mut MemoryPort {
         address.parse::<SocketAddr>().ok()
     }
 
-    fn send_mail(&mut self, worker: usize, mail: Mail) -> Result<(), PortFault> {
-        let told = tell_mail(&mut self.told, worker, &mail);
-        drop(mail);
-        match told {
-            Ok(()) => Ok(()),
-            Err(_) => Err(PortFault),
+    fn watch(
+        &mut self,
+        connection: &mut MemoryConnection<S, R>,
+        token: usize,
+    ) -> Result<(), PortFault> {
+        (**self).tell_of(connection, token).ok_or(PortFault)
+    }
+
+    fn unwatch(&mut self, connection: &mut MemoryConnection<S, R>) {
+        (**self).let_go(connection);
+    }
+
+    fn send_mail(
+        &mut self,
+        worker: usize,
+        mail: &mut Option<Mail<MemoryConnection<S, R>>>,
+    ) -> Result<(), PortFault> {
+        match mail.take() {
+            Some(mail) => (**self).hand(worker, mail).ok_or(PortFault),
+            None => Ok(()),
         }
     }
 
     fn workers(&self) -> usize {
-        self.workers
-    }
-
-    fn backlog(&self, _: usize) -> usize {
-        self.backlog
+        self.post.workers()
     }
 
     fn clocks(&mut self) -> Result<Clocks, PortFault> {
@@ -255,52 +308,5 @@ impl Port for &mut MemoryPort {
 
     fn report(&mut self, event: &Event<'_>) {
         let _ = write!(self.told, "    told {event}\n");
-    }
-}
-
-impl<K: Kind> Carries<K> for &mut MemoryPort {
-    type Connection = MemoryConnection;
-
-    fn open(&mut self, number: usize) -> Option<MemoryConnection> {
-        let kept = self.lines.at(number)?;
-        if kept.open() {
-            Some(MemoryConnection::new(number))
-        } else {
-            None
-        }
-    }
-
-    fn receive(
-        &mut self,
-        connection: &mut MemoryConnection,
-        buffer: &mut [u8],
-    ) -> Result<usize, Halt> {
-        let Some(number) = self.lines.at(connection.number()) else {
-            return Err(Halt::Closed);
-        };
-        let count = number.take(buffer)?;
-        connection.note_received(&buffer[..count]);
-        Ok(count)
-    }
-
-    fn send(&mut self, connection: &mut MemoryConnection, bytes: &[u8]) -> Result<usize, Halt> {
-        let Some(number) = self.lines.at(connection.number()) else {
-            return Err(Halt::Closed);
-        };
-        let count = number.put(bytes)?;
-        connection.note_sent(&bytes[..count]);
-        Ok(count)
-    }
-
-    fn close(&mut self, connection: MemoryConnection) {
-        if let Some(number) = self.lines.at(connection.number()) {
-            number.close();
-        }
-    }
-
-    fn address(&self, connection: &MemoryConnection) -> Option<SocketAddr> {
-        let port = connection.number().checked_sub(1)?.checked_add(5001)?;
-        let port = u16::try_from(port).ok()?;
-        Some(SocketAddr::from((Ipv4Addr::LOCALHOST, port)))
     }
 }

@@ -1,5 +1,6 @@
 //! What time it is at a port of memory.
-use bnc_ports::{Clocks, PortFault};
+use network_client::PortFault;
+use node_events::Clocks;
 
 /// What the monotonic clock reads at first, in milliseconds.
 const UPTIME: u64 = 500_000;

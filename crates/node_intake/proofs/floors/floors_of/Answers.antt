@@ -6,7 +6,7 @@ use Rattle.std.specs.List.{filter_map, cons_option}
 use Rattle.std.specs.Option.{option_to_list}
 use Rattle.chat_change.specs.declared.change.Change.{Change}
 use Rattle.node_config.specs.declared.entries.AccountConfig.{AccountConfig}
-use Rattle.node_intake.specs.WorkerConfigs.{floor_of}
+use Rattle.node_intake.specs.Floors.{floor_of}
 use Rattle.node_intake.proofs.floors.floors_of.Goals as goal
 
 lone : (o : Option Change) → cons_option o [] ≡ option_to_list o

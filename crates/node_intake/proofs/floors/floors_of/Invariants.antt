@@ -1,6 +1,6 @@
 use Rattle.std.proofs.Common.{◌≡◌, take}
 use Rattle.std.specs.List.{filter_map}
-use Rattle.node_intake.specs.WorkerConfigs.{floor_of}
+use Rattle.node_intake.specs.Floors.{floor_of}
 use Rattle.node_intake.proofs.floors.floors_of.Given as goal
 
 -- the floors of the accounts so far

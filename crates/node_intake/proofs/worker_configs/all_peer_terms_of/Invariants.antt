@@ -1,6 +1,0 @@
-use Rattle.std.proofs.Common.{◌≡◌, map, take}
-use Rattle.node_intake.specs.WorkerConfigs.{peer_terms_of}
-use Rattle.node_intake.proofs.worker_configs.all_peer_terms_of.Given as goal
-
-abbrev pub invariant-loop-peer : goal.invariant-loop-peer
-invariant-loop-peer l = l.all.items ≡ map peer_terms_of (take l.peer-index l.peers)
