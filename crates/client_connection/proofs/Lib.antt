@@ -1,4 +1,0 @@
-pub mod CourseLemmas
-pub mod SaidLemmas
-pub mod LeftLemmas
-pub mod OwnLemmas

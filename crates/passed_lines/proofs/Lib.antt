@@ -1,2 +1,0 @@
-mod OwnLemmas
-pub mod CallerLemmas

@@ -1,2 +1,0 @@
-pub mod CourseLemmas
-pub mod StrangerLemmas

@@ -1,2 +1,0 @@
--- which changes clients put
-pub use Rattle.client_connection.specs.Marking

@@ -1,8 +1,0 @@
-use Rattle.std.proofs.Common.{sym, subst}
-use Rattle.work_lines.specs.Incoming.{AreGiven}
-use Rattle.work_lines.specs.Outgoing.{Told}
-use Rattle.work_lines.proofs.attached_connection.AttachedConnection.fill.Goals as goal
-
-pub returns-clause-given : goal.returns-clause-given
-returns-clause-given g c = λ given are.
-    c.fill.ensures.given given (subst (λ (t : Told). AreGiven t.traffic.received given c.args.input.now) (sym c.self.view_is) are)

@@ -1,2 +1,0 @@
-mod SendingLemmas
-mod ToldLemmas

@@ -1,6 +1,0 @@
-use Rattle.std.proofs.Common.{◌∙◌}
-use Rattle.worker_io.proofs.AgreementLemmas.{found}
-use Rattle.worker_io.proofs.timers.Timers.moment.Goals as goal
-
-pub returns : goal.returns
-returns c = c.copied.ensures ∙ c.get.ensures.value ∙ found c.self.inside.moments c.args.self.now c.args.timer c.self.view_is
