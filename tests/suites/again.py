@@ -230,15 +230,15 @@ def without_memory(fixture, name, line, refused):
     return node, server, session, client
 
 
-# A line is heard once and then tried again so often. A try for which there is no memory makes one request.
+# A line is tried so often. A try for which there is no memory makes one request.
 TRIES = 10
 
 
 @test
 def a_line_that_is_only_passed_on_is_dropped_where_there_is_no_memory(fixture):
-    """Once it was tried again ten times. The session stays, and the next line is told. One try earlier it is told."""
+    """Once it was tried ten times. The session stays, and the next line is told. One try earlier it is told."""
     first, second = ":bob!b@h TOPIC #a :first", ":bob!b@h TOPIC #a :second"
-    for refused, is_told in ((TRIES, True), (TRIES + 1, False)):
+    for refused, is_told in ((TRIES - 1, True), (TRIES, False)):
         node, server, session, client = without_memory(fixture, f"x{refused}", first, refused)
         server.settled(session)
         session.say(second)
@@ -250,14 +250,14 @@ def a_line_that_is_only_passed_on_is_dropped_where_there_is_no_memory(fixture):
 
 @test
 def a_message_for_which_there_is_no_memory_ends_the_session(fixture):
-    """Once it was tried again ten times. No client is told it. One try earlier it is told, and the session stays."""
+    """Once it was tried ten times. No client is told it. One try earlier it is told, and the session stays."""
     line = ":bob!b@h PRIVMSG #a :hi"
-    node, server, session, client = without_memory(fixture, "x1", line, TRIES)
+    node, server, session, client = without_memory(fixture, "x1", line, TRIES - 1)
     server.settled(session)
     expect("what is told", line, client.line("a line"))
     expect("whether the session ended", False, node.told("upstream down"))
     node.kill()
-    node, _, session, client = without_memory(fixture, "x2", line, TRIES + 1)
+    node, _, session, client = without_memory(fixture, "x2", line, TRIES)
     session.hear_end()
     node.wait_for("upstream down: demo/net: no memory")
     client.ping()

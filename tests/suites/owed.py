@@ -1,9 +1,11 @@
 """What is owed to servers and peers (docs/OPERATING.md, "Servers"; docs/PROTOCOL.md, "Between nodes" and "A session with a
-server"). Who reads gets all of it, however much comes at once, and who never reads is closed."""
+server"). Who reads gets all of it, however much comes at once; a peer that never reads is closed, and what clients say to such a
+server waits with them."""
 
 import signal
 import socket
 import struct
+import threading
 import time
 
 from harness.failure import Failed, expect
@@ -232,31 +234,49 @@ def any_number_of_channels_is_joined_as_the_server_reads(fixture):
 # Servers that don't
 
 
-# So many bytes are said at most to a server that reads nothing.
-TOLD = 40 << 20
+# So many lines are poured in, some 30 MB; and by so many bytes the node may grow meanwhile.
+POURED, GROWN = 60_000, 16 << 20
+
+
+def resident(node):
+    """How many bytes of memory the node has."""
+    with open(f"/proc/{node.process.pid}/status", encoding="ascii") as file:
+        return next(int(line.split()[1]) << 10 for line in file if line.startswith("VmRSS"))
 
 
 @test
-def a_server_that_never_reads_is_closed(fixture):
-    """Once more than 1,048,576 bytes wait for it beyond what the system's own buffers hold. Its clients stay, and are answered."""
-    server = Server(fixture)
-    server.socket.setsockopt(socket.SOL_SOCKET, socket.SO_RCVBUF, 4096)
-    node = Node(fixture, servers=[server.address]).begin()
-    server.register()
-    client = node.client().register()
-    line, said = f"TOPIC #a :{'y' * 490}", 0
-    end, refused = f"upstream down: demo/net: {UNREAD}", ":bnc.example NOTICE al :Not connected to net"
-    while not node.told(end) and said < TOLD:
-        client.say(*100 * [line], "PING here")
-        while client.line("an answer") == refused:
-            pass
-        said += 100 * len(line)
-    node.wait_for(end)
-    if said < 1_048_576:
-        raise Failed(f"it was closed when {said} bytes were said")
-    client.say("TOPIC #a")
-    client.hear(refused)
-    fixture.notes.append(f"{said} bytes were said")
+def what_a_client_says_waits_in_its_own_socket_while_its_server_does_not_read(fixture):
+    """While more than half of what may be owed to the server is owed. The node takes no more in, and the session stays. Nobody else
+    waits: no other client of the network, and nobody at the next one, which the same worker has. Once the server reads, it hears each
+    line, in order."""
+    slow, other = Server(fixture), Server(fixture)
+    node = Node(fixture, servers=[slow.address, other.address], workers=1).begin()
+    session, quick = slow.register(), other.register()
+    speaker, beside = (node.client(f"client {number}").register() for number in range(2))
+    stranger = node.client("a client of the next network").register(network=node.networks[1])
+    before = resident(node)
+    lines = [f"TOPIC #a :{number:05} {'y' * 480}" for number in range(POURED)]
+    pasted = "".join(f"{line}\r\n" for line in lines).encode()
+    speaker.socket.settimeout(None)
+    paste = threading.Thread(target=lambda: speaker.socket.sendall(pasted), daemon=True)
+    paste.start()
+    time.sleep(2)
+    expect("whether all of it is taken", True, paste.is_alive())
+    slowest = 0
+    for number in range(20):
+        began = time.monotonic()
+        beside.ping()
+        stranger.say(f"TOPIC #a :{number}")
+        quick.hear(f"TOPIC #a :{number}")
+        slowest = max(slowest, time.monotonic() - began)
+    grown = resident(node) - before
+    if grown > GROWN:
+        raise Failed(f"the node grew by {grown} bytes")
+    expect("whether the session ended", False, node.told("upstream down"))
+    session.hear(*lines)
+    paste.join()
+    speaker.ping()
+    fixture.notes.append(f"the node grew by {grown >> 20} MB, and others were answered within {slowest * 1000:.1f} ms")
 
 
 # What came before the end

@@ -75,21 +75,23 @@ def worker_of(node, client):
 
 
 @test
-def clients_go_to_the_workers_in_turn(fixture):
-    """A client of each hears what is said, and what it says reaches the server."""
-    server = Server(fixture)
-    node = Configured(fixture, server).begin()
-    session = server.register(channels=CHANNELS)
-    clients = [node.client(f"client {number}").register(channels=CHANNELS) for number in range(4)]
-    workers = [worker_of(node, client) for client in clients]
-    expect("how many workers there are", 2, len({*workers}))
-    expect("the workers of the third and the fourth client", workers[:2], workers[2:])
-    for number, client in enumerate(clients):
-        client.say(f"TOPIC #a :{number}")
-        session.hear(f"TOPIC #a :{number}")
-    session.say(":bob!b@h PRIVMSG #a :hi")
-    for client in clients:
-        client.hear(":bob!b@h PRIVMSG #a :hi")
+def a_client_is_served_by_the_worker_of_its_network(fixture):
+    """To whichever worker it came: clients of one network have one worker, and those of the next network another one. Each hears
+    what is said, and what it says reaches its server."""
+    servers = [Server(fixture), Server(fixture)]
+    node = Node(fixture, servers=[it.address for it in servers], workers=2).begin()
+    sessions, workers = [server.register() for server in servers], []
+    for network, session in zip(node.networks, sessions):
+        clients = [node.client(f"client {number} of {network}").register(network=network) for number in range(4)]
+        workers.append({worker_of(node, client) for client in clients})
+        for number, client in enumerate(clients):
+            client.say(f"TOPIC #a :{number}")
+            session.hear(f"TOPIC #a :{number}")
+        session.say(":bob!b@h TOPIC #a :hi")
+        for client in clients:
+            client.hear(":bob!b@h TOPIC #a :hi")
+    expect("how many workers a network has", [1, 1], [len(it) for it in workers])
+    expect("how many workers there are", 2, len(set.union(*workers)))
 
 
 @test
@@ -98,15 +100,15 @@ def a_marker_of_the_second_worker_reaches_the_peer(fixture):
     servers = [Server(fixture), Server(fixture)]
     node = Node(fixture, servers=[it.address for it in servers], peers=[("n0", NOBODY)], workers=2).begin()
     sessions = [server.register("message-tags server-time") for server in servers]
-    clients = [node.client(f"client {number}").register("draft/read-marker") for number in range(2)]
+    clients = [node.client(f"client of {network}").register("draft/read-marker", network=network) for network in node.networks]
     if worker_of(node, clients[0]) == worker_of(node, clients[1]):
         raise Failed("both clients have the same worker")
     peer, count = Peer.dial(node).greet(), 0
     changes = []
-    for client in clients:
+    for network, client in zip(node.networks, clients):
         count += 1
         client.say(f"MARKREAD #m{count} timestamp=1970-01-01T00:00:0{count}.000Z")
-        changes.append(f"C MARK demo net #m{count} {count}000")
+        changes.append(f"C MARK demo {network} #m{count} {count}000")
         peer.hear_packet(count - 1, count, changes[-1])
         peer.acknowledge(count)
     for network, session in zip(node.networks, sessions):

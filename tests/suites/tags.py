@@ -322,10 +322,11 @@ def counts(fixture):
 
 
 def asked_for_records(fixture, tags):
-    """The same of messages with these tags, without what typing notices with the same tags ask for: the map of the tags."""
+    """The same of messages with these tags, without what typing notices with the same tags ask for: the map of the tags. (For a
+    notice alone there is a block more, of the text that clients are told.)"""
     message, notice = (asked_for(fixture, lines_of(tags, *how)) for how in ((), ("TAGMSG", "")))
     beside = {size: message.get(size, 0) - notice.get(size, 0) for size in {*message, *notice}}
-    return {size: count for size, count in beside.items() if count != 0}
+    return {size: count for size, count in beside.items() if count > 0}
 
 
 @test
@@ -341,11 +342,11 @@ def a_line_asks_for_the_memory_of_its_record_and_of_the_map_of_its_tags(fixture)
 
 @test
 def the_map_of_few_tags_is_four_blocks(fixture):
-    """And a line without tags asks for none."""
+    """And the text that clients are told is one. A line without tags asks for that alone."""
     notice = asked_for(fixture, lines_of("{};" + TWO, "TAGMSG", ""))
-    expect("at most four blocks for a line", True, sum(notice.values()) <= 4 * LINES)
-    bare = 2 * LINES * [":bob!b@h TAGMSG #a"]
-    expect("requests without tags", {}, asked_for(fixture, bare))
+    expect("at most five blocks for a line", True, sum(notice.values()) <= 5 * LINES)
+    bare = asked_for(fixture, 2 * LINES * [":bob!b@h TAGMSG #a"])
+    expect("requests without tags", LINES, sum(bare.values()))
 
 
 # What a line costs is measured so often, over so many hundred lines.
