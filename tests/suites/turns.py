@@ -54,11 +54,14 @@ class Ear:
         more = it.recv(1 << 20, socket.MSG_DONTWAIT)
         if not more:
             raise Failed(f"{self.connection.name}: the connection was closed")
-        *lines, self.rest = (self.rest + more).split(b"\n")
-        for number, line in enumerate(lines):
-            if self.word in line:
-                self.at, self.when = self.lines + number, time.monotonic()
-        self.lines += len(lines)
+        # (searched as a whole: who goes through the lines one by one falls behind a server that floods)
+        came = self.rest + more
+        end = came.rfind(b"\n") + 1
+        found = came.rfind(self.word, 0, end)
+        if found >= 0:
+            self.at, self.when = self.lines + came.count(b"\n", 0, found), time.monotonic()
+        self.lines += came.count(b"\n", 0, end)
+        self.rest = came[end:]
 
     def hears(self):
         """Reads until the word is heard anew."""
