@@ -231,6 +231,28 @@ def any_number_of_channels_is_joined_as_the_server_reads(fixture):
     is_open(node, "server")
 
 
+# The least bound with which what comes at once is told together (docs/DECISIONS.md), and the one below it.
+TOGETHER = 17_406
+
+
+def a_burst_is_told_whole(bound):
+    """A test that three hundred lines of a server which come in one piece reach a client that reads, and it stays."""
+
+    def call(fixture):
+        node, session = node_of(fixture, bound=bound)
+        client = node.client().register()
+        lines = [f":bob!b@h PRIVMSG #a :{number:03} {'y' * 480}" for number in range(300)]
+        session.say(*lines)
+        client.hear(*lines)
+        client.ping()
+
+    return call
+
+
+for bound in (TOGETHER - 1, TOGETHER):
+    add(f"owed: a burst of a server is told whole, with bound={bound}", a_burst_is_told_whole(bound))
+
+
 # Servers that don't
 
 
