@@ -18,4 +18,4 @@ pub use journal::Journal;
 pub use memory::{Bytes, Memory};
 pub use reader::Reader;
 pub use recovery::repair;
-pub use source::Source;
+pub use source::ByteSource;

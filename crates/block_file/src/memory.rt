@@ -3,7 +3,7 @@ ghost use Rattle.std.specs.Prelude.{◌≡◌, ◌⊎◌, [], ◌∷◌, ◌++�
 ghost use Rattle.std.proofs.Common.{inl};
 ghost use Rattle.block_file.specs.Past.{HadBeen, only_bytes};
 
-use crate::{Device, DeviceError, Source};
+use crate::{ByteSource, Device, DeviceError};
 use std::alloc::{AllocError, Global};
 
 /// A file in memory.
@@ -131,7 +131,7 @@ impl Bytes {
     }
 }
 
-impl Source for Bytes {
+impl ByteSource for Bytes {
     ghost got = { λ b. take b.at b.bytes.items };
 
     ghost faults = { λ _. 0 };

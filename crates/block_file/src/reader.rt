@@ -4,12 +4,12 @@ ghost use Rattle.block_file.specs.Found.{HasRead, IsReading};
 
 use crate::head::{HEAD, first_block};
 use crate::journal::LONGEST_FILE;
-use crate::{DeviceError, Source};
+use crate::{ByteSource, DeviceError};
 use std::alloc::{AllocError, Global};
 
 /// A file that is read block by block.
 #[derive(Drop)]
-pub struct Reader<S: Source> {
+pub struct Reader<S: ByteSource> {
     /// Where it is read from.
     pub source: S,
     /// The last that was read.
@@ -36,7 +36,7 @@ fn read_behind(
     ahead.extend_from_slice(more)
 }
 
-impl<S: Source> Reader<S> {
+impl<S: ByteSource> Reader<S> {
     /// A reader of a source of which nothing was read.
     pub fn new(alloc: Global, source: S) -> Self
         requires { S.got source ≡ [] }

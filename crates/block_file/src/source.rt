@@ -6,7 +6,7 @@ use crate::DeviceError;
 use std::alloc::Global;
 
 /// What is read once, from its beginning on.
-pub trait Source {
+pub trait ByteSource {
     /// The bytes that were read so far.
     ghost got: { Self → List ℕ };
 

@@ -9,7 +9,7 @@ ghost use Rattle.chat_buffers.specs.IdKey.{id_prefix, leading};
 ghost use Rattle.chat_buffers.specs.Prefixes.{id_ascends};
 
 use chat_change::MsgId;
-use ordered_maps::{Prefixed, Sought};
+use ordered_maps::{Lookup, Prefixed};
 use std::alloc::AllocError;
 use std::cmp::Ordering;
 use std::marker::Model;
@@ -129,7 +129,7 @@ impl Prefixed for IdKey {
     ghost ascends = { id_ascends };
 }
 
-impl<'a> Sought<IdKey> for SoughtId<'a> {
+impl<'a> Lookup<IdKey> for SoughtId<'a> {
     ghost key = { λ s. s };
 
     fn key_prefix(&self) -> u64 {

@@ -10,7 +10,7 @@ ghost use Rattle.chat_buffers.specs.Prefixes.{spot_ascends};
 
 use chat_change::{Moment, MsgId};
 use chat_history::Spot;
-use ordered_maps::{Prefixed, Sought};
+use ordered_maps::{Lookup, Prefixed};
 use std::alloc::AllocError;
 use std::cmp::Ordering;
 use std::marker::Model;
@@ -41,7 +41,7 @@ impl Prefixed for SpotKey {
     ghost ascends = { spot_ascends };
 }
 
-impl Sought<SpotKey> for Spot {
+impl Lookup<SpotKey> for Spot {
     ghost key = { λ s. s };
 
     fn key_prefix(&self) -> u64 {

@@ -21,7 +21,7 @@ use std::sync::Arc;
 /// it was spelled, and need not be the buffer's: a message to a nick stands in the buffer of its sender.
 pub struct Record {
     // shared with every clone
-    parts: Arc<Parts>,
+    parts: Arc<RecordParts>,
 }
 
 // Written out, so that this is proved once, and not in each crate that lets a record go.
@@ -32,7 +32,7 @@ impl Drop for Record {
 }
 
 #[derive(Drop)]
-struct Parts {
+struct RecordParts {
     buffer: Buffer,
     id: MsgId,
     at: Moment,
@@ -151,7 +151,7 @@ impl Record {
         }) }
     {
         let texts = MessageTexts::new(alloc, tags, message)?;
-        let parts = Parts {
+        let parts = RecordParts {
             buffer,
             id,
             at,

@@ -8,8 +8,8 @@ use Rattle.chat_change.specs.Buffer.{Buffer}
 use Rattle.chat_history.specs.History.{History}
 use Rattle.chat_history.specs.Visible.{records_in}
 use Rattle.chat_query.specs.declared.query.Selector.{Selector}
-use Rattle.chat_page.specs.declared.answer.Side.{Side}
-use Rattle.chat_page.specs.declared.answer.Side.TheVariants.{LatestAfter, Before, After, Around}
+use Rattle.chat_page.specs.declared.answer.SelectorSide.{SelectorSide}
+use Rattle.chat_page.specs.declared.answer.SelectorSide.TheVariants.{LatestAfter, Before, After, Around}
 use Rattle.chat_page.specs.declared.pages.Page.{Page}
 use Rattle.chat_page.specs.declared.pages.Page.TheVariants.{Records, Buffers}
 use Rattle.chat_page.specs.declared.pages.PageFault.{PageFault}
@@ -43,14 +43,14 @@ AreRecords wanted (Err UnknownMessage) = wanted ≡ None
 AreRecords wanted (Err NoMemory) = ⊤
 
 -- the records on a side of a point
-abbrev pub side_cut : Side → ℕ → List Record → spec.Point → List Record
+abbrev pub side_cut : SelectorSide → ℕ → List Record → spec.Point → List Record
 side_cut LatestAfter n records p = spec.last n (filter (spec.is_after p) records)
 side_cut Before n records p = spec.last n (filter (spec.is_before p) records)
 side_cut After n records p = take n (filter (spec.is_after p) records)
 side_cut Around n records p = spec.around_cut n records p
 
 -- the records on a side of a selector, if that has a point
-abbrev pub side_of : History → Buffer → Selector → Side → ℕ → Option (List Record)
+abbrev pub side_of : History → Buffer → Selector → SelectorSide → ℕ → Option (List Record)
 side_of history b s side n =
     option_map (λ p. side_cut side n (records_in history b) p) (spec.point_of history b s)
 

@@ -19,7 +19,7 @@ use std::alloc::{AllocError, Global};
 
 /// Which records of a buffer are asked for by one selector.
 #[derive(Clone, Copy)]
-enum Side {
+enum SelectorSide {
     /// The last of those after it.
     LatestAfter,
     /// The last of those before it.
@@ -60,7 +60,7 @@ fn beside<'a>(
     state: &'a State,
     buffer: &Buffer,
     point: &SelectorPoint,
-    side: Side,
+    side: SelectorSide,
     n: usize,
 ) -> Result<Vec<&'a Record>, AllocError>
     ensures { (p : spec.Point) → value_of point.now ≡ Some p → IfOk result (λ page.
@@ -69,10 +69,10 @@ fn beside<'a>(
     // Without it the prover doesn't find the type of the spots that a cut may hold.
     let _held: Option<&Spot> = None;
     match side {
-        Side::LatestAfter => last_between(alloc, state, buffer, &over(point), &Cut::Top, n),
-        Side::Before => last_between(alloc, state, buffer, &Cut::Bottom, &under(point), n),
-        Side::After => first_between(alloc, state, buffer, &over(point), &Cut::Top, n),
-        Side::Around => around(alloc, state, buffer, point, n),
+        SelectorSide::LatestAfter => last_between(alloc, state, buffer, &over(point), &Cut::Top, n),
+        SelectorSide::Before => last_between(alloc, state, buffer, &Cut::Bottom, &under(point), n),
+        SelectorSide::After => first_between(alloc, state, buffer, &over(point), &Cut::Top, n),
+        SelectorSide::Around => around(alloc, state, buffer, point, n),
     }
 }
 
@@ -118,7 +118,7 @@ fn selected<'a>(
     state: &'a State,
     buffer: &Buffer,
     selector: &Selector<'_>,
-    side: Side,
+    side: SelectorSide,
     n: usize,
 ) -> Result<Vec<&'a Record>, PageFault>
     ensures { (changes : List Change) → state.now.history ≡ norm changes
@@ -186,7 +186,7 @@ fn selected_page<'a>(
     scope: &Scope<'_>,
     target: &Target<'_>,
     selector: &Selector<'_>,
-    side: Side,
+    side: SelectorSide,
     limit: usize,
 ) -> Result<Page<'a>, PageFault>
     ensures { (changes : List Change) → state.now.history ≡ norm changes
@@ -260,7 +260,7 @@ fn latest_or_after<'a>(
             scope,
             target,
             selector,
-            Side::LatestAfter,
+            SelectorSide::LatestAfter,
             limit,
         ),
     }
@@ -306,17 +306,41 @@ fn page_if_memory<'a>(
             target,
             selector,
             limit,
-        } => selected_page(alloc, state, scope, target, selector, Side::Before, *limit),
+        } => selected_page(
+            alloc,
+            state,
+            scope,
+            target,
+            selector,
+            SelectorSide::Before,
+            *limit,
+        ),
         Query::After {
             target,
             selector,
             limit,
-        } => selected_page(alloc, state, scope, target, selector, Side::After, *limit),
+        } => selected_page(
+            alloc,
+            state,
+            scope,
+            target,
+            selector,
+            SelectorSide::After,
+            *limit,
+        ),
         Query::Around {
             target,
             selector,
             limit,
-        } => selected_page(alloc, state, scope, target, selector, Side::Around, *limit),
+        } => selected_page(
+            alloc,
+            state,
+            scope,
+            target,
+            selector,
+            SelectorSide::Around,
+            *limit,
+        ),
         Query::Between {
             target,
             one,

@@ -25,7 +25,7 @@ mod walk;
 use chat_buffers::Buffers;
 use chat_change::{Account, Buffer, Change, Moment};
 pub(crate) use form::{form_of, piece_in};
-use from_floor::FromFloor;
+use from_floor::FromBufferFloor;
 use number::Number;
 use ordered_maps::PackedMap;
 pub use piece::Piece;
@@ -231,7 +231,7 @@ impl Store {
         ensures { IsSwept (OfBuffer buffer.now) floor self.old self.new }
     {
         self.buffers.remove_below(buffer, floor);
-        self.index.retain(&FromFloor { buffer, floor });
+        self.index.retain(&FromBufferFloor { buffer, floor });
     }
 
     // Takes the oldest record of a buffer away, where it lies below a floor.

@@ -24,7 +24,7 @@ mod stage;
 
 pub use byte_text::{NoMemory, Text};
 pub use chat_query::{Answered, Facts};
-pub use cluster_directory::{Account, Directory, Entry, Network};
+pub use cluster_directory::{ConfiguredAccount, Directory, Entry, Network};
 pub use effect::Effect;
 pub use hearers::{hears_line, hears_message};
 pub use naming::{split_user, user_in};

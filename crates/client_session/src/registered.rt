@@ -14,7 +14,7 @@ use crate::effect::Effect;
 use crate::markread::markread;
 use crate::redact::redact;
 use crate::registration::user_name;
-use crate::scratch::Scratch;
+use crate::scratch::SessionScratch;
 use crate::shared::{answer, closing, nick_refusal, one, ping, refusal};
 use crate::stage::Continuation;
 use byte_text::{NoMemory, Text};
@@ -158,7 +158,7 @@ fn chathistory(alloc: Global, facts: &Facts, bytes: &[u8]) -> Result<Vec<Effect>
 /// PRIVMSG, NOTICE or TAGMSG, which goes to the network's server with its client-only tags.
 fn pass_message_on(
     alloc: Global,
-    scratch: &mut Scratch,
+    scratch: &mut SessionScratch,
     entry: Option<&Entry>,
     facts: &Facts,
     bytes: &[u8],
@@ -178,7 +178,7 @@ fn pass_message_on(
 /// Any other line, which goes to the network's server without its tags.
 fn pass_on(
     alloc: Global,
-    scratch: &mut Scratch,
+    scratch: &mut SessionScratch,
     entry: Option<&Entry>,
     facts: &Facts,
     bytes: &[u8],
@@ -199,7 +199,7 @@ ghost use Rattle.irc_reply.specs.ToServer.{passed_line, tagged_line};
 /// What a command does that leaves the session as it is.
 fn effects(
     alloc: Global,
-    scratch: &mut Scratch,
+    scratch: &mut SessionScratch,
     entry: Option<&Entry>,
     facts: &Facts,
     shown: bool,
@@ -249,7 +249,7 @@ fn cap(alloc: Global, facts: &mut Facts, parameters: &[&[u8]]) -> Result<Vec<Eff
 
 fn serve_named(
     alloc: Global,
-    scratch: &mut Scratch,
+    scratch: &mut SessionScratch,
     entry: Option<&Entry>,
     facts: &mut Facts,
     shown: bool,
@@ -321,7 +321,7 @@ fn exchange_nick(facts: &mut Facts, nick: Option<Text>) -> Option<Text>
 /// What a command does, under the network's present nick. For want of memory nothing changes.
 pub(crate) fn serve(
     alloc: Global,
-    scratch: &mut Scratch,
+    scratch: &mut SessionScratch,
     entry: Option<&Entry>,
     facts: &mut Facts,
     shown: bool,

@@ -12,15 +12,15 @@ const MOST_KEPT: usize = 1024;
 
 /// The room of a list and of the line in it that were given back, if any.
 #[derive(Drop)]
-pub(crate) struct Scratch {
+pub(crate) struct SessionScratch {
     list: Option<Vec<Effect>>,
     text: Option<Vec<u8>>,
 }
 
-impl Scratch {
+impl SessionScratch {
     /// Nothing yet.
-    pub(crate) fn none() -> Scratch {
-        Scratch {
+    pub(crate) fn none() -> SessionScratch {
+        SessionScratch {
             list: None,
             text: None,
         }

@@ -9,7 +9,7 @@ use crate::command::command_of;
 use crate::effect::Effect;
 use crate::lookup::{look, sought};
 use crate::registered;
-use crate::scratch::Scratch;
+use crate::scratch::SessionScratch;
 use crate::stage::{Continuation, Stage, Waiting};
 use byte_text::{NoMemory, Text};
 use chat_change::{Buffer, MsgId};
@@ -47,7 +47,7 @@ impl From<NoMemory> for StepFault {
 /// The session of a client: it waits for its registration, is registered, or is closed.
 pub struct Session {
     stage: Stage,
-    scratch: Scratch,
+    scratch: SessionScratch,
 }
 
 // Written out, so that this is proved once, and not in each crate that lets a session go.
@@ -86,7 +86,7 @@ impl Session {
                 has_nick: false,
                 user: None,
             }),
-            scratch: Scratch::none(),
+            scratch: SessionScratch::none(),
         }
     }
 
@@ -96,7 +96,7 @@ impl Session {
     {
         Session {
             stage: Stage::Registered(facts),
-            scratch: Scratch::none(),
+            scratch: SessionScratch::none(),
         }
     }
 

@@ -14,13 +14,13 @@ use std::marker::Model;
 
 /// An account of the cluster, with its secret and its networks.
 #[derive(Drop)]
-pub struct Account {
+pub struct ConfiguredAccount {
     name: Text,
     secret: Secret,
     networks: Vec<Network>,
 }
 
-impl Model for Account {
+impl Model for ConfiguredAccount {
     ghost use Rattle.cluster_directory.specs.Directory as spec;
 
     ghost Value = { spec.Account };
@@ -39,12 +39,12 @@ fn copy_of(alloc: Global, network: &Network) -> Result<Vec<Network>, NoMemory>
     }
 }
 
-impl Account {
+impl ConfiguredAccount {
     /// An account of that name and with that secret, which has no network yet.
-    pub fn new(alloc: Global, name: Text, secret: Text) -> Account
+    pub fn new(alloc: Global, name: Text, secret: Text) -> ConfiguredAccount
         ensures { result ≡ record { name = name; secret = secret; networks = [] } }
     {
-        Account {
+        ConfiguredAccount {
             name,
             secret: Secret::of(secret),
             networks: Vec::new(alloc),
@@ -104,7 +104,7 @@ impl Account {
     }
 
     /// The account with that network alone, or with none where that isn't one of its own.
-    pub(crate) fn alone(&self, alloc: Global, network: &[u8]) -> Result<Account, NoMemory>
+    pub(crate) fn alone(&self, alloc: Global, network: &[u8]) -> Result<ConfiguredAccount, NoMemory>
         ensures { IfOk result (λ alone. alone ≡ spec.account_alone self.now network.now) }
     {
         let name = self.name.try_clone(alloc)?;
@@ -113,7 +113,7 @@ impl Account {
             None => Vec::new(alloc),
             Some(found) => copy_of(alloc, found)?,
         };
-        Ok(Account {
+        Ok(ConfiguredAccount {
             name,
             secret,
             networks,

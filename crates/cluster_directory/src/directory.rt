@@ -4,7 +4,7 @@ ghost use Rattle.std.specs.Option.{option_copied};
 ghost use Rattle.std.specs.Str.{bytes_eq};
 ghost use Rattle.cluster_directory.specs.Directory as spec;
 
-use crate::account::Account;
+use crate::account::ConfiguredAccount;
 use crate::entry::Entry;
 use byte_text::NoMemory;
 use std::alloc::Global;
@@ -12,7 +12,7 @@ use std::marker::Model;
 
 /// The accounts of the cluster, with the networks of each, as they stand at one moment.
 pub struct Directory {
-    accounts: Vec<Account>,
+    accounts: Vec<ConfiguredAccount>,
 }
 
 // Written out, so that this is proved once, and not in each crate that lets a directory go.
@@ -43,7 +43,7 @@ impl Directory {
     }
 
     /// The directory has one account more. For want of memory nothing changes.
-    pub fn add(&mut self, account: Account) -> Result<(), NoMemory>
+    pub fn add(&mut self, account: ConfiguredAccount) -> Result<(), NoMemory>
         ensures added { IfOk result (λ _. self.new ≡ self.old ++ account ∷ []) }
         ensures err { OnErr result (self.new ≡ self.old) }
     {
@@ -54,13 +54,13 @@ impl Directory {
     }
 
     /// The accounts, in the order in which they were added.
-    pub fn accounts(&self) -> &[Account]
+    pub fn accounts(&self) -> &[ConfiguredAccount]
         ensures { result.now ≡ self.now }
     {
         &self.accounts
     }
 
-    fn account(&self, name: &[u8]) -> Option<&Account>
+    fn account(&self, name: &[u8]) -> Option<&ConfiguredAccount>
         ensures { option_copied result ≡ spec.account_in self.now name.now }
     {
         self.accounts.iter().find(|a| a.has_name(name))

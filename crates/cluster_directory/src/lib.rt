@@ -24,7 +24,7 @@ mod shared_word;
 mod terms;
 mod version;
 
-pub use account::Account;
+pub use account::ConfiguredAccount;
 pub use config::{Channels, SessionConfig};
 pub use directory::Directory;
 pub use entry::Entry;

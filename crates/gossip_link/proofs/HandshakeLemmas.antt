@@ -12,8 +12,8 @@ use Rattle.peer_lines.specs.declared.peer_line.PeerLine.{PeerLine}
 use Rattle.peer_lines.specs.declared.peer_line.PeerLine.TheVariants.{Word, Hello, Head, Change, Ack}
 use Rattle.gossip_link.specs.declared.handshake.Side.{Side}
 use Rattle.gossip_link.specs.declared.handshake.Side.TheVariants.{Opener, Acceptor}
-use Rattle.gossip_link.specs.declared.handshake.Stage.{Stage}
-use Rattle.gossip_link.specs.declared.handshake.Stage.TheVariants.{Silent, Trusted, Introduced, Known, Refused}
+use Rattle.gossip_link.specs.declared.handshake.HandshakeStage.{HandshakeStage}
+use Rattle.gossip_link.specs.declared.handshake.HandshakeStage.TheVariants.{Silent, Trusted, Introduced, Known, Refused}
 use Rattle.gossip_link.specs.declared.handshake.Action.TheVariants.{Close}
 use Rattle.cluster_directory.specs.Terms.{Terms, names_of, index_of}
 use Rattle.gossip_link.specs.Handshake.{IsPeer, KeepsTo, ArePeers, introduced_at, still_known, after, after_all, action, last_action, handed_to, greets as does_greet}
@@ -26,13 +26,13 @@ abbrev pub Lines : Type 0
 Lines = List (Option PeerLine)
 
 -- the place of the peer that said hello
-abbrev pub index_in : Stage → Option ℕ
+abbrev pub index_in : HandshakeStage → Option ℕ
 index_in (Introduced place) = Some place
 index_in (Known place) = Some place
 index_in _ = None
 
 -- a stage at which lines are handed up
-abbrev pub IsKnown : Stage → Type 0
+abbrev pub IsKnown : HandshakeStage → Type 0
 IsKnown s = (place : ℕ) × (index_in s ≡ Some place)
 
 -- ---- the place of a peer
@@ -183,7 +183,7 @@ module _ (t : Terms) where
 
 module _ (t : Terms) where
   -- a line is handed up to the place of the peer that said hello
-  handed_at : (side : Side) (s : Stage) → handed_to (action side s) ≡ index_in s
+  handed_at : (side : Side) (s : HandshakeStage) → handed_to (action side s) ≡ index_in s
   handed_at (Opener to) Silent = refl
   handed_at Acceptor Silent = refl
   handed_at (Opener to) Trusted = refl
@@ -269,7 +269,7 @@ module _ (t : Terms) where
   two_lines q (Some (Change change) ∷ lines) e = absurd (refused_no q lines e)
   two_lines q (Some (Ack ack) ∷ lines) e = absurd (refused_no q lines e)
 
-  greets_at : (side : Side) (s : Stage) → does_greet (action side s) ≡ true → (side ≡ Acceptor) × ((place : ℕ) × (s ≡ Introduced place))
+  greets_at : (side : Side) (s : HandshakeStage) → does_greet (action side s) ≡ true → (side ≡ Acceptor) × ((place : ℕ) × (s ≡ Introduced place))
   greets_at (Opener to) Silent e = absurd (false≢true e)
   greets_at Acceptor Silent e = absurd (false≢true e)
   greets_at (Opener to) Trusted e = absurd (false≢true e)
@@ -305,7 +305,7 @@ module _ (t : Terms) where
 
   -- ---- what is closed stays closed
 
-  closed_at : (side : Side) (s : Stage) → action side s ≡ Close → s ≡ Refused
+  closed_at : (side : Side) (s : HandshakeStage) → action side s ≡ Close → s ≡ Refused
   closed_at (Opener to) Silent e = cc
   closed_at Acceptor Silent e = cc
   closed_at (Opener to) Trusted e = cc
@@ -317,7 +317,7 @@ module _ (t : Terms) where
   closed_at (Opener to) Refused e = refl
   closed_at Acceptor Refused e = refl
 
-  after_more_lines : (s : Stage) (lines more : Lines) → after_all t s (lines ++ more) ≡ after_all t (after_all t s lines) more
+  after_more_lines : (s : HandshakeStage) (lines more : Lines) → after_all t s (lines ++ more) ≡ after_all t (after_all t s lines) more
   after_more_lines s [] more = refl
   after_more_lines s (line ∷ lines) more = after_more_lines (after t s line) lines more
 

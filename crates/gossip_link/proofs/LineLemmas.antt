@@ -8,8 +8,8 @@ use Rattle.cluster_directory.specs.Terms.{Terms}
 use Rattle.gossip_link.specs.Handshake.{after, after_all, action, handed_to, last_action}
 use Rattle.gossip_link.specs.declared.handshake.Side.{Side}
 use Rattle.gossip_link.specs.declared.handshake.Side.TheVariants.{Opener, Acceptor}
-use Rattle.gossip_link.specs.declared.handshake.Stage.{Stage}
-use Rattle.gossip_link.specs.declared.handshake.Stage.TheVariants.{Silent, Refused}
+use Rattle.gossip_link.specs.declared.handshake.HandshakeStage.{HandshakeStage}
+use Rattle.gossip_link.specs.declared.handshake.HandshakeStage.TheVariants.{Silent, Refused}
 use Rattle.gossip_link.specs.declared.handshake.Action.{Action}
 use Rattle.gossip_link.specs.declared.handshake.Action.TheVariants as act
 use Rattle.gossip_link.specs.declared.heard.Heard.TheVariants.{Message, Close}
@@ -94,20 +94,20 @@ refused_closes (Opener to) = refl
 refused_closes Acceptor = refl
 
 -- the action because of a line, where the connection is over
-over : (t : Terms) (side : Side) (stage : Stage) (l : Option PeerLine) → stage ≡ Refused → action side (after t stage l) ≡ act.Close
+over : (t : Terms) (side : Side) (stage : HandshakeStage) (l : Option PeerLine) → stage ≡ Refused → action side (after t stage l) ≡ act.Close
 over t side stage l e = ap (λ x. action side (after t x l)) e ∙ ap (action side) (still_refused t l) ∙ refused_closes side
 
 -- ---- lines
 
-after_one_more : (t : Terms) (x : Stage) (lines : List (Option PeerLine)) (l : Option PeerLine) → after_all t x (lines ++ l ∷ []) ≡ after t (after_all t x lines) l
+after_one_more : (t : Terms) (x : HandshakeStage) (lines : List (Option PeerLine)) (l : Option PeerLine) → after_all t x (lines ++ l ∷ []) ≡ after t (after_all t x lines) l
 after_one_more t x [] l = refl
 after_one_more t x (m ∷ lines) l = after_one_more t (after t x m) lines l
 
-record Stands (s : Session) (side : Side) (x : Stage) : Type 0 where
+record Stands (s : Session) (side : Side) (x : HandshakeStage) : Type 0 where
   same : s.handshake.side ≡ side
   reached : (s.handshake.stage ≡ x) ⊎ (s.handshake.stage ≡ Refused)
 
-stands_after : (t : Terms) (s : Session) (side : Side) (x : Stage) (l : Option PeerLine) → Stands s side x → Stands (step t s l).session side (after t x l)
+stands_after : (t : Terms) (s : Session) (side : Side) (x : HandshakeStage) (l : Option PeerLine) → Stands s side x → Stands (step t s l).session side (after t x l)
 stands_after t s side x l h =
     let here : Session = record s { handshake = record s.handshake { stage = after t s.handshake.stage l } } in
     let goes = acted_goes t here l (action s.handshake.side (after t s.handshake.stage l)) in
@@ -120,7 +120,7 @@ stands_after t s side x l h =
           (λ e. inr e) goes.stage;
     }
 
-stands : (t : Terms) (s : Session) (side : Side) (x : Stage) (lines : List (Option PeerLine)) → Stands s side x → Stands (after_lines t s lines) side (after_all t x lines)
+stands : (t : Terms) (s : Session) (side : Side) (x : HandshakeStage) (lines : List (Option PeerLine)) → Stands s side x → Stands (after_lines t s lines) side (after_all t x lines)
 stands t s side x [] h = h
 stands t s side x (l ∷ lines) h = stands t (step t s l).session side (after t x l) lines (stands_after t s side x l h)
 

@@ -10,8 +10,8 @@ use Rattle.peer_lines.specs.declared.peer_line.PeerLine.{PeerLine}
 use Rattle.peer_lines.specs.declared.peer_line.PeerLine.TheVariants.{Word, Hello, Head, Change, Ack}
 use Rattle.gossip_link.specs.declared.handshake.Side.{Side}
 use Rattle.gossip_link.specs.declared.handshake.Side.TheVariants.{Opener, Acceptor}
-use Rattle.gossip_link.specs.declared.handshake.Stage.{Stage}
-use Rattle.gossip_link.specs.declared.handshake.Stage.TheVariants.{Silent, Trusted, Introduced, Known, Refused}
+use Rattle.gossip_link.specs.declared.handshake.HandshakeStage.{HandshakeStage}
+use Rattle.gossip_link.specs.declared.handshake.HandshakeStage.TheVariants.{Silent, Trusted, Introduced, Known, Refused}
 use Rattle.gossip_link.specs.declared.handshake.Action.{Action}
 use Rattle.gossip_link.specs.declared.handshake.Action.TheVariants.{Wait, GreetAndHandUp, HandUp, Close}
 
@@ -42,29 +42,29 @@ pub record ArePeers (t : Terms) (lines : List (Option PeerLine)) : Type 0 where
 
 -- ---- line by line
 
-abbrev pub introduced_at : Option ℕ → Stage
+abbrev pub introduced_at : Option ℕ → HandshakeStage
 introduced_at None = Refused
 introduced_at (Some place) = Introduced place
 
-abbrev pub still_known : ℕ → Option ℕ → Stage
+abbrev pub still_known : ℕ → Option ℕ → HandshakeStage
 still_known known None = Refused
 still_known known (Some place) = if place == known then Known place else Refused
 
-abbrev pub after_first : Terms → PeerLine → Stage
+abbrev pub after_first : Terms → PeerLine → HandshakeStage
 after_first t (Word word) = if same_name word t.word then Trusted else Refused
 after_first t (Hello life version) = Refused
 after_first t (Head head) = Refused
 after_first t (Change change) = Refused
 after_first t (Ack ack) = Refused
 
-abbrev pub after_second : Terms → PeerLine → Stage
+abbrev pub after_second : Terms → PeerLine → HandshakeStage
 after_second t (Word word) = Refused
 after_second t (Hello life version) = introduced_at (index_of t life.node)
 after_second t (Head head) = Refused
 after_second t (Change change) = Refused
 after_second t (Ack ack) = Refused
 
-abbrev pub after_more : Terms → ℕ → PeerLine → Stage
+abbrev pub after_more : Terms → ℕ → PeerLine → HandshakeStage
 after_more t place (Word word) = Refused
 after_more t place (Hello life version) = still_known place (index_of t life.node)
 after_more t place (Head head) = Known place
@@ -72,7 +72,7 @@ after_more t place (Change change) = Known place
 after_more t place (Ack ack) = Known place
 
 -- the stage after a line. None stands for a line that can't be read
-abbrev pub after : Terms → Stage → Option PeerLine → Stage
+abbrev pub after : Terms → HandshakeStage → Option PeerLine → HandshakeStage
 after t stage None = Refused
 after t Silent (Some line) = after_first t line
 after t Trusted (Some line) = after_second t line
@@ -81,12 +81,12 @@ after t (Known place) (Some line) = after_more t place line
 after t Refused (Some line) = Refused
 
 -- the stage after lines
-abbrev pub after_all : Terms → Stage → List (Option PeerLine) → Stage
+abbrev pub after_all : Terms → HandshakeStage → List (Option PeerLine) → HandshakeStage
 after_all t stage [] = stage
 after_all t stage (line ∷ lines) = after_all t (after t stage line) lines
 
 -- what is done because of the line that led to a stage
-abbrev pub action : Side → Stage → Action
+abbrev pub action : Side → HandshakeStage → Action
 action side Silent = Wait
 action side Trusted = Wait
 action (Opener to) (Introduced place) = HandUp place

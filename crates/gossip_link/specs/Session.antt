@@ -10,7 +10,7 @@ use Rattle.cluster_directory.specs.Terms.{Terms, version_for}
 use Rattle.gossip_link.specs.Handshake.{after, action, greeted_first}
 use Rattle.gossip_link.specs.declared.handshake.Handshake.{Handshake}
 use Rattle.gossip_link.specs.declared.handshake.Side.{Side}
-use Rattle.gossip_link.specs.declared.handshake.Stage.TheVariants.{Silent, Refused}
+use Rattle.gossip_link.specs.declared.handshake.HandshakeStage.TheVariants.{Silent, Refused}
 use Rattle.gossip_link.specs.declared.handshake.Action.{Action}
 use Rattle.gossip_link.specs.declared.handshake.Action.TheVariants as act
 use Rattle.gossip_link.specs.declared.heard.Fault.{Fault}

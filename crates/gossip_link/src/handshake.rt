@@ -20,7 +20,7 @@ pub enum Side {
 
 /// How far the other node of a connection has come.
 #[derive(Clone, Copy, PartialEq, Eq)]
-pub enum Stage {
+pub enum HandshakeStage {
     /// It has said nothing.
     Silent,
     /// It has said the right word.
@@ -48,22 +48,22 @@ pub enum Action {
 }
 
 // The stage after a node that was trusted said hello.
-fn after_hello(place: Option<usize>) -> Stage
+fn after_hello(place: Option<usize>) -> HandshakeStage
     ensures { result ≡ spec.introduced_at place }
 {
     match place {
-        Some(place) => Stage::Introduced(place),
-        None => Stage::Refused,
+        Some(place) => HandshakeStage::Introduced(place),
+        None => HandshakeStage::Refused,
     }
 }
 
 // The stage after the peer at a place said hello once more.
-fn after_hello_again(known: usize, place: Option<usize>) -> Stage
+fn after_hello_again(known: usize, place: Option<usize>) -> HandshakeStage
     ensures { result ≡ spec.still_known known place }
 {
     match place {
-        Some(place) if place == known => Stage::Known(place),
-        _ => Stage::Refused,
+        Some(place) if place == known => HandshakeStage::Known(place),
+        _ => HandshakeStage::Refused,
     }
 }
 
@@ -71,17 +71,17 @@ fn after_hello_again(known: usize, place: Option<usize>) -> Stage
 #[derive(Clone, Copy, PartialEq, Eq)]
 pub struct Handshake {
     side: Side,
-    stage: Stage,
+    stage: HandshakeStage,
 }
 
 impl Handshake {
     /// A new connection.
     pub fn new(side: Side) -> Handshake
-        ensures { result ≡ record { side = side; stage = Stage.Silent } }
+        ensures { result ≡ record { side = side; stage = HandshakeStage.Silent } }
     {
         Handshake {
             side,
-            stage: Stage::Silent,
+            stage: HandshakeStage::Silent,
         }
     }
 
@@ -107,74 +107,74 @@ impl Handshake {
     }
 }
 
-fn action_at(side: Side, stage: Stage) -> Action
+fn action_at(side: Side, stage: HandshakeStage) -> Action
     ensures { result ≡ spec.action side stage }
 {
     match stage {
-        Stage::Silent => Action::Wait,
-        Stage::Trusted => Action::Wait,
-        Stage::Introduced(place) => match side {
+        HandshakeStage::Silent => Action::Wait,
+        HandshakeStage::Trusted => Action::Wait,
+        HandshakeStage::Introduced(place) => match side {
             Side::Opener(_) => Action::HandUp(place),
             Side::Acceptor => Action::GreetAndHandUp(place),
         },
-        Stage::Known(place) => Action::HandUp(place),
-        Stage::Refused => Action::Close,
+        HandshakeStage::Known(place) => Action::HandUp(place),
+        HandshakeStage::Refused => Action::Close,
     }
 }
 
-fn next_stage(terms: &Terms, stage: Stage, line: Option<&PeerLine>) -> Stage
+fn next_stage(terms: &Terms, stage: HandshakeStage, line: Option<&PeerLine>) -> HandshakeStage
     ensures { result ≡ spec.after terms.now stage (option_map deref line.entry) }
 {
     let Some(line) = line else {
-        return Stage::Refused;
+        return HandshakeStage::Refused;
     };
     match stage {
-        Stage::Silent => after_first(terms, line),
-        Stage::Trusted => after_second(terms, line),
-        Stage::Introduced(place) => after_more(terms, place, line),
-        Stage::Known(place) => after_more(terms, place, line),
-        Stage::Refused => Stage::Refused,
+        HandshakeStage::Silent => after_first(terms, line),
+        HandshakeStage::Trusted => after_second(terms, line),
+        HandshakeStage::Introduced(place) => after_more(terms, place, line),
+        HandshakeStage::Known(place) => after_more(terms, place, line),
+        HandshakeStage::Refused => HandshakeStage::Refused,
     }
 }
 
-fn after_first(terms: &Terms, line: &PeerLine) -> Stage
+fn after_first(terms: &Terms, line: &PeerLine) -> HandshakeStage
     ensures { result ≡ spec.after_first terms.now line.now }
 {
     match line {
         PeerLine::Word(word) => {
             if terms.is_word(word) {
-                Stage::Trusted
+                HandshakeStage::Trusted
             } else {
-                Stage::Refused
+                HandshakeStage::Refused
             }
         }
-        PeerLine::Hello(_, _) => Stage::Refused,
-        PeerLine::Head(_) => Stage::Refused,
-        PeerLine::Change(_) => Stage::Refused,
-        PeerLine::Ack(_) => Stage::Refused,
+        PeerLine::Hello(_, _) => HandshakeStage::Refused,
+        PeerLine::Head(_) => HandshakeStage::Refused,
+        PeerLine::Change(_) => HandshakeStage::Refused,
+        PeerLine::Ack(_) => HandshakeStage::Refused,
     }
 }
 
-fn after_second(terms: &Terms, line: &PeerLine) -> Stage
+fn after_second(terms: &Terms, line: &PeerLine) -> HandshakeStage
     ensures { result ≡ spec.after_second terms.now line.now }
 {
     match line {
-        PeerLine::Word(_) => Stage::Refused,
+        PeerLine::Word(_) => HandshakeStage::Refused,
         PeerLine::Hello(life, _) => after_hello(terms.index_of(life.node())),
-        PeerLine::Head(_) => Stage::Refused,
-        PeerLine::Change(_) => Stage::Refused,
-        PeerLine::Ack(_) => Stage::Refused,
+        PeerLine::Head(_) => HandshakeStage::Refused,
+        PeerLine::Change(_) => HandshakeStage::Refused,
+        PeerLine::Ack(_) => HandshakeStage::Refused,
     }
 }
 
-fn after_more(terms: &Terms, place: usize, line: &PeerLine) -> Stage
+fn after_more(terms: &Terms, place: usize, line: &PeerLine) -> HandshakeStage
     ensures { result ≡ spec.after_more terms.now place line.now }
 {
     match line {
-        PeerLine::Word(_) => Stage::Refused,
+        PeerLine::Word(_) => HandshakeStage::Refused,
         PeerLine::Hello(life, _) => after_hello_again(place, terms.index_of(life.node())),
-        PeerLine::Head(_) => Stage::Known(place),
-        PeerLine::Change(_) => Stage::Known(place),
-        PeerLine::Ack(_) => Stage::Known(place),
+        PeerLine::Head(_) => HandshakeStage::Known(place),
+        PeerLine::Change(_) => HandshakeStage::Known(place),
+        PeerLine::Ack(_) => HandshakeStage::Known(place),
     }
 }

@@ -38,7 +38,7 @@ pub use arrival::changes_of;
 pub use byte_text::NoMemory;
 pub use cluster_directory::{PeerTerms, Terms};
 pub use greeting::say_hello_again;
-pub use handshake::{Action, Handshake, Side, Stage};
+pub use handshake::{Action, Handshake, HandshakeStage, Side};
 pub use heard::{Fault, Heard};
 pub use link::Link;
 pub use outcome::Outcome;

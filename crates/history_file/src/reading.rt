@@ -11,7 +11,7 @@ use crate::FileFault;
 use crate::cutting::first_line;
 use crate::history_file::fault_of;
 use crate::life::life_number;
-use block_file::{Reader, Source, is_torn_end};
+use block_file::{ByteSource, Reader, is_torn_end};
 use change_lines::{ChangeLineFault, laws, read_change_in};
 use chat_change::{Buffer, Change, Extent};
 use std::alloc::Global;
@@ -72,7 +72,7 @@ fn read_lines(
 
 /// A file that is read for its past.
 #[derive(Drop)]
-pub struct PastReader<S: Source> {
+pub struct PastReader<S: ByteSource> {
     /// Its blocks.
     pub blocks: Reader<S>,
     /// The greatest number of a life so far.
@@ -108,7 +108,7 @@ fn greater(a: u64, b: u64) -> u64
     if a < b { b } else { a }
 }
 
-impl<S: Source> PastReader<S> {
+impl<S: ByteSource> PastReader<S> {
     /// A reader of a source of which nothing was read.
     pub fn new(alloc: Global, source: S) -> Self
         requires { S.got source ≡ [] }

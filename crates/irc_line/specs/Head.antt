@@ -1,9 +1,9 @@
--- The bytes behind a `Head`.
+-- The bytes behind a `LineHead`.
 use Rattle.std.specs.Option.{option_copied}
 use Rattle.irc_line.specs.Faults.{Head as Parts}
-use Rattle.irc_line.specs.declared.line.Head.{Head}
+use Rattle.irc_line.specs.declared.line.LineHead.{LineHead}
 
-abbrev pub value_of : Head → Parts
+abbrev pub value_of : LineHead → Parts
 value_of f = record {
   bytes = f.bytes.now;
   tags = option_copied f.tags;

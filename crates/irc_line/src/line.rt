@@ -216,7 +216,7 @@ fn read_parameters<'a>(bytes: &'a [u8]) -> ([&'a [u8]; MAX_PARAMETERS], usize)
 
 /// The head of a line: its parts before the parameters, which tell whether it is refused.
 #[derive(Drop)]
-struct Head<'a> {
+struct LineHead<'a> {
     bytes: &'a [u8],
     tags: Option<&'a [u8]>,
     after_tags: &'a [u8],
@@ -246,7 +246,7 @@ fn has_empty_source(source: Option<&[u8]>) -> bool
     }
 }
 
-impl<'a> Head<'a> {
+impl<'a> LineHead<'a> {
     ghost use Rattle.irc_line.specs.Head.{value_of};
 
     fn first_fault(&self, limit: TagLimit) -> Option<LineFault>
@@ -284,7 +284,7 @@ pub fn read_line(bytes: &[u8], limit: TagLimit) -> Result<Line<'_>, LineFault>
     let (tags, after_tags) = split_tags(bytes);
     let (source, after_source) = split_source(after_tags);
     let (command, after_command) = split_word(after_source);
-    let head = Head {
+    let head = LineHead {
         bytes,
         tags,
         after_tags,

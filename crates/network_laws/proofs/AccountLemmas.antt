@@ -5,7 +5,7 @@ use Rattle.chat_change.specs.declared.change.Change.{Change}
 use Rattle.chat_change.specs.declared.change.Change.TheVariants.{Post, Redact, Mark, Floor, AccountFloor}
 use Rattle.cluster_directory.specs.declared.config.SessionConfig.{SessionConfig}
 use Rattle.client_session.specs.declared.effect.Effect.{Effect}
-use Rattle.upstream_session.specs.declared.connection.Connection.{Connection}
+use Rattle.upstream_session.specs.declared.connection.ServerSession.{ServerSession}
 use Rattle.upstream_session.specs.declared.connection.Home.{Home}
 use Rattle.upstream_session.specs.declared.effect.UpEffect.{UpEffect}
 use Rattle.upstream_session.specs.declared.effect.UpEffect.TheVariants.{Send, Put, Relay, Close}
@@ -25,10 +25,10 @@ use Rattle.network_laws.proofs.TellingLemmas.{puts-what-was-said}
 
 -- what the session's law says
 abbrev pub PutsOwn : Type 0
-PutsOwn = (u : Connection) (events : List ServerEvent) → AllByRecursion (IsOwnEffect u.home) (all_effects u events)
+PutsOwn = (u : ServerSession) (events : List ServerEvent) → AllByRecursion (IsOwnEffect u.home) (all_effects u events)
 
 abbrev pub StaysHome : Type 0
-StaysHome = (u : Connection) (events : List ServerEvent) → (run u events).home ≡ u.home
+StaysHome = (u : ServerSession) (events : List ServerEvent) → (run u events).home ≡ u.home
 
 -- ---- lists
 
@@ -78,7 +78,7 @@ entering-in config true None = tt
 entering-in config true (Some channel) = (tt, tt)
 entering-in config false channel = tt
 
-step-in : (config : SessionConfig) (u : Connection) (s : ServerStep) (channel : Option (List ℕ)) → IsHomeOf config u.home → AllByRecursion (IsOwnEffect u.home) s.effects
+step-in : (config : SessionConfig) (u : ServerSession) (s : ServerStep) (channel : Option (List ℕ)) → IsHomeOf config u.home → AllByRecursion (IsOwnEffect u.home) s.effects
     → AllByRecursion (IsEntryIn config) (entries_by u s channel)
 step-in config u s channel e k =
     let first : List BatchEntry = renaming (is_renamed u.entry s.session.entry) s.session.entry.nick (passes_on s.effects) in
@@ -87,12 +87,12 @@ step-in config u s channel e k =
     all-both (IsEntryIn config) first (among ++ last) (renaming-in config (is_renamed u.entry s.session.entry) s.session.entry.nick (passes_on s.effects))
     (all-both (IsEntryIn config) among last (effects-in config u.home s.session.entry.nick s.effects e k) (entering-in config (has_entered u.entry s.session.entry) channel))
 
-event-in : (config : SessionConfig) (u : Connection) (event : ServerEvent) → IsHomeOf config u.home → AllByRecursion (IsOwnEffect u.home) (effects_of u event)
+event-in : (config : SessionConfig) (u : ServerSession) (event : ServerEvent) → IsHomeOf config u.home → AllByRecursion (IsOwnEffect u.home) (effects_of u event)
     → AllByRecursion (IsEntryIn config) (entries_by_event u event)
 event-in config u (Line now bytes) e k = step-in config u (step u now bytes) (joined u bytes) e k
 event-in config u (Saying now bytes) e k = step-in config u (say u now bytes) None e k
 
-events-in : PutsOwn → StaysHome → (config : SessionConfig) (u : Connection) (events : List ServerEvent) → IsHomeOf config u.home
+events-in : PutsOwn → StaysHome → (config : SessionConfig) (u : ServerSession) (events : List ServerEvent) → IsHomeOf config u.home
     → AllByRecursion (IsEntryIn config) (all_entries u events)
 events-in puts stays config u [] e = tt
 events-in puts stays config u (event ∷ events) e =

@@ -9,7 +9,7 @@ use Rattle.std.proofs.lemmas.List.{append_cancel_left}
 use Rattle.std.proofs.lemmas.Bool.{eqb-false}
 use Rattle.cluster_directory.specs.declared.config.SessionConfig.{SessionConfig}
 use Rattle.upstream_session.specs.Messages.{made_text}
-use Rattle.upstream_session.specs.declared.connection.Connection.{Connection}
+use Rattle.upstream_session.specs.declared.connection.ServerSession.{ServerSession}
 use Rattle.upstream_session.specs.declared.connection.Home.{Home}
 use Rattle.upstream_session.specs.Events.{ServerEvent, HasPost, after, effects_of, ids_made, ids_made_by, run}
 use Rattle.network_log.specs.Facts.{NodeFacts}
@@ -24,10 +24,10 @@ last_serial = 18446744073709551615
 
 -- what the session's law says
 pub record MakesOnce : Type 0 where
-  pub counted : (u : Connection) (event : ServerEvent)
+  pub counted : (u : ServerSession) (event : ServerEvent)
       → ((after u event).serial ≡ u.serial) ⊎ (((after u event).serial ≡ u.serial + 1) × HasPost (made_text u.home u.serial) (effects_of u event))
-  pub last : (u : Connection) (event : ServerEvent) → u.serial ≤ last_serial → (after u event).serial ≤ last_serial
-  pub once : (u : Connection) (events : List ServerEvent) → u.serial ≤ last_serial → IsDistinct bytes_eq (ids_made u events)
+  pub last : (u : ServerSession) (event : ServerEvent) → u.serial ≤ last_serial → (after u event).serial ≤ last_serial
+  pub once : (u : ServerSession) (events : List ServerEvent) → u.serial ≤ last_serial → IsDistinct bytes_eq (ids_made u events)
   pub same : StaysHome
 
 -- an id that is made of a serial number between these
@@ -60,21 +60,21 @@ different false h = refl
 
 -- ---- one session
 
-grows : MakesOnce → (u : Connection) (event : ServerEvent) → u.serial ≤ (after u event).serial
+grows : MakesOnce → (u : ServerSession) (event : ServerEvent) → u.serial ≤ (after u event).serial
 grows law u event = ⊎_elim (λ h. omega (arith, h)) (λ h. omega (arith, h.0)) (law.counted u event)
 
-grows-more : MakesOnce → (u : Connection) (event : ServerEvent) → ((after u event).serial ≡ u.serial → ⊥) → u.serial + 1 ≤ (after u event).serial
+grows-more : MakesOnce → (u : ServerSession) (event : ServerEvent) → ((after u event).serial ≡ u.serial → ⊥) → u.serial + 1 ≤ (after u event).serial
 grows-more law u event other = ⊎_elim (λ h. absurd (other h)) (λ h. omega (arith, h.0)) (law.counted u event)
 
-record IsMadeSo (u : Connection) (events : List ServerEvent) : Type 0 where
+record IsMadeSo (u : ServerSession) (events : List ServerEvent) : Type 0 where
   grows : u.serial ≤ (run u events).serial
   last : (run u events).serial ≤ last_serial
   are : AllByRecursion (IsMadeBetween u.home u.serial (run u events).serial) (ids_made u events)
 
-made-so : MakesOnce → (u : Connection) (events : List ServerEvent) → u.serial ≤ last_serial → IsMadeSo u events
+made-so : MakesOnce → (u : ServerSession) (events : List ServerEvent) → u.serial ≤ last_serial → IsMadeSo u events
 made-so law u [] h = record { grows = omega arith; last = h; are = tt }
 made-so law u (event ∷ events) h =
-    let next : Connection = after u event in
+    let next : ServerSession = after u event in
     let high : ℕ = (run next events).serial in
     let k : IsMadeSo next events = made-so law next events (law.last u event h) in
     let one : u.serial ≤ next.serial = grows law u event in
@@ -142,7 +142,7 @@ are-made : (facts : NodeFacts) → MakesOnce → (place : ℕ) (config : Session
     → AreMade facts config streams
 are-made facts law place config bound [] k = record { last = omega arith; are = tt; distinct = no-ids }
 are-made facts law place config bound (s ∷ streams) k =
-    let u : Connection = begun facts config s in
+    let u : ServerSession = begun facts config s in
     let home : Home = home_in facts config in
     let before : AreMade facts config streams = are-made facts law place config s.joins streams k.1 in
     let first : s.first ≡ serial_after facts config streams = k.0.2 in

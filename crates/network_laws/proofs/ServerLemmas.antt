@@ -7,7 +7,7 @@ use Rattle.chat_change.specs.declared.change.Change.TheVariants.{Post, Redact, M
 use Rattle.cluster_directory.specs.declared.config.SessionConfig.{SessionConfig}
 use Rattle.client_session.specs.declared.effect.Effect.{Effect}
 use Rattle.client_session.specs.declared.effect.Effect.TheVariants.{Send, Put, Ask, Upstream, Close}
-use Rattle.upstream_session.specs.declared.connection.Connection.{Connection}
+use Rattle.upstream_session.specs.declared.connection.ServerSession.{ServerSession}
 use Rattle.upstream_session.specs.Events.{ServerEvent, Line, Saying, run, after}
 use Rattle.network_log.specs.Facts.{NodeFacts}
 use Rattle.network_log.specs.Guest.{Guest, next_item}
@@ -41,7 +41,7 @@ abbrev IsServedSo : NodeFacts → NetworkState → Option Host → Type 0
 IsServedSo facts w None = Unit {0}
 IsServedSo facts w (Some h) = IsServerSo facts w.place w.config h
 
-pub run-more : (u : Connection) (events : List ServerEvent) (event : ServerEvent) → run u (events ++ event ∷ []) ≡ after (run u events) event
+pub run-more : (u : ServerSession) (events : List ServerEvent) (event : ServerEvent) → run u (events ++ event ∷ []) ≡ after (run u events) event
 run-more u [] event = refl
 run-more u (e ∷ events) event = run-more (after u e) events event
 
@@ -125,7 +125,7 @@ left-out-so facts w h k item n may = record {
 goes-on : (facts : NodeFacts) (w : NetworkState) (h : Host) (k : IsServerSo facts w.place w.config h) (event : ServerEvent)
     → run (session_begun facts w.config k.first) (k.events ++ event ∷ []) ≡ after h.session event
 goes-on facts w h k event =
-    run-more (session_begun facts w.config k.first) k.events event ∙ ap (λ (u : Connection). after u event) k.came_to
+    run-more (session_begun facts w.config k.first) k.events event ∙ ap (λ (u : ServerSession). after u event) k.came_to
 
 item-so : (facts : NodeFacts) (w : NetworkState) (h : Host) (now : ℕ) (o : Option Item) → w.server ≡ Some h → next_item h.received h.heard ≡ o
     → IsServerSo facts w.place w.config h → IsServedSo facts w (after_server_item w h now o).server

@@ -5,7 +5,7 @@ use Rattle.irc_line.specs.Stream.{Item, items, line as whole_line}
 use Rattle.cluster_directory.specs.declared.config.SessionConfig.{SessionConfig}
 use Rattle.client_session.specs.declared.effect.Effect.{Effect}
 use Rattle.client_session.specs.declared.effect.Effect.TheVariants.{Upstream}
-use Rattle.upstream_session.specs.declared.connection.Connection.{Connection}
+use Rattle.upstream_session.specs.declared.connection.ServerSession.{ServerSession}
 use Rattle.upstream_session.specs.declared.effect.UpEffect.{UpEffect}
 use Rattle.upstream_session.specs.declared.effect.UpEffect.TheVariants.{Send, Put, Relay, Close}
 use Rattle.upstream_session.specs.Events.{ServerEvent, Line, Saying, after, all_effects, effects_of, run}
@@ -58,14 +58,14 @@ sends-both (Put change ∷ effects) more = sends-both effects more
 sends-both (Relay text to ∷ effects) more = sends-both effects more
 sends-both (Close ∷ effects) more = sends-both effects more
 
-effects-more : (u : Connection) (events : List ServerEvent) (event : ServerEvent)
+effects-more : (u : ServerSession) (events : List ServerEvent) (event : ServerEvent)
     → all_effects u (events ++ event ∷ []) ≡ all_effects u events ++ effects_of (run u events) event
 effects-more u [] event = append-nil (effects_of u event)
 effects-more u (e ∷ events) event =
     ap (λ (l : List UpEffect). effects_of u e ++ l) (effects-more (after u e) events event)
     ∙ sym (append_assoc (effects_of u e) (all_effects (after u e) events) (effects_of (run (after u e) events) event))
 
-entries-more : (u : Connection) (events : List ServerEvent) (event : ServerEvent)
+entries-more : (u : ServerSession) (events : List ServerEvent) (event : ServerEvent)
     → all_entries u (events ++ event ∷ []) ≡ all_entries u events ++ entries_by_event (run u events) event
 entries-more u [] event = append-nil (entries_by_event u event)
 entries-more u (e ∷ events) event =
@@ -97,18 +97,18 @@ by-said facts (Saying at text ∷ events) now bytes clock k = (k.0, by-said fact
 came-more : (facts : NodeFacts) (place : ℕ) (config : SessionConfig) (h : Host) (s : Stream) (event : ServerEvent) → IsLive facts place config h s
     → run (begun facts config s) (s.events ++ event ∷ []) ≡ after h.session event
 came-more facts place config h s event l =
-    run-more (begun facts config s) s.events event ∙ ap (λ (u : Connection). after u event) l.came_to
+    run-more (begun facts config s) s.events event ∙ ap (λ (u : ServerSession). after u event) l.came_to
 
 told-more : (facts : NodeFacts) (place : ℕ) (config : SessionConfig) (h : Host) (s : Stream) (event : ServerEvent) → IsLive facts place config h s
     → h.told ++ sends_of (effects_of h.session event)
     ≡ sends_of (start (begun facts config s)) ++ sends_of (all_effects (begun facts config s) (s.events ++ event ∷ []))
 told-more facts place config h s event l =
-    let u : Connection = begun facts config s in
+    let u : ServerSession = begun facts config s in
     let next : List UpEffect = effects_of (run u s.events) event in
     let all : sends_of (all_effects u (s.events ++ event ∷ [])) ≡ sends_of (all_effects u s.events) ++ sends_of next =
     ap sends_of (effects-more u s.events event) ∙ sends-both (all_effects u s.events) next in
     ap (λ (t : List ℕ). t ++ sends_of (effects_of h.session event)) l.is_told
-    ∙ ap (λ (v : Connection). told_over facts config s ++ sends_of (effects_of v event)) (sym l.came_to)
+    ∙ ap (λ (v : ServerSession). told_over facts config s ++ sends_of (effects_of v event)) (sym l.came_to)
     ∙ append_assoc (sends_of (start u)) (sends_of (all_effects u s.events)) (sends_of next)
     ∙ ap (λ (t : List ℕ). sends_of (start u) ++ t) (sym all)
 
@@ -116,13 +116,13 @@ all-more : (facts : NodeFacts) (place : ℕ) (config : SessionConfig) (h : Host)
     → IsLive facts place config h s → IsPart (taken ++ batch) (entries_of facts config (s ∷ streams))
     → IsPart (taken ++ (batch ++ entries_by_event h.session event)) (entries_of facts config streams ++ all_entries (begun facts config s) (s.events ++ event ∷ []))
 all-more facts place config h s streams event batch taken l p =
-    let u : Connection = begun facts config s in
+    let u : ServerSession = begun facts config s in
     let now : List BatchEntry = entries_by_event (run u s.events) event in
     let before : List BatchEntry = entries_of facts config streams in
     let all : (before ++ all_entries u s.events) ++ now ≡ before ++ all_entries u (s.events ++ event ∷ []) =
     append_assoc before (all_entries u s.events) now ∙ ap (λ (t : List BatchEntry). before ++ t) (sym (entries-more u s.events event)) in
     let some : (taken ++ batch) ++ now ≡ taken ++ (batch ++ entries_by_event h.session event) =
-    append_assoc taken batch now ∙ ap (λ (v : Connection). taken ++ (batch ++ entries_by_event v event)) l.came_to in
+    append_assoc taken batch now ∙ ap (λ (v : ServerSession). taken ++ (batch ++ entries_by_event v event)) l.came_to in
     let P : List BatchEntry → Type 0 = λ t. IsPart t (before ++ all_entries u (s.events ++ event ∷ [])) in
     let Q : List BatchEntry → Type 0 = λ t. IsPart ((taken ++ batch) ++ now) t in
     subst P some (subst Q all (part-both (taken ++ batch) (before ++ all_entries u s.events) now p))
@@ -431,7 +431,7 @@ serving-says facts place config joins serial h batch taken acts now text a clock
 goes-more : (facts : NodeFacts) (place : ℕ) (config : SessionConfig) (serial : ℕ) (h : Host) (streams : List Stream) → IsServed facts place config serial (Some h) streams
     → h.session.serial ≡ serial_after facts config streams
 goes-more facts place config serial h [] l = absurd l
-goes-more facts place config serial h (s ∷ streams) l = ap (λ (u : Connection). u.serial) (sym l.came_to)
+goes-more facts place config serial h (s ∷ streams) l = ap (λ (u : ServerSession). u.serial) (sym l.came_to)
 
 pub serving-goes : (facts : NodeFacts) (place : ℕ) (config : SessionConfig) (joins serial : ℕ) (h : Host) (batch taken : List BatchEntry) (acts : List Act)
     → Serving facts place config joins serial (Some h) batch taken acts → Serving facts place config joins h.session.serial None batch taken acts

@@ -5,7 +5,7 @@ use Rattle.irc_line.specs.Stream.{Item, items}
 use Rattle.cluster_directory.specs.declared.config.SessionConfig.{SessionConfig}
 use Rattle.client_session.specs.declared.effect.Effect.{Effect}
 use Rattle.client_session.specs.declared.effect.Effect.TheVariants.{Upstream}
-use Rattle.upstream_session.specs.declared.connection.Connection.{Connection}
+use Rattle.upstream_session.specs.declared.connection.ServerSession.{ServerSession}
 use Rattle.upstream_session.specs.Events.{ServerEvent, Line, Saying, after, all_effects, run}
 use Rattle.upstream_session.specs.Session.{start, step, say, joined}
 use Rattle.network_log.specs.Facts.{NodeFacts}
@@ -52,7 +52,7 @@ lines_by (a ∷ acts) = lines_by acts ++ line_in a.effect
 
 -- ---- what its session began as, and came to
 
-abbrev pub begun : NodeFacts → SessionConfig → Stream → Connection
+abbrev pub begun : NodeFacts → SessionConfig → Stream → ServerSession
 begun facts config s = session_begun facts config s.first
 
 -- all that the server was told: what the session begins with, and what it answers or gives on, in order
@@ -61,11 +61,11 @@ told_over facts config s =
     sends_of (start (begun facts config s)) ++ sends_of (all_effects (begun facts config s) s.events)
 
 -- what comes of an event of a session, for the node and for clients
-abbrev pub entries_by_event : Connection → ServerEvent → List BatchEntry
+abbrev pub entries_by_event : ServerSession → ServerEvent → List BatchEntry
 entries_by_event u (Line now bytes) = entries_by u (step u now bytes) (joined u bytes)
 entries_by_event u (Saying now bytes) = entries_by u (say u now bytes) None
 
-abbrev pub all_entries : Connection → List ServerEvent → List BatchEntry
+abbrev pub all_entries : ServerSession → List ServerEvent → List BatchEntry
 all_entries u [] = []
 all_entries u (event ∷ events) = entries_by_event u event ++ all_entries (after u event) events
 

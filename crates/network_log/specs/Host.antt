@@ -6,7 +6,7 @@ use Rattle.chat_change.specs.declared.change.Change.{Change}
 use Rattle.chat_change.specs.declared.change.Change.TheVariants.{Post}
 use Rattle.cluster_directory.specs.Entry.{Entry}
 use Rattle.cluster_directory.specs.declared.config.SessionConfig.{SessionConfig}
-use Rattle.upstream_session.specs.declared.connection.Connection.{Connection}
+use Rattle.upstream_session.specs.declared.connection.ServerSession.{ServerSession}
 use Rattle.upstream_session.specs.declared.effect.UpEffect.{UpEffect}
 use Rattle.upstream_session.specs.declared.effect.UpEffect.TheVariants.{Send, Put, Relay}
 use Rattle.upstream_session.specs.Messages.{is_from}
@@ -26,7 +26,7 @@ pub record Host : Type 0 where
   pub serial : ℕ
   pub received : List ℕ
   pub heard : ℕ
-  pub session : Connection
+  pub session : ServerSession
   pub told : List ℕ
 
 -- ---- what it is told
@@ -38,7 +38,7 @@ sends_of (Send text ∷ effects) = text ++ sends_of effects
 sends_of (_ ∷ effects) = sends_of effects
 
 -- a session that begins, with that serial number for the first id that it makes
-abbrev pub session_begun : NodeFacts → SessionConfig → ℕ → Connection
+abbrev pub session_begun : NodeFacts → SessionConfig → ℕ → ServerSession
 session_begun facts config first =
     new config facts.terms.me.node facts.terms.me.incarnation first
 
@@ -109,7 +109,7 @@ entering true (Some channel) = Entered channel ∷ []
 entering _ _ = []
 
 -- what comes of a step of a session, and of the channel that it joins by the line, if it does
-abbrev pub entries_by : Connection → ServerStep → Option (List ℕ) → List BatchEntry
+abbrev pub entries_by : ServerSession → ServerStep → Option (List ℕ) → List BatchEntry
 entries_by before s channel =
     renaming (is_renamed before.entry s.session.entry) s.session.entry.nick (passes_on s.effects)
     ++ (entries_of s.session.entry.nick s.effects

@@ -9,7 +9,7 @@ use Rattle.irc_line.specs.Stream.{Item, Held, line as whole_line, too_long as cu
 use Rattle.upstream_session.specs.Events.{HasClose}
 use Rattle.upstream_session.specs.Passing.{is_passed_on}
 use Rattle.upstream_session.specs.Session.{step as session_step, say, joined as channel_joined, JoinsNone}
-use Rattle.upstream_session.specs.declared.connection.Connection.{Connection}
+use Rattle.upstream_session.specs.declared.connection.ServerSession.{ServerSession}
 use Rattle.upstream_session.specs.Step.{ServerStep}
 use Rattle.upstream_session.specs.declared.effect.UpEffect.{UpEffect}
 use Rattle.upstream_session.specs.declared.effect.UpEffect.TheVariants.{Send, Put, Relay, Close}
@@ -73,7 +73,7 @@ owed-all first now effects place h so_far =
     sym (append-nil now) ∙ ap (λ (t : List UpEffect). now ++ sends_of t) (sym (drop_all place effects h)) ∙ so_far
 
 -- the server as the session's step leaves it
-pub host-said : (h : Host) (s : ServerStep) (session : Connection) (sent owed later : List ℕ) → h.told ≡ sent ++ owed → session ≡ s.session
+pub host-said : (h : Host) (s : ServerStep) (session : ServerSession) (sent owed later : List ℕ) → h.told ≡ sent ++ owed → session ≡ s.session
     → later ≡ owed ++ sends_of s.effects → record h { session = session; told = sent ++ later } ≡ host_after s h
 host-said h s session sent owed later t e f =
     let told : sent ++ later ≡ h.told ++ sends_of s.effects = ap (λ (l : List ℕ). sent ++ l) f ∙ sym (append_assoc sent owed (sends_of s.effects)) ∙ ap (λ (l : List ℕ). l ++ sends_of s.effects) (sym t) in
@@ -90,7 +90,7 @@ fewer before after (inr one) =
     le-ltb (length before.channels) (length after.channels) (omega (arith, both, e))
 
 -- it may be asked after the step as well
-pub entered-same : (u after : Connection) (bytes : List ℕ) → ((channel : List ℕ) → channel_joined u bytes ≡ Some channel → channel_joined after bytes ≡ Some channel)
+pub entered-same : (u after : ServerSession) (bytes : List ℕ) → ((channel : List ℕ) → channel_joined u bytes ≡ Some channel → channel_joined after bytes ≡ Some channel)
     → (channel_joined u bytes ≡ None → JoinsNone u.entry.channels after.entry.channels)
     → entering (has_entered u.entry after.entry) (channel_joined after bytes) ≡ entering (has_entered u.entry after.entry) (channel_joined u bytes)
 entered-same u after bytes later others = by-case (channel_joined u bytes) refl where
@@ -127,16 +127,16 @@ open-after s is only false false e f = refl
 open-after s is only true false e f = absurd (true≢false (sym (close-has s.effects (only e)) ∙ f))
 open-after s is only false true e f = absurd (true≢false (sym (is (has-close s.effects f)) ∙ e))
 
-pub over-after : (u : Connection) (s : ServerStep) (over : Bool) → u.is_closed ≡ over
+pub over-after : (u : ServerSession) (s : ServerStep) (over : Bool) → u.is_closed ≡ over
     → (HasClose s.effects → s.session.is_closed ≡ true)
     → (u.is_closed ≡ false → s.session.is_closed ≡ true → HasClose s.effects)
     → (u.is_closed ≡ true → s.session ≡ u)
     → s.session.is_closed ≡ (over || closes s.effects)
-over-after u s true e is only stays = ap (λ (v : Connection). v.is_closed) (stays e) ∙ e
+over-after u s true e is only stays = ap (λ (v : ServerSession). v.is_closed) (stays e) ∙ e
 over-after u s false e is only stays = open-after s is (only e) s.session.is_closed (closes s.effects) refl refl
 
 -- after a step, where it is found whether it closes
-pub over-by : (u : Connection) (s : ServerStep) (over : Bool) (session : Connection) (effects : List UpEffect) (found : Bool)
+pub over-by : (u : ServerSession) (s : ServerStep) (over : Bool) (session : ServerSession) (effects : List UpEffect) (found : Bool)
     → record { session = session; effects = effects } ≡ s → found ≡ closes effects
     → (HasClose s.effects → s.session.is_closed ≡ true)
     → (u.is_closed ≡ false → s.session.is_closed ≡ true → HasClose s.effects)

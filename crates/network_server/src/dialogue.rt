@@ -2,7 +2,7 @@
 ghost use Rattle.std.specs.Prelude.{◌≡◌, ◌++◌, ◌∷◌, ℕ, Bool, List, [], Err, None, Option, IfOk, OnOk, OnErr, true, false};
 ghost use Rattle.network_log.specs.Host.{entering, entries_by, has_entered, is_renamed, renaming, sends_of};
 ghost use Rattle.upstream_session.specs.Session as session;
-ghost use Rattle.upstream_session.specs.declared.connection.Connection.{Connection as Session};
+ghost use Rattle.upstream_session.specs.declared.connection.ServerSession.{ServerSession as Session};
 ghost use Rattle.network_server.specs.Effects.{closes};
 ghost use Rattle.network_server.specs.Entries.{renaming_to};
 ghost use Rattle.network_server.specs.Standing.{IsNoted};

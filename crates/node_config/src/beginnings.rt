@@ -5,7 +5,7 @@ ghost use Rattle.node_config.specs.Beginnings as spec;
 use crate::config::Config;
 use crate::entries::{AccountConfig, NetworkConfig, PeerConfig};
 use byte_text::{NoMemory, copies_of};
-use cluster_directory::{Account, Directory, Entry, Network, NodeName};
+use cluster_directory::{ConfiguredAccount, Directory, Entry, Network, NodeName};
 use std::alloc::{AllocError, Global};
 
 impl NetworkConfig {
@@ -44,7 +44,7 @@ fn network_of(alloc: Global, network: &NetworkConfig) -> Result<Network, NoMemor
 // Adds those of the networks that are of that account.
 fn add_networks(
     alloc: Global,
-    made: &mut Account,
+    made: &mut ConfiguredAccount,
     networks: &[NetworkConfig],
     account: &[u8],
 ) -> Result<(), NoMemory>
@@ -65,12 +65,12 @@ fn account_of(
     alloc: Global,
     networks: &[NetworkConfig],
     account: &AccountConfig,
-) -> Result<Account, NoMemory>
+) -> Result<ConfiguredAccount, NoMemory>
     ensures { IfOk result (λ made. made ≡ spec.account_of networks.now account.now) }
 {
     let name = account.name.try_clone(alloc)?;
     let secret = account.secret.try_clone(alloc)?;
-    let mut made = Account::new(alloc, name, secret);
+    let mut made = ConfiguredAccount::new(alloc, name, secret);
     match add_networks(alloc, &mut made, networks, account.name.as_bytes()) {
         Ok(()) => Ok(made),
         Err(NoMemory) => Err(NoMemory),

@@ -21,7 +21,7 @@ pub trait Prefixed: Ord {
 }
 
 /// What stands for a key where one is looked up: a key itself, or what it is made of.
-pub trait Sought<K: Prefixed> {
+pub trait Lookup<K: Prefixed> {
     ghost key: { Self → K };
 
     /// The prefix of the key.
@@ -33,7 +33,7 @@ pub trait Sought<K: Prefixed> {
         ensures { result ≡ K.cmp other.now (key self.now) };
 }
 
-impl<K: Prefixed> Sought<K> for K {
+impl<K: Prefixed> Lookup<K> for K {
     ghost key = { λ k. k };
 
     fn key_prefix(&self) -> u64 {
@@ -46,7 +46,7 @@ impl<K: Prefixed> Sought<K> for K {
 }
 
 /// How a key compares with one that is sought. Most prefixes differ, and then the keys aren't looked at.
-pub(crate) fn order<K: Prefixed, Q: Sought<K>>(key: &K, sought: &Q) -> Ordering
+pub(crate) fn order<K: Prefixed, Q: Lookup<K>>(key: &K, sought: &Q) -> Ordering
     ensures { result ≡ K.cmp key.now (Q.key sought.now) }
 {
     match key.prefix().cmp(&sought.key_prefix()) {

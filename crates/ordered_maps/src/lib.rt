@@ -13,5 +13,5 @@ mod packed_map;
 mod page;
 
 pub use growth::{exchange, put};
-pub use keys::{Prefixed, Sought};
+pub use keys::{Lookup, Prefixed};
 pub use packed_map::{Keeps, PackedEntries, PackedMap};

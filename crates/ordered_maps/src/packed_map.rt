@@ -12,7 +12,7 @@ mod retain;
 mod search;
 
 use crate::keys::Prefixed;
-use crate::page::Page;
+use crate::page::MapPage;
 pub use entries::PackedEntries;
 pub use retain::Keeps;
 use std::alloc::Global;
@@ -23,7 +23,7 @@ use std::marker::Model;
 #[derive(Drop)]
 pub struct PackedMap<K: Prefixed, V> {
     pub(crate) alloc: Global,
-    pub(crate) pages: VecDeque<Page<K, V>>,
+    pub(crate) pages: VecDeque<MapPage<K, V>>,
 }
 
 impl<K: Prefixed, V> Model for PackedMap<K, V> {

@@ -6,7 +6,7 @@ ghost use Rattle.std.specs.List.Sorted.{IsBinarySearchResult, IsSearchInRange};
 ghost use Rattle.std.specs.Option.{option_to_list};
 ghost use Rattle.ordered_maps.specs.Pages.{first_prefix, starts_above, WritesValue};
 
-use crate::keys::{Prefixed, Sought, order};
+use crate::keys::{Lookup, Prefixed, order};
 use crate::packed_map::Keeps;
 use std::alloc::{AllocError, Global};
 use std::collections::VecDeque;
@@ -24,13 +24,13 @@ const LEAST_ROOM: usize = 4;
 
 /// Some entries of a map that stand next to each other, in the order of their keys. It is seen as the list of them.
 #[derive(Drop)]
-pub(crate) struct Page<K: Prefixed, V> {
+pub(crate) struct MapPage<K: Prefixed, V> {
     // the prefix of the first key, so that a search among pages looks into few of them
     first: u64,
     pub(crate) entries: VecDeque<(K, V)>,
 }
 
-impl<K: Prefixed, V> Model for Page<K, V> {
+impl<K: Prefixed, V> Model for MapPage<K, V> {
     ghost use Rattle.std.specs.Prelude.{◌≡◌, List};
     ghost use Rattle.ordered_maps.specs.Pages.{first_prefix};
 
@@ -51,28 +51,32 @@ fn first_prefix<K: Prefixed, V>(entries: &VecDeque<(K, V)>) -> u64
     }
 }
 
-impl<K: Prefixed, V> Page<K, V> {
+impl<K: Prefixed, V> MapPage<K, V> {
     /// A page of these entries.
-    pub(crate) fn of(entries: VecDeque<(K, V)>) -> Page<K, V>
+    pub(crate) fn of(entries: VecDeque<(K, V)>) -> MapPage<K, V>
         ensures { result ≡ entries.items }
     {
-        Page {
+        MapPage {
             first: first_prefix(&entries),
             entries,
         }
     }
 }
 
-impl<K: Prefixed + Drop, V: Drop> Page<K, V> {
+impl<K: Prefixed + Drop, V: Drop> MapPage<K, V> {
     /// A page of one entry, with room for some at once.
-    pub(crate) fn begin(alloc: Global, room: usize, entry: (K, V)) -> Result<Page<K, V>, AllocError>
+    pub(crate) fn begin(
+        alloc: Global,
+        room: usize,
+        entry: (K, V),
+    ) -> Result<MapPage<K, V>, AllocError>
         ensures { IfOk result (λ page. page ≡ entry ∷ []) }
     {
         let mut entries = VecDeque::with_capacity(alloc, room)?;
         if entries.push_back(entry).is_err() {
             return Err(AllocError);
         }
-        Ok(Page::of(entries))
+        Ok(MapPage::of(entries))
     }
 
     /// How many entries it has.
@@ -165,7 +169,7 @@ impl<K: Prefixed + Drop, V: Drop> Page<K, V> {
     }
 
     /// Takes the entries from an index on out, as a page of their own. Where there is no memory the page stays as it was.
-    pub(crate) fn split_off(&mut self, index: usize) -> Result<Page<K, V>, AllocError>
+    pub(crate) fn split_off(&mut self, index: usize) -> Result<MapPage<K, V>, AllocError>
         requires { index ≤ length self.old }
         ensures kept { OnOk result (self.new ≡ take index self.old) }
         ensures rest { IfOk result (λ page. page ≡ drop index self.old) }
@@ -174,13 +178,13 @@ impl<K: Prefixed + Drop, V: Drop> Page<K, V> {
         let entries = self.entries.split_off(index)?;
         self.entries.shrink_to_fit();
         self.first = first_prefix(&self.entries);
-        Ok(Page::of(entries))
+        Ok(MapPage::of(entries))
     }
 }
 
-impl<K: Prefixed, V> Page<K, V> {
+impl<K: Prefixed, V> MapPage<K, V> {
     /// Whether the first key is above another. Its prefix tells mostly, without a look at the entries.
-    pub(crate) fn starts_above<Q: Sought<K>>(&self, key: &Q) -> bool
+    pub(crate) fn starts_above<Q: Lookup<K>>(&self, key: &Q) -> bool
         ensures { result ≡ starts_above K.cmp (Q.key key.now) self.now }
     {
         let prefix = key.key_prefix();
@@ -194,7 +198,7 @@ impl<K: Prefixed, V> Page<K, V> {
     }
 
     /// Where a key stands, or would stand.
-    pub(crate) fn find<Q: Sought<K>>(&self, key: &Q) -> Result<usize, usize>
+    pub(crate) fn find<Q: Lookup<K>>(&self, key: &Q) -> Result<usize, usize>
         ensures bound { IsSearchInRange result (length self.now) }
         ensures position { IsBinarySearchResult (λ e. K.cmp e.0 (Q.key key.now)) self.now result }
     {

@@ -6,7 +6,7 @@ ghost use Rattle.real_file.specs.Model.{replay};
 
 use crate::record::Record;
 use crate::{RealFile, calls};
-use block_file::{DeviceError, Source};
+use block_file::{ByteSource, DeviceError};
 use std::alloc::{AllocError, Global};
 use std::fs::File;
 
@@ -38,7 +38,7 @@ pub struct RealSource {
     pub(crate) ghost named: { (c : List ℕ) → (replay log.events).other c → ⊥ },
 }
 
-impl Source for RealSource {
+impl ByteSource for RealSource {
     ghost got = { λ s. (replay s.log.events).seen };
 
     ghost faults = { λ s. (replay s.log.events).faults };

@@ -6,8 +6,8 @@ use byte_text::Text;
 use change_lines::read_change;
 use chat_change::Change;
 use cluster_directory::{
-    Account, Channels, Directory, Entry, Life, Network, NodeName, PeerTerms, SessionConfig,
-    SharedWord, Terms, Version,
+    Channels, ConfiguredAccount, Directory, Entry, Life, Network, NodeName, PeerTerms,
+    SessionConfig, SharedWord, Terms, Version,
 };
 use node_ports::Accounts;
 use std::alloc::Global;
@@ -24,9 +24,9 @@ fn network_of(alloc: Global, name: &str) -> Option<Network> {
 }
 
 // An account with those of the first networks, so many, that are its own.
-fn account_of(alloc: Global, name: &str, count: usize) -> Option<Account> {
+fn account_of(alloc: Global, name: &str, count: usize) -> Option<ConfiguredAccount> {
     let (text, secret) = text(alloc, name).zip(text(alloc, "s3cret"))?;
-    let mut account = Account::new(alloc, text, secret);
+    let mut account = ConfiguredAccount::new(alloc, text, secret);
     for (owner, network) in NETWORKS.iter().take(count) {
         if *owner == name {
             account.add(network_of(alloc, network)?).ok()?;

@@ -12,7 +12,7 @@ use Rattle.chat_change.specs.declared.message.Kind.TheVariants as kind
 use Rattle.upstream_session.specs.Command.{command_of}
 use Rattle.upstream_session.specs.declared.command.ServerCommand.{ServerCommand}
 use Rattle.upstream_session.specs.declared.command.ServerCommand.TheVariants.{Cap, Welcome, Greeting, NickInUse, Ping, Nick, Join, Part, Kick, Error, Privmsg, Notice, Redact, Tagmsg, Other}
-use Rattle.upstream_session.specs.declared.connection.Connection.{Connection}
+use Rattle.upstream_session.specs.declared.connection.ServerSession.{ServerSession}
 use Rattle.upstream_session.specs.declared.connection.TheConstants.{LAST_SERIAL, MOST_TRIES}
 use Rattle.upstream_session.specs.Step.{ServerStep, stays}
 use Rattle.upstream_session.specs.Messages.{is_same_nick, can_be_kept, stamp_of, made_id}
@@ -21,9 +21,9 @@ use Rattle.upstream_session.specs.Session.{step, reading_step, joined_in, joined
 use Rattle.upstream_session.specs.Events.{Line, after}
 use Rattle.upstream_session.proofs.CourseLemmas.{either}
 
-module _ (u : Connection) where
+module _ (u : ServerSession) where
   -- a session that joined none since
-  abbrev pub Stays : Connection → Type 0
+  abbrev pub Stays : ServerSession → Type 0
   Stays v = JoinsNone u.entry.channels v.entry.channels
 
   abbrev pub StepStays : ServerStep → Type 0
@@ -131,6 +131,6 @@ module _ (u : Connection) where
   by_end now bytes true r e = inl refl
   by_end now bytes false r e = by_reading now bytes r e
 
-pub joins_none : (u : Connection) (now : ℕ) (bytes : List ℕ) → joined u bytes ≡ None → JoinsNone u.entry.channels (after u (Line now bytes)).entry.channels
+pub joins_none : (u : ServerSession) (now : ℕ) (bytes : List ℕ) → joined u bytes ≡ None → JoinsNone u.entry.channels (after u (Line now bytes)).entry.channels
 unfolding step
 joins_none u now bytes e = by_end u now bytes u.is_closed (read Server bytes) e

@@ -22,7 +22,7 @@ use Rattle.upstream_session.specs.declared.command.ServerCommand.{ServerCommand}
 use Rattle.upstream_session.specs.declared.command.ServerCommand.TheVariants.{Cap, Welcome, Greeting, NickInUse, Ping, Nick, Join, Part, Kick, Error, Privmsg, Notice, Redact, Tagmsg, Other}
 use Rattle.upstream_session.specs.declared.connection.TheConstants.{LAST_SERIAL}
 use Rattle.upstream_session.specs.declared.connection.Home.{Home}
-use Rattle.upstream_session.specs.declared.connection.Connection.{Connection}
+use Rattle.upstream_session.specs.declared.connection.ServerSession.{ServerSession}
 use Rattle.upstream_session.specs.declared.effect.UpEffect.{UpEffect}
 use Rattle.upstream_session.specs.declared.effect.UpEffect.TheVariants.{Send, Put, Relay, Close}
 use Rattle.irc_caps.specs.declared.recipients.Recipients.TheVariants.{Holding}
@@ -74,7 +74,7 @@ IsPassed home Close = ⊥
 
 -- another session of the same home, with the same serial number, which is over just where it was, and is up only if it was, or
 -- was welcomed
-pub record Same (W : Type 0) (u v : Connection) : Type 0 where
+pub record Same (W : Type 0) (u v : ServerSession) : Type 0 where
   pub home : v.home ≡ u.home
   pub serial : v.serial ≡ u.serial
   pub over : v.is_closed ≡ u.is_closed
@@ -82,7 +82,7 @@ pub record Same (W : Type 0) (u v : Connection) : Type 0 where
 
 -- lines to the server; lines that are passed on; a message with these tags, and an id of its own or one that is made; the
 -- end
-pub data Course (W : Type 0) (id_of : Option (List ℕ)) (borne : List ℕ) (u : Connection) (s : ServerStep) : Type 0 where
+pub data Course (W : Type 0) (id_of : Option (List ℕ)) (borne : List ℕ) (u : ServerSession) (s : ServerStep) : Type 0 where
   quiet : Same W u s.session → AllByRecursion IsSend s.effects → Course W id_of borne u s
   passing : u.entry.is_up ≡ true → Same W u s.session → AllByRecursion (IsPassed u.home) s.effects → Course W id_of borne u s
   kept : (id : List ℕ) (at : ℕ) (m : Message) → u.entry.is_up ≡ true → id_of ≡ Some id → s.session ≡ u
@@ -92,14 +92,14 @@ pub data Course (W : Type 0) (id_of : Option (List ℕ)) (borne : List ℕ) (u :
       → s.effects ≡ before ++ post u (made_text u.home u.serial) at borne m ∷ [] → Course W id_of borne u s
   closed : s.session ≡ record u { is_closed = true } → s.effects ≡ Close ∷ [] → Course W id_of borne u s
 
-module _ (W : Type 0) (id_of : Option (List ℕ)) (borne : List ℕ) (u : Connection) where
+module _ (W : Type 0) (id_of : Option (List ℕ)) (borne : List ℕ) (u : ServerSession) where
   pub itself : Same W u u
   itself = record { home = refl; serial = refl; over = refl; up = λ h. inl h }
 
   pub says : (effects : List UpEffect) → AllByRecursion IsSend effects → Course W id_of borne u (stays u effects)
   says effects all = quiet itself all
 
-  passes : (v : Connection) → Same W u v → (line : Reading) (bytes : List ℕ) → Course W id_of borne u (stays v (pass_on u line bytes))
+  passes : (v : ServerSession) → Same W u v → (line : Reading) (bytes : List ℕ) → Course W id_of borne u (stays v (pass_on u line bytes))
   passes v same line bytes =
       either_by (λ (l : List UpEffect). Course W id_of borne u (stays v l)) u.entry.is_up (relay_to_all line bytes) []
       (λ h. passing h same (tt, tt)) (λ h. quiet same tt)
@@ -164,11 +164,11 @@ module _ (W : Type 0) (id_of : Option (List ℕ)) (borne : List ℕ) (u : Connec
   is_kicked [] = itself
   is_kicked (channel ∷ []) = itself
   is_kicked (channel ∷ nick ∷ more) =
-      either (λ (v : Connection). Same W u v) (is_same_nick nick u.entry.nick) (record { home = refl; serial = refl; over = refl; up = λ h. inl h }) itself
+      either (λ (v : ServerSession). Same W u v) (is_same_nick nick u.entry.nick) (record { home = refl; serial = refl; over = refl; up = λ h. inl h }) itself
 
-  pub moves : (b : Bool) (v : Connection) → Same W u v → (line : Reading) (bytes : List ℕ)
+  pub moves : (b : Bool) (v : ServerSession) → Same W u v → (line : Reading) (bytes : List ℕ)
       → Course W id_of borne u (stays (if b then v else u) (pass_on u line bytes))
-  moves b v same line bytes = passes (if b then v else u) (either (λ (w : Connection). Same W u w) b same itself) line bytes
+  moves b v same line bytes = passes (if b then v else u) (either (λ (w : ServerSession). Same W u w) b same itself) line bytes
 
   pub nick_row : (line : Reading) (bytes : List ℕ) → Course W id_of borne u (stays (if is_up_and_own u line then with_nick u (first_target line.parameters) else u) (pass_on u line bytes))
   nick_row line bytes = moves (is_up_and_own u line) (with_nick u (first_target line.parameters)) (renamed (first_target line.parameters)) line bytes
@@ -305,7 +305,7 @@ same_id : (tags : Option (List ℕ)) (now : ℕ) → (stamp_of tags 0).id ≡ (s
 same_id None now = refl
 same_id (Some text) now = refl
 
-row : (u : Connection) (now : ℕ) (bytes : List ℕ) (line : Reading) (command : ServerCommand)
+row : (u : ServerSession) (now : ℕ) (bytes : List ℕ) (line : Reading) (command : ServerCommand)
     → Course (command ≡ Welcome) (stamp_of line.tags 0).id (kept_tags line.tags) u (serve u now bytes line command)
 row u now bytes line Cap = cap_row _ _ _ u line.parameters
 row u now bytes line Welcome = welcome_row _ _ _ u refl line.parameters
@@ -323,7 +323,7 @@ row u now bytes line Notice = message_row _ _ _ u now kind.Notice line bytes ref
 row u now bytes line Redact = redact_row _ _ _ u line bytes line.parameters
 row u now bytes line Other = moves _ _ _ u true u (itself _ None [] u) line bytes
 
-pub line_course : (u : Connection) (now : ℕ) (bytes : List ℕ) (reading : Result Reading LineFault)
+pub line_course : (u : ServerSession) (now : ℕ) (bytes : List ℕ) (reading : Result Reading LineFault)
     → Course (IsWelcomeRead reading) (id_read reading) (kept_tags (tags_read reading)) u (reading_step u now bytes reading)
 line_course u now bytes (Err fault) = says _ _ _ u [] tt
 line_course u now bytes (Ok line) = row u now bytes line (command_of line.command)

@@ -16,7 +16,7 @@ use Rattle.chat_change.specs.declared.change.Change.TheVariants as change
 use Rattle.upstream_session.specs.declared.connection.TheConstants.{LAST_SERIAL}
 use Rattle.cluster_directory.specs.declared.config.SessionConfig.{SessionConfig}
 use Rattle.upstream_session.specs.declared.connection.Home.{Home}
-use Rattle.upstream_session.specs.declared.connection.Connection.{Connection}
+use Rattle.upstream_session.specs.declared.connection.ServerSession.{ServerSession}
 use Rattle.upstream_session.specs.declared.effect.UpEffect.{UpEffect}
 use Rattle.upstream_session.specs.declared.effect.UpEffect.TheVariants.{Send, Put, Relay, Close}
 use Rattle.upstream_session.specs.Step.{ServerStep, stays, new}
@@ -30,7 +30,7 @@ use Rattle.upstream_session.proofs.CourseLemmas as course
 
 -- ---- one event
 
-pub course_of : (u : Connection) (e : ServerEvent) → Course (IsWelcome e) (id_given e) (tags_given u e) u (step_by u e)
+pub course_of : (u : ServerSession) (e : ServerEvent) → Course (IsWelcome e) (id_given e) (tags_given u e) u (step_by u e)
 unfolding step say
 course_of u (event.Line now bytes) =
     either (λ (s : ServerStep). Course (IsWelcome (event.Line now bytes)) (id_given (event.Line now bytes)) (tags_given u (event.Line now bytes)) u s) u.is_closed
@@ -43,12 +43,12 @@ closed_choice : {X : Type 0} (b : Bool) (x y : X) → b ≡ true → (if b then 
 closed_choice true x y h = refl
 closed_choice false x y h = absurd (cc)
 
-pub closed_step : (u : Connection) (e : ServerEvent) → u.is_closed ≡ true → step_by u e ≡ stays u []
+pub closed_step : (u : ServerSession) (e : ServerEvent) → u.is_closed ≡ true → step_by u e ≡ stays u []
 unfolding step say
 closed_step u (event.Line now bytes) h = closed_choice u.is_closed (stays u []) (reading_step u now bytes (read Server bytes)) h
 closed_step u (event.Saying now bytes) h = closed_choice u.is_closed (stays u []) (say_line u now (without_ending bytes)) h
 
-pub closed_start : (u : Connection) → u.is_closed ≡ true → start u ≡ []
+pub closed_start : (u : ServerSession) → u.is_closed ≡ true → start u ≡ []
 closed_start u h = closed_choice u.is_closed [] (opening u) h
 
 -- ---- lists of effects
@@ -89,7 +89,7 @@ passed_is_own home Close h = tt
 abbrev pub AreOwn : Home → List UpEffect → Type 0
 AreOwn home effects = AllByRecursion (IsOwnEffect home) effects
 
-own : (W : Type 0) (id_of : Option (List ℕ)) (borne : List ℕ) (u : Connection) (s : ServerStep) → Course W id_of borne u s → AreOwn u.home s.effects
+own : (W : Type 0) (id_of : Option (List ℕ)) (borne : List ℕ) (u : ServerSession) (s : ServerStep) → Course W id_of borne u s → AreOwn u.home s.effects
 own W id_of borne u s (course.quiet same all) = all_map (send_is_own u.home) s.effects all
 own W id_of borne u s (course.passing up same all) = all_map (passed_is_own u.home) s.effects all
 own W id_of borne u s (course.kept id at m up is session effects) = all_by (IsOwnEffect u.home) _ _ effects ((refl, refl), tt)
@@ -98,21 +98,21 @@ own W id_of borne u s (course.made before at m up session more all effects) =
     (all_append (IsOwnEffect u.home) before (post u (made_text u.home u.serial) at borne m ∷ []) (all_map (send_is_own u.home) before all) ((refl, refl), tt))
 own W id_of borne u s (course.closed session effects) = all_by (IsOwnEffect u.home) _ _ effects (tt, tt)
 
-same_home : (W : Type 0) (id_of : Option (List ℕ)) (borne : List ℕ) (u : Connection) (s : ServerStep) → Course W id_of borne u s → s.session.home ≡ u.home
+same_home : (W : Type 0) (id_of : Option (List ℕ)) (borne : List ℕ) (u : ServerSession) (s : ServerStep) → Course W id_of borne u s → s.session.home ≡ u.home
 same_home W id_of borne u s (course.quiet same all) = same.home
 same_home W id_of borne u s (course.passing up same all) = same.home
-same_home W id_of borne u s (course.kept id at m up is session effects) = ap (λ (v : Connection). v.home) session
-same_home W id_of borne u s (course.made before at m up session more all effects) = ap (λ (v : Connection). v.home) session
-same_home W id_of borne u s (course.closed session effects) = ap (λ (v : Connection). v.home) session
+same_home W id_of borne u s (course.kept id at m up is session effects) = ap (λ (v : ServerSession). v.home) session
+same_home W id_of borne u s (course.made before at m up session more all effects) = ap (λ (v : ServerSession). v.home) session
+same_home W id_of borne u s (course.closed session effects) = ap (λ (v : ServerSession). v.home) session
 
-pub home_after : (u : Connection) (e : ServerEvent) → (after u e).home ≡ u.home
+pub home_after : (u : ServerSession) (e : ServerEvent) → (after u e).home ≡ u.home
 home_after u e = same_home (IsWelcome e) (id_given e) (tags_given u e) u (step_by u e) (course_of u e)
 
-pub home_run : (u : Connection) (events : List ServerEvent) → (run u events).home ≡ u.home
+pub home_run : (u : ServerSession) (events : List ServerEvent) → (run u events).home ≡ u.home
 home_run u [] = refl
 home_run u (e ∷ events) = home_run (after u e) events ∙ home_after u e
 
-pub own_effects : (u : Connection) (events : List ServerEvent) → AreOwn u.home (all_effects u events)
+pub own_effects : (u : ServerSession) (events : List ServerEvent) → AreOwn u.home (all_effects u events)
 own_effects u [] = tt
 own_effects u (e ∷ events) =
     all_append (IsOwnEffect u.home) (effects_of u e) (all_effects (after u e) events)
@@ -131,21 +131,21 @@ not_up : (b : Bool) → b ≡ false → ¬ (b ≡ true)
 not_up true down up = absurd (cc)
 not_up false down up = absurd (cc)
 
-unheard : (W : Type 0) (id_of : Option (List ℕ)) (borne : List ℕ) (u : Connection) (s : ServerStep) → ¬ (u.entry.is_up ≡ true) → Course W id_of borne u s → AllByRecursion IsUnheard s.effects
+unheard : (W : Type 0) (id_of : Option (List ℕ)) (borne : List ℕ) (u : ServerSession) (s : ServerStep) → ¬ (u.entry.is_up ≡ true) → Course W id_of borne u s → AllByRecursion IsUnheard s.effects
 unheard W id_of borne u s down (course.quiet same all) = all_map send_is_unheard s.effects all
 unheard W id_of borne u s down (course.passing up same all) = absurd (down up)
 unheard W id_of borne u s down (course.kept id at m up is session effects) = absurd (down up)
 unheard W id_of borne u s down (course.made before at m up session more all effects) = absurd (down up)
 unheard W id_of borne u s down (course.closed session effects) = all_by IsUnheard _ _ effects (tt, tt)
 
-stays_down : (W : Type 0) (id_of : Option (List ℕ)) (borne : List ℕ) (u : Connection) (s : ServerStep) → ¬ (u.entry.is_up ≡ true) → ¬ W → Course W id_of borne u s → ¬ (s.session.entry.is_up ≡ true)
+stays_down : (W : Type 0) (id_of : Option (List ℕ)) (borne : List ℕ) (u : ServerSession) (s : ServerStep) → ¬ (u.entry.is_up ≡ true) → ¬ W → Course W id_of borne u s → ¬ (s.session.entry.is_up ≡ true)
 stays_down W id_of borne u s down never (course.quiet same all) h = ⊎_elim down never (same.up h)
 stays_down W id_of borne u s down never (course.passing up same all) h = down up
 stays_down W id_of borne u s down never (course.kept id at m up is session effects) h = down up
 stays_down W id_of borne u s down never (course.made before at m up session more all effects) h = down up
-stays_down W id_of borne u s down never (course.closed session effects) h = down (sym (ap (λ (v : Connection). v.entry.is_up) session) ∙ h)
+stays_down W id_of borne u s down never (course.closed session effects) h = down (sym (ap (λ (v : ServerSession). v.entry.is_up) session) ∙ h)
 
-pub unheard_effects : (u : Connection) (events : List ServerEvent) → ¬ (u.entry.is_up ≡ true) → AllByRecursion (λ e. ¬ IsWelcome e) events
+pub unheard_effects : (u : ServerSession) (events : List ServerEvent) → ¬ (u.entry.is_up ≡ true) → AllByRecursion (λ e. ¬ IsWelcome e) events
     → AllByRecursion IsUnheard (all_effects u events)
 unheard_effects u [] down never = tt
 unheard_effects u (e ∷ events) down never =
@@ -160,37 +160,37 @@ unheard_from_new config node incarnation first_serial events never =
 
 -- ---- made ids
 
-send_has_id : (old new : Connection) (id_of : Option (List ℕ)) (e : UpEffect) → IsSend e → IsIdOf old new id_of e
+send_has_id : (old new : ServerSession) (id_of : Option (List ℕ)) (e : UpEffect) → IsSend e → IsIdOf old new id_of e
 send_has_id old new id_of (Send bytes) h = tt
 send_has_id old new id_of (Put change) h = absurd h
 send_has_id old new id_of (Relay bytes to) h = tt
 send_has_id old new id_of Close h = tt
 
-redaction_has_id : (old new : Connection) (id_of : Option (List ℕ)) (c : Change) → IsOwnRedaction old.home c → IsIdOf old new id_of (Put c)
+redaction_has_id : (old new : ServerSession) (id_of : Option (List ℕ)) (c : Change) → IsOwnRedaction old.home c → IsIdOf old new id_of (Put c)
 redaction_has_id old new id_of (change.Post r) h = absurd h
 redaction_has_id old new id_of (change.Redact buffer id at) h = tt
 redaction_has_id old new id_of (change.Mark buffer at) h = tt
 redaction_has_id old new id_of (change.Floor buffer at) h = tt
 redaction_has_id old new id_of (change.AccountFloor account at) h = tt
 
-passed_has_id : (old new : Connection) (id_of : Option (List ℕ)) (e : UpEffect) → IsPassed old.home e → IsIdOf old new id_of e
+passed_has_id : (old new : ServerSession) (id_of : Option (List ℕ)) (e : UpEffect) → IsPassed old.home e → IsIdOf old new id_of e
 passed_has_id old new id_of (Send bytes) h = tt
 passed_has_id old new id_of (Put c) h = redaction_has_id old new id_of c h
 passed_has_id old new id_of (Relay bytes to) h = tt
 passed_has_id old new id_of Close h = tt
 
-ids : (W : Type 0) (id_of : Option (List ℕ)) (borne : List ℕ) (u : Connection) (s : ServerStep) → Course W id_of borne u s → AllByRecursion (IsIdOf u s.session id_of) s.effects
+ids : (W : Type 0) (id_of : Option (List ℕ)) (borne : List ℕ) (u : ServerSession) (s : ServerStep) → Course W id_of borne u s → AllByRecursion (IsIdOf u s.session id_of) s.effects
 ids W id_of borne u s (course.quiet same all) = all_map (send_has_id u s.session id_of) s.effects all
 ids W id_of borne u s (course.passing up same all) = all_map (passed_has_id u s.session id_of) s.effects all
 ids W id_of borne u s (course.kept id at m up is session effects) =
-    all_by (IsIdOf u s.session id_of) _ _ effects (inl (is, ap (λ (v : Connection). v.serial) session), tt)
+    all_by (IsIdOf u s.session id_of) _ _ effects (inl (is, ap (λ (v : ServerSession). v.serial) session), tt)
 ids W id_of borne u s (course.made before at m up session more all effects) =
     all_by (IsIdOf u s.session id_of) _ _ effects
     (all_append (IsIdOf u s.session id_of) before (post u (made_text u.home u.serial) at borne m ∷ []) (all_map (send_has_id u s.session id_of) before all)
-    (inr (refl, ap (λ (v : Connection). v.serial) session), tt))
+    (inr (refl, ap (λ (v : ServerSession). v.serial) session), tt))
 ids W id_of borne u s (course.closed session effects) = all_by (IsIdOf u s.session id_of) _ _ effects (tt, tt)
 
-pub own_ids : (u : Connection) (e : ServerEvent) → AllByRecursion (IsIdOf u (after u e) (id_given e)) (effects_of u e)
+pub own_ids : (u : ServerSession) (e : ServerEvent) → AllByRecursion (IsIdOf u (after u e) (id_given e)) (effects_of u e)
 own_ids u e = ids (IsWelcome e) (id_given e) (tags_given u e) u (step_by u e) (course_of u e)
 
 -- ---- tags
@@ -214,7 +214,7 @@ passed_has_tags home tags (Put c) h = redaction_has_tags home tags c h
 passed_has_tags home tags (Relay bytes to) h = tt
 passed_has_tags home tags Close h = tt
 
-with_tags : (W : Type 0) (id_of : Option (List ℕ)) (borne : List ℕ) (u : Connection) (s : ServerStep) → Course W id_of borne u s
+with_tags : (W : Type 0) (id_of : Option (List ℕ)) (borne : List ℕ) (u : ServerSession) (s : ServerStep) → Course W id_of borne u s
     → AllByRecursion (HasTags borne) s.effects
 with_tags W id_of borne u s (course.quiet same all) = all_map (send_has_tags borne) s.effects all
 with_tags W id_of borne u s (course.passing up same all) = all_map (passed_has_tags u.home borne) s.effects all
@@ -224,12 +224,12 @@ with_tags W id_of borne u s (course.made before at m up session more all effects
     (all_append (HasTags borne) before (post u (made_text u.home u.serial) at borne m ∷ []) (all_map (send_has_tags borne) before all) (refl, tt))
 with_tags W id_of borne u s (course.closed session effects) = all_by (HasTags borne) _ _ effects (tt, tt)
 
-pub own_tags : (u : Connection) (e : ServerEvent) → AllByRecursion (HasTags (tags_given u e)) (effects_of u e)
+pub own_tags : (u : ServerSession) (e : ServerEvent) → AllByRecursion (HasTags (tags_given u e)) (effects_of u e)
 own_tags u e = with_tags (IsWelcome e) (id_given e) (tags_given u e) u (step_by u e) (course_of u e)
 
 -- ---- used serial numbers
 
-has_post : (id : List ℕ) (before : List UpEffect) (u : Connection) (at : ℕ) (tags : List ℕ) (m : Message) → AllByRecursion IsSend before → HasPost id (before ++ post u id at tags m ∷ [])
+has_post : (id : List ℕ) (before : List UpEffect) (u : ServerSession) (at : ℕ) (tags : List ℕ) (m : Message) → AllByRecursion IsSend before → HasPost id (before ++ post u id at tags m ∷ [])
 has_post id [] u at tags m all = inl refl
 has_post id (Send bytes ∷ before) u at tags m all = has_post id before u at tags m all.1
 has_post id (Put change ∷ before) u at tags m all = absurd all.0
@@ -237,35 +237,35 @@ has_post id (Relay bytes to ∷ before) u at tags m all = absurd all.0
 has_post id (Close ∷ before) u at tags m all = absurd all.0
 
 -- the serial number stays, or is used for a post that was put
-abbrev pub Counts : Connection → ServerStep → Type 0
+abbrev pub Counts : ServerSession → ServerStep → Type 0
 Counts u s = (s.session.serial ≡ u.serial) ⊎ ((s.session.serial ≡ u.serial + 1) × HasPost (made_text u.home u.serial) s.effects)
 
-counts : (W : Type 0) (id_of : Option (List ℕ)) (borne : List ℕ) (u : Connection) (s : ServerStep) → Course W id_of borne u s → Counts u s
+counts : (W : Type 0) (id_of : Option (List ℕ)) (borne : List ℕ) (u : ServerSession) (s : ServerStep) → Course W id_of borne u s → Counts u s
 counts W id_of borne u s (course.quiet same all) = inl same.serial
 counts W id_of borne u s (course.passing up same all) = inl same.serial
-counts W id_of borne u s (course.kept id at m up is session effects) = inl (ap (λ (v : Connection). v.serial) session)
+counts W id_of borne u s (course.kept id at m up is session effects) = inl (ap (λ (v : ServerSession). v.serial) session)
 counts W id_of borne u s (course.made before at m up session more all effects) =
-    inr (ap (λ (v : Connection). v.serial) session, subst (λ (l : List UpEffect). HasPost (made_text u.home u.serial) l) (sym effects) (has_post _ before u at borne m all))
-counts W id_of borne u s (course.closed session effects) = inl (ap (λ (v : Connection). v.serial) session)
+    inr (ap (λ (v : ServerSession). v.serial) session, subst (λ (l : List UpEffect). HasPost (made_text u.home u.serial) l) (sym effects) (has_post _ before u at borne m all))
+counts W id_of borne u s (course.closed session effects) = inl (ap (λ (v : ServerSession). v.serial) session)
 
-pub counted : (u : Connection) (e : ServerEvent) → Counts u (step_by u e)
+pub counted : (u : ServerSession) (e : ServerEvent) → Counts u (step_by u e)
 counted u e = counts (IsWelcome e) (id_given e) (tags_given u e) u (step_by u e) (course_of u e)
 
 -- so it never falls
-serial_grows : (u : Connection) (e : ServerEvent) → u.serial ≤ (after u e).serial
+serial_grows : (u : ServerSession) (e : ServerEvent) → u.serial ≤ (after u e).serial
 serial_grows u e = ⊎_elim (λ h. omega (arith, h)) (λ h. omega (arith, h.0)) (counted u e)
 
-no_more : (W : Type 0) (id_of : Option (List ℕ)) (borne : List ℕ) (u : Connection) (s : ServerStep) → u.serial ≤ LAST_SERIAL → Course W id_of borne u s → s.session.serial ≤ LAST_SERIAL
+no_more : (W : Type 0) (id_of : Option (List ℕ)) (borne : List ℕ) (u : ServerSession) (s : ServerStep) → u.serial ≤ LAST_SERIAL → Course W id_of borne u s → s.session.serial ≤ LAST_SERIAL
 no_more W id_of borne u s h (course.quiet same all) = subst (λ (n : ℕ). n ≤ LAST_SERIAL) (sym same.serial) h
 no_more W id_of borne u s h (course.passing up same all) = subst (λ (n : ℕ). n ≤ LAST_SERIAL) (sym same.serial) h
-no_more W id_of borne u s h (course.kept id at m up is session effects) = subst (λ (v : Connection). v.serial ≤ LAST_SERIAL) (sym session) h
+no_more W id_of borne u s h (course.kept id at m up is session effects) = subst (λ (v : ServerSession). v.serial ≤ LAST_SERIAL) (sym session) h
 no_more W id_of borne u s h (course.made before at m up session more all effects) =
-    subst (λ (v : Connection). v.serial ≤ LAST_SERIAL) (sym session) (below_last u.serial LAST_SERIAL h more) where
+    subst (λ (v : ServerSession). v.serial ≤ LAST_SERIAL) (sym session) (below_last u.serial LAST_SERIAL h more) where
       below_last : (n last : ℕ) → n ≤ last → ¬ (n ≡ last) → n + 1 ≤ last
       below_last n last h other = omega (arith, other)
-no_more W id_of borne u s h (course.closed session effects) = subst (λ (v : Connection). v.serial ≤ LAST_SERIAL) (sym session) h
+no_more W id_of borne u s h (course.closed session effects) = subst (λ (v : ServerSession). v.serial ≤ LAST_SERIAL) (sym session) h
 
-pub last_serial : (u : Connection) (e : ServerEvent) → u.serial ≤ LAST_SERIAL → (after u e).serial ≤ LAST_SERIAL
+pub last_serial : (u : ServerSession) (e : ServerEvent) → u.serial ≤ LAST_SERIAL → (after u e).serial ≤ LAST_SERIAL
 last_serial u e h = no_more (IsWelcome e) (id_given e) (tags_given u e) u (step_by u e) h (course_of u e)
 
 -- an id that is made of a serial number from that one on
@@ -298,10 +298,10 @@ apart home n h (id ∷ ids) all = (
 )
 
 -- the ids made by one event, and then by others
-abbrev pub MadeOnce : Connection → List (List ℕ) → Type 0
+abbrev pub MadeOnce : ServerSession → List (List ℕ) → Type 0
 MadeOnce u ids = AllByRecursion (IsMadeFrom u.home u.serial) ids × IsDistinct bytes_eq ids
 
-joined_ids : (u : Connection) (e : ServerEvent) (more : List (List ℕ)) → u.serial ≤ LAST_SERIAL → MadeOnce (after u e) more → MadeOnce u (ids_made_by u e ++ more)
+joined_ids : (u : ServerSession) (e : ServerEvent) (more : List (List ℕ)) → u.serial ≤ LAST_SERIAL → MadeOnce (after u e) more → MadeOnce u (ids_made_by u e ++ more)
 unfolding IsDistinct
 joined_ids u e more h rest =
     let home : AllByRecursion (IsMadeFrom u.home (after u e).serial) more =
@@ -315,12 +315,12 @@ joined_ids u e more h rest =
       grown (inl same) other = absurd (other same)
       grown (inr next) other = omega (arith, next.0)
 
-made_once : (u : Connection) (events : List ServerEvent) → u.serial ≤ LAST_SERIAL → MadeOnce u (ids_made u events)
+made_once : (u : ServerSession) (events : List ServerEvent) → u.serial ≤ LAST_SERIAL → MadeOnce u (ids_made u events)
 unfolding IsDistinct
 made_once u [] h = (tt, tt)
 made_once u (e ∷ events) h = joined_ids u e (ids_made (after u e) events) h (made_once (after u e) events (last_serial u e h))
 
-pub once : (u : Connection) (events : List ServerEvent) → u.serial ≤ LAST_SERIAL → IsDistinct bytes_eq (ids_made u events)
+pub once : (u : ServerSession) (events : List ServerEvent) → u.serial ≤ LAST_SERIAL → IsDistinct bytes_eq (ids_made u events)
 once u events h = (made_once u events h).1
 
 -- ---- Close
@@ -339,22 +339,22 @@ passed_no_close home (Put change ∷ effects) all h = passed_no_close home effec
 passed_no_close home (Relay bytes to ∷ effects) all h = passed_no_close home effects all.1 h
 passed_no_close home (Close ∷ effects) all h = all.0
 
-post_no_close : (before : List UpEffect) (u : Connection) (id : List ℕ) (at : ℕ) (tags : List ℕ) (m : Message) → AllByRecursion IsSend before → ¬ HasClose (before ++ post u id at tags m ∷ [])
+post_no_close : (before : List UpEffect) (u : ServerSession) (id : List ℕ) (at : ℕ) (tags : List ℕ) (m : Message) → AllByRecursion IsSend before → ¬ HasClose (before ++ post u id at tags m ∷ [])
 post_no_close [] u id at tags m all h = h
 post_no_close (Send bytes ∷ before) u id at tags m all h = post_no_close before u id at tags m all.1 h
 post_no_close (Put change ∷ before) u id at tags m all h = all.0
 post_no_close (Relay bytes to ∷ before) u id at tags m all h = all.0
 post_no_close (Close ∷ before) u id at tags m all h = all.0
 
-ends : (W : Type 0) (id_of : Option (List ℕ)) (borne : List ℕ) (u : Connection) (s : ServerStep) → Course W id_of borne u s → HasClose s.effects → s.session.is_closed ≡ true
+ends : (W : Type 0) (id_of : Option (List ℕ)) (borne : List ℕ) (u : ServerSession) (s : ServerStep) → Course W id_of borne u s → HasClose s.effects → s.session.is_closed ≡ true
 ends W id_of borne u s (course.quiet same all) h = absurd (send_no_close s.effects all h)
 ends W id_of borne u s (course.passing up same all) h = absurd (passed_no_close u.home s.effects all h)
 ends W id_of borne u s (course.kept id at m up is session effects) h = absurd (post_no_close [] u id at borne m tt (subst HasClose effects h))
 ends W id_of borne u s (course.made before at m up session more all effects) h =
     absurd (post_no_close before u (made_text u.home u.serial) at borne m all (subst HasClose effects h))
-ends W id_of borne u s (course.closed session effects) h = ap (λ (v : Connection). v.is_closed) session
+ends W id_of borne u s (course.closed session effects) h = ap (λ (v : ServerSession). v.is_closed) session
 
-pub closes : (u : Connection) (e : ServerEvent) → HasClose (effects_of u e) → (after u e).is_closed ≡ true
+pub closes : (u : ServerSession) (e : ServerEvent) → HasClose (effects_of u e) → (after u e).is_closed ≡ true
 closes u e h = ends (IsWelcome e) (id_given e) (tags_given u e) u (step_by u e) (course_of u e) h
 
 -- Close is the last effect
@@ -365,7 +365,7 @@ open_ends (Put change ∷ effects) none = open_ends effects none
 open_ends (Relay bytes to ∷ effects) none = open_ends effects none
 open_ends (Close ∷ effects) none = absurd (none tt)
 
-last_of : (W : Type 0) (id_of : Option (List ℕ)) (borne : List ℕ) (u : Connection) (s : ServerStep) → Course W id_of borne u s → EndsAtClose s.effects
+last_of : (W : Type 0) (id_of : Option (List ℕ)) (borne : List ℕ) (u : ServerSession) (s : ServerStep) → Course W id_of borne u s → EndsAtClose s.effects
 last_of W id_of borne u s (course.quiet same all) = open_ends s.effects (λ h. send_no_close s.effects all h)
 last_of W id_of borne u s (course.passing up same all) = open_ends s.effects (λ h. passed_no_close u.home s.effects all h)
 last_of W id_of borne u s (course.kept id at m up is session effects) =
@@ -374,33 +374,33 @@ last_of W id_of borne u s (course.made before at m up session more all effects) 
     open_ends s.effects (λ h. post_no_close before u (made_text u.home u.serial) at borne m all (subst HasClose effects h))
 last_of W id_of borne u s (course.closed session effects) = subst EndsAtClose (sym effects) refl
 
-pub close_is_last : (u : Connection) (e : ServerEvent) → EndsAtClose (effects_of u e)
+pub close_is_last : (u : ServerSession) (e : ServerEvent) → EndsAtClose (effects_of u e)
 close_is_last u e = last_of (IsWelcome e) (id_given e) (tags_given u e) u (step_by u e) (course_of u e)
 
 -- and nothing else closes a session
-still_open : (W : Type 0) (id_of : Option (List ℕ)) (borne : List ℕ) (u : Connection) (s : ServerStep) → Course W id_of borne u s
+still_open : (W : Type 0) (id_of : Option (List ℕ)) (borne : List ℕ) (u : ServerSession) (s : ServerStep) → Course W id_of borne u s
     → u.is_closed ≡ false → s.session.is_closed ≡ true → HasClose s.effects
 still_open W id_of borne u s (course.quiet same all) was is = absurd (not_up u.is_closed was (sym same.over ∙ is))
 still_open W id_of borne u s (course.passing up same all) was is = absurd (not_up u.is_closed was (sym same.over ∙ is))
 still_open W id_of borne u s (course.kept id at m up given session effects) was is =
-    absurd (not_up u.is_closed was (sym (ap (λ (v : Connection). v.is_closed) session) ∙ is))
+    absurd (not_up u.is_closed was (sym (ap (λ (v : ServerSession). v.is_closed) session) ∙ is))
 still_open W id_of borne u s (course.made before at m up session more all effects) was is =
-    absurd (not_up u.is_closed was (sym (ap (λ (v : Connection). v.is_closed) session) ∙ is))
+    absurd (not_up u.is_closed was (sym (ap (λ (v : ServerSession). v.is_closed) session) ∙ is))
 still_open W id_of borne u s (course.closed session effects) was is = subst HasClose (sym effects) tt
 
-pub only_close_closes : (u : Connection) (e : ServerEvent) → u.is_closed ≡ false → (after u e).is_closed ≡ true → HasClose (effects_of u e)
+pub only_close_closes : (u : ServerSession) (e : ServerEvent) → u.is_closed ≡ false → (after u e).is_closed ≡ true → HasClose (effects_of u e)
 only_close_closes u e was is = still_open (IsWelcome e) (id_given e) (tags_given u e) u (step_by u e) (course_of u e) was is
 
-pub closed_run : (u : Connection) (events : List ServerEvent) → u.is_closed ≡ true → run u events ≡ u
+pub closed_run : (u : ServerSession) (events : List ServerEvent) → u.is_closed ≡ true → run u events ≡ u
 closed_run u [] h = refl
 closed_run u (e ∷ events) h =
     let same : after u e ≡ u = ap (λ (s : ServerStep). s.session) (closed_step u e h) in
-    ap (λ (v : Connection). run v events) same ∙ closed_run u events h
+    ap (λ (v : ServerSession). run v events) same ∙ closed_run u events h
 
-pub closed_effects : (u : Connection) (events : List ServerEvent) → u.is_closed ≡ true → all_effects u events ≡ []
+pub closed_effects : (u : ServerSession) (events : List ServerEvent) → u.is_closed ≡ true → all_effects u events ≡ []
 closed_effects u [] h = refl
 closed_effects u (e ∷ events) h =
     let same : after u e ≡ u = ap (λ (s : ServerStep). s.session) (closed_step u e h) in
     let none : effects_of u e ≡ [] = ap (λ (s : ServerStep). s.effects) (closed_step u e h) in
     ap (λ (l : List UpEffect). l ++ all_effects (after u e) events) none
-    ∙ ap (λ (v : Connection). all_effects v events) same ∙ closed_effects u events h
+    ∙ ap (λ (v : ServerSession). all_effects v events) same ∙ closed_effects u events h

@@ -8,13 +8,13 @@ use Rattle.irc_line.specs.Read.{read}
 use Rattle.upstream_session.specs.Command.{command_of}
 use Rattle.upstream_session.specs.declared.command.ServerCommand.{ServerCommand}
 use Rattle.upstream_session.specs.declared.command.ServerCommand.TheVariants.{Cap, Welcome, Greeting, NickInUse, Ping, Nick, Join, Part, Kick, Error, Privmsg, Notice, Redact, Tagmsg, Other}
-use Rattle.upstream_session.specs.declared.connection.Connection.{Connection}
+use Rattle.upstream_session.specs.declared.connection.ServerSession.{ServerSession}
 use Rattle.upstream_session.specs.Step.{stays}
 use Rattle.upstream_session.specs.Rows.{join_if, first_target, is_up_and_own, joined_by, serve}
 use Rattle.upstream_session.specs.Session.{step, reading_step, joined_in, joined}
 use Rattle.upstream_session.specs.Events.{Line, after}
 
-module _ (u : Connection) (now : ℕ) (bytes channel : List ℕ) where
+module _ (u : ServerSession) (now : ℕ) (bytes channel : List ℕ) where
   by_join : (own : Bool) (first : Option (List ℕ)) → (if own then first else None) ≡ Some channel
       → (if own then join_if u first else u) ≡ join_if u (Some channel)
   by_join true first e = ap (λ (c : Option (List ℕ)). join_if u c) e
@@ -79,4 +79,4 @@ module _ (u : Connection) (now : ℕ) (bytes channel : List ℕ) where
   joins_it_after e =
       let same : joined (join_if u (Some channel)) bytes ≡ joined u bytes =
       ap (λ (c : Option (List ℕ)). if u.is_closed then None else c) (same_by_reading (read Server bytes)) in
-      subst (λ (v : Connection). joined v bytes ≡ Some channel) (sym (joins_it e)) (same ∙ e)
+      subst (λ (v : ServerSession). joined v bytes ≡ Some channel) (sym (joins_it e)) (same ∙ e)

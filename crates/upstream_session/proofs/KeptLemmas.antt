@@ -10,14 +10,14 @@ use Rattle.chat_change.specs.Words.{is_tags}
 use Rattle.upstream_session.specs.Messages.{kept_read, kept_tags, post}
 use Rattle.upstream_session.specs.Sayings.{say_by_id, say_of_tags, send_of_tags, send_tagged}
 use Rattle.upstream_session.specs.Step.{stays}
-use Rattle.upstream_session.specs.declared.connection.Connection.{Connection}
+use Rattle.upstream_session.specs.declared.connection.ServerSession.{ServerSession}
 use Rattle.upstream_session.specs.declared.effect.UpEffect.TheVariants.{Send}
 
 pub kept_tags_read : (line : Option (List ℕ)) → kept_read (option_map tag_list line) ≡ kept_tags line
 kept_tags_read None = refl
 kept_tags_read (Some bytes) = ap (λ text. if is_tags text then text else []) (kept_text_read (Some bytes))
 
-pub say_read : (u : Connection) (now : ℕ) (text : List ℕ) (line : Option (List ℕ)) (m : Message) (id : Option (List ℕ))
+pub say_read : (u : ServerSession) (now : ℕ) (text : List ℕ) (line : Option (List ℕ)) (m : Message) (id : Option (List ℕ))
     → say_of_tags u now text (option_map tag_list line) m id ≡ say_by_id u now text line m id
 say_read u now text line m None = ap (λ tags. stays u (Send (tag_part tags ++ passed_line text) ∷ [])) (kept_text_read line)
 say_read u now text line m (Some id) = λ i. record {

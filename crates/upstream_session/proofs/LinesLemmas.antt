@@ -45,7 +45,7 @@ use Rattle.upstream_session.specs.declared.command.ServerCommand.{ServerCommand}
 use Rattle.upstream_session.specs.declared.command.ServerCommand.TheVariants.{Cap, Welcome, Greeting, NickInUse, Ping, Nick, Join, Part, Kick, Error, Privmsg, Notice, Redact, Tagmsg, Other}
 use Rattle.cluster_directory.specs.declared.config.SessionConfig.{SessionConfig}
 use Rattle.upstream_session.specs.declared.connection.TheConstants.{LAST_SERIAL, MOST_TRIES}
-use Rattle.upstream_session.specs.declared.connection.Connection.{Connection}
+use Rattle.upstream_session.specs.declared.connection.ServerSession.{ServerSession}
 use Rattle.upstream_session.specs.declared.effect.UpEffect.{UpEffect}
 use Rattle.upstream_session.specs.declared.effect.UpEffect.TheVariants.{Send, Relay}
 use Rattle.upstream_session.specs.Step.{ServerStep, stays, closes, new}
@@ -231,7 +231,7 @@ request_is_line offered = go (names_among offered wanted) (names_good (filter (�
 
 -- ---- what a session keeps
 
-record Stands (u : Connection) : Type 0 where
+record Stands (u : ServerSession) : Type 0 where
   entry : EntryStands u.entry
   user : is_target u.home.user ≡ true
   channels : list_all is_target u.home.channels ≡ true
@@ -240,10 +240,10 @@ record StepStands (s : ServerStep) : Type 0 where
   session : Stands s.session
   effects : AllByRecursion WritesOneLine s.effects
 
-abbrev with_entry : Connection → Entry → Connection
+abbrev with_entry : ServerSession → Entry → ServerSession
 with_entry u entry = record u { entry = entry }
 
-entered : (u : Connection) (entry : Entry) → Stands u → EntryStands entry → Stands (with_entry u entry)
+entered : (u : ServerSession) (entry : Entry) → Stands u → EntryStands entry → Stands (with_entry u entry)
 entered u entry s e = record { entry = e; user = s.user; channels = s.channels }
 
 target_if : (ps : List (List ℕ)) → IfSome (first_target ps) (λ t. is_target t ≡ true)
@@ -253,11 +253,11 @@ target_if (word ∷ words) = go (is_target word) refl where
   go true e = e
   go false e = tt
 
-renamed : (u : Connection) (nick : Option (List ℕ)) → Stands u → IfSome nick (λ t. is_target t ≡ true) → Stands (with_nick u nick)
+renamed : (u : ServerSession) (nick : Option (List ℕ)) → Stands u → IfSome nick (λ t. is_target t ≡ true) → Stands (with_nick u nick)
 renamed u None s p = s
 renamed u (Some nick) s p = entered u (record u.entry { nick = nick }) s (record { nick = p; channels = s.entry.channels })
 
-has_joined : (u : Connection) (channel : Option (List ℕ)) → Stands u → IfSome channel (λ t. is_target t ≡ true) → Stands (join_if u channel)
+has_joined : (u : ServerSession) (channel : Option (List ℕ)) → Stands u → IfSome channel (λ t. is_target t ≡ true) → Stands (join_if u channel)
 has_joined u None s p = s
 has_joined u (Some channel) s p = entered u (after_join u.entry channel) s (record { nick = s.entry.nick; channels = more }) where
   more : list_all is_target (with_channel u.entry.channels channel) ≡ true
@@ -273,12 +273,12 @@ fewer p (channel ∷ channels) e =
     let rest = fewer p channels both.1 in
     either (λ (l : List (List ℕ)). list_all is_target l ≡ true) (p channel) (and_from _ _ both.0 rest) rest
 
-has_parted : (u : Connection) (channel : List ℕ) → Stands u → Stands (with_entry u (after_part u.entry channel))
+has_parted : (u : ServerSession) (channel : List ℕ) → Stands u → Stands (with_entry u (after_part u.entry channel))
 has_parted u channel s = entered u (after_part u.entry channel) s (record { nick = s.entry.nick; channels = fewer _ u.entry.channels s.entry.channels })
 
 -- ---- the rows of the server's lines
 
-module _ (u : Connection) (s : Stands u) where
+module _ (u : ServerSession) (s : Stands u) where
   on : (effects : List UpEffect) → AllByRecursion WritesOneLine effects → StepStands (stays u effects)
   on effects p = record { session = s; effects = p }
 
@@ -314,7 +314,7 @@ module _ (u : Connection) (s : Stands u) where
 
   welcome_row : (ps : List (List ℕ)) → StepStands (welcome u ps)
   welcome_row ps = record { session = up (with_nick u (first_target ps)) (renamed u (first_target ps) s (target_if ps)); effects = joins_are_lines u.home.channels s.channels } where
-    up : (v : Connection) → Stands v → Stands (with_entry v (record v.entry { is_up = true }))
+    up : (v : ServerSession) → Stands v → Stands (with_entry v (record v.entry { is_up = true }))
     up v t = record { entry = record { nick = t.entry.nick; channels = t.entry.channels }; user = t.user; channels = t.channels }
 
   underscored : (count : ℕ) → HasNoBadByte (with_underscores u.entry.nick count)
@@ -336,7 +336,7 @@ module _ (u : Connection) (s : Stands u) where
     passes : AllByRecursion WritesOneLine (pass_on u line bytes)
     passes = either (λ (l : List UpEffect). AllByRecursion WritesOneLine l) u.entry.is_up passed tt
 
-    moves : (b : Bool) (v : Connection) → Stands v → StepStands (stays (if b then v else u) (pass_on u line bytes))
+    moves : (b : Bool) (v : ServerSession) → Stands v → StepStands (stays (if b then v else u) (pass_on u line bytes))
     moves b v t = record { session = either Stands b t s; effects = passes }
 
     leaves : (ps : List (List ℕ)) → Stands (leave u ps)
@@ -441,7 +441,7 @@ module _ (u : Connection) (s : Stands u) where
     said (Ok line) = said_command line (command_of line.command)
 
 -- and each text is one line, where the client's is
-module _ (u : Connection) (now : ℕ) (text : List ℕ) (good : HasNoBadByte text) where
+module _ (u : ServerSession) (now : ℕ) (text : List ℕ) (good : HasNoBadByte text) where
   tagged : (tags : Option (List ℕ)) → IfSome tags HasNoEnd → WritesOneLine (Send (to_server.tagged_line tags text))
   tagged tags p = in_front _ _ (tags_good tags p) (passed_is_line text good)
 
@@ -486,33 +486,33 @@ module _ (u : Connection) (now : ℕ) (text : List ℕ) (good : HasNoBadByte tex
 
 -- ---- one event, and lists of them
 
-line_stands : (u : Connection) (now : ℕ) (bytes : List ℕ) → Stands u → (r : Result Reading LineFault) → IfOk r (Reads Server bytes) → StepStands (reading_step u now bytes r)
+line_stands : (u : ServerSession) (now : ℕ) (bytes : List ℕ) → Stands u → (r : Result Reading LineFault) → IfOk r (Reads Server bytes) → StepStands (reading_step u now bytes r)
 line_stands u now bytes s (Err fault) reads = on u s [] tt
 line_stands u now bytes s (Ok line) reads = row u s bytes line (whole Server bytes line reads) now (command_of line.command)
 
-step_stands : (u : Connection) (now : ℕ) (bytes : List ℕ) → Stands u → StepStands (step u now bytes)
+step_stands : (u : ServerSession) (now : ℕ) (bytes : List ℕ) → Stands u → StepStands (step u now bytes)
 unfolding step
 step_stands u now bytes s = either StepStands u.is_closed (on u s [] tt) (line_stands u now bytes s (read Server bytes) (read_ok Server bytes))
 
-stands_after : (u : Connection) (e : ServerEvent) → Stands u → Stands (after u e)
+stands_after : (u : ServerSession) (e : ServerEvent) → Stands u → Stands (after u e)
 unfolding say
 stands_after u (event.Line now bytes) s = (step_stands u now bytes s).session
 stands_after u (event.Saying now bytes) s =
     either (λ (t : ServerStep). Stands t.session) u.is_closed s (said u s now (without_ending bytes) (read Client (without_ending bytes)))
 
-lines_of : (u : Connection) (e : ServerEvent) → Stands u → EventStands e → AllByRecursion WritesOneLine (effects_of u e)
+lines_of : (u : ServerSession) (e : ServerEvent) → Stands u → EventStands e → AllByRecursion WritesOneLine (effects_of u e)
 unfolding say
 lines_of u (event.Line now bytes) s good = (step_stands u now bytes s).effects
 lines_of u (event.Saying now bytes) s good =
     let text = without_ending bytes in
     either (λ (t : ServerStep). AllByRecursion WritesOneLine t.effects) u.is_closed tt (wrote u now text good (read Client text) (read_ok Client text))
 
-all_lines : (u : Connection) (events : List ServerEvent) → Stands u → AllByRecursion EventStands events → AllByRecursion WritesOneLine (all_effects u events)
+all_lines : (u : ServerSession) (events : List ServerEvent) → Stands u → AllByRecursion EventStands events → AllByRecursion WritesOneLine (all_effects u events)
 all_lines u [] s all = tt
 all_lines u (e ∷ events) s all =
     all_append WritesOneLine (effects_of u e) (all_effects (after u e) events) (lines_of u e s all.0) (all_lines (after u e) events (stands_after u e s) all.1)
 
-run_stands : (u : Connection) (events : List ServerEvent) → Stands u → Stands (run u events)
+run_stands : (u : ServerSession) (events : List ServerEvent) → Stands u → Stands (run u events)
 run_stands u [] s = s
 run_stands u (e ∷ events) s = run_stands (after u e) events (stands_after u e s)
 

@@ -12,7 +12,7 @@ use Rattle.irc_caps.specs.declared.recipients.Recipients.TheVariants.{Holding}
 use Rattle.upstream_session.specs.Command.{command_of}
 use Rattle.upstream_session.specs.declared.command.ServerCommand.{ServerCommand}
 use Rattle.upstream_session.specs.declared.command.ServerCommand.TheVariants.{Cap, Welcome, Greeting, NickInUse, Ping, Nick, Join, Part, Kick, Error, Privmsg, Notice, Redact, Tagmsg, Other}
-use Rattle.upstream_session.specs.declared.connection.Connection.{Connection}
+use Rattle.upstream_session.specs.declared.connection.ServerSession.{ServerSession}
 use Rattle.upstream_session.specs.declared.effect.UpEffect.{UpEffect}
 use Rattle.upstream_session.specs.declared.effect.UpEffect.TheVariants.{Relay}
 use Rattle.upstream_session.specs.Step.{ServerStep, stays}
@@ -24,7 +24,7 @@ use Rattle.upstream_session.specs.Passing.{is_passed, is_passed_reading, is_pass
 use Rattle.upstream_session.proofs.CourseLemmas.{either}
 
 -- the session stays, and one line is passed on at most
-record Passes (u : Connection) (s : ServerStep) : Type 0 where
+record Passes (u : ServerSession) (s : ServerStep) : Type 0 where
   pub session : s.session ≡ u
   pub effects : IsRelayAtMost s.effects
 
@@ -36,7 +36,7 @@ not_true : (a b : Bool) → (not a && b) ≡ true → a ≡ false
 not_true true b h = absurd (cc)
 not_true false b h = refl
 
-module _ (u : Connection) (now : ℕ) (bytes : List ℕ) where
+module _ (u : ServerSession) (now : ℕ) (bytes : List ℕ) where
   by_command : (line : Reading) (command : ServerCommand) → is_passed command ≡ true → Passes u (serve u now bytes line command)
   by_command line Tagmsg e = either (λ (s : ServerStep). Passes u s) u.entry.is_up
       {x = stays u (Relay (to_client.tagged_line line.tags line.source bytes) (Holding MessageTags) ∷ [])} {y = stays u []}
@@ -68,10 +68,10 @@ module _ (u : Connection) (now : ℕ) (bytes : List ℕ) where
       {x = stays u []} {y = reading_step u now bytes (read Server bytes)}
       (record { session = refl; effects = tt }) (by_reading (read Server bytes) e)
 
-pub stays_as_it_is : (u : Connection) (now : ℕ) (bytes : List ℕ) → is_passed_on bytes ≡ true → after u (Line now bytes) ≡ u
+pub stays_as_it_is : (u : ServerSession) (now : ℕ) (bytes : List ℕ) → is_passed_on bytes ≡ true → after u (Line now bytes) ≡ u
 stays_as_it_is u now bytes e = (passes u now bytes e).session
 
-pub relays_at_most : (u : Connection) (now : ℕ) (bytes : List ℕ) → is_passed_on bytes ≡ true → IsRelayAtMost (effects_of u (Line now bytes))
+pub relays_at_most : (u : ServerSession) (now : ℕ) (bytes : List ℕ) → is_passed_on bytes ≡ true → IsRelayAtMost (effects_of u (Line now bytes))
 relays_at_most u now bytes e = (passes u now bytes e).effects
 
 -- ---- the words of a refusal
@@ -99,7 +99,7 @@ kept_by_reading is_up before (Ok line) e =
     unless (is_refusing is_up line.command) (with_words before (last_parameter line.parameters)) before
     (refuses_neither is_up line.command (not_true (is_refusing false line.command) (is_passed (command_of line.command)) e))
 
-pub keeps_words : (u : Connection) (before bytes : List ℕ) → is_passed_on bytes ≡ true → refusal_after u before bytes ≡ before
+pub keeps_words : (u : ServerSession) (before bytes : List ℕ) → is_passed_on bytes ≡ true → refusal_after u before bytes ≡ before
 keeps_words u before bytes e =
     either (λ (l : List ℕ). l ≡ before) u.is_closed {x = before} {y = after_reading u.entry.is_up before (read Server bytes)}
     refl (kept_by_reading u.entry.is_up before (read Server bytes) e)

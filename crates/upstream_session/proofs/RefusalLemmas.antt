@@ -6,7 +6,7 @@ use Rattle.irc_line.specs.declared.line.LineFault.{LineFault}
 use Rattle.irc_line.specs.declared.line.TagLimit.TheVariants.{Server}
 use Rattle.irc_line.specs.Line.{Reading}
 use Rattle.irc_line.specs.Read.{read}
-use Rattle.upstream_session.specs.declared.connection.Connection.{Connection}
+use Rattle.upstream_session.specs.declared.connection.ServerSession.{ServerSession}
 use Rattle.upstream_session.specs.declared.refusal.TheConstants.{MOST_WORDS}
 use Rattle.upstream_session.specs.Refusal.{is_refusing, is_printable, shown, shown_words, last_parameter, with_words, after_reading, refusal_after, refuses, IsShown}
 use Rattle.upstream_session.proofs.CourseLemmas.{either, either_by}
@@ -22,7 +22,7 @@ by_reading : (is_up : Bool) (before : List ℕ) (r : Result Reading LineFault) �
 by_reading is_up before (Err fault) e = refl
 by_reading is_up before (Ok line) e = unless (is_refusing is_up line.command) (with_words before (last_parameter line.parameters)) before e
 
-pub others_leave_it : (u : Connection) (before bytes : List ℕ) → refuses u.entry.is_up (read Server bytes) ≡ false → refusal_after u before bytes ≡ before
+pub others_leave_it : (u : ServerSession) (before bytes : List ℕ) → refuses u.entry.is_up (read Server bytes) ≡ false → refusal_after u before bytes ≡ before
 others_leave_it u before bytes e =
     either (λ (l : List ℕ). l ≡ before) u.is_closed {x = before} {y = after_reading u.entry.is_up before (read Server bytes)}
     refl (by_reading u.entry.is_up before (read Server bytes) e)
@@ -55,7 +55,7 @@ by_line : (is_up : Bool) (before : List ℕ) (r : Result Reading LineFault) → 
 by_line is_up before (Err fault) h = h
 by_line is_up before (Ok line) h = either IsShown (is_refusing is_up line.command) (by_words before (last_parameter line.parameters) h) h
 
-pub stays_shown : (u : Connection) (before bytes : List ℕ) → IsShown before → IsShown (refusal_after u before bytes)
+pub stays_shown : (u : ServerSession) (before bytes : List ℕ) → IsShown before → IsShown (refusal_after u before bytes)
 stays_shown u before bytes h = either IsShown u.is_closed {x = before} {y = after_reading u.entry.is_up before (read Server bytes)} h (by_line u.entry.is_up before (read Server bytes) h)
 
 pub starts_shown : IsShown []

@@ -26,7 +26,7 @@ use Rattle.upstream_session.specs.Command.{command_of}
 use Rattle.upstream_session.specs.declared.command.ServerCommand.{ServerCommand}
 use Rattle.upstream_session.specs.declared.command.ServerCommand.TheVariants.{Cap, Welcome, Greeting, NickInUse, Ping, Nick, Join, Part, Kick, Error, Privmsg, Notice, Redact, Tagmsg, Other}
 use Rattle.upstream_session.specs.declared.connection.TheConstants.{LAST_SERIAL}
-use Rattle.upstream_session.specs.declared.connection.Connection.{Connection}
+use Rattle.upstream_session.specs.declared.connection.ServerSession.{ServerSession}
 use Rattle.upstream_session.specs.Step.{ServerStep}
 use Rattle.upstream_session.specs.Messages.{made_id, kept_tags}
 use Rattle.upstream_session.specs.Sayings.{without_ending, sent_tags, is_kept_here, say_by_id, say_message, say_words, say_command, say_reading}
@@ -97,7 +97,7 @@ of_reading bytes (Ok line) reads =
     of_line bytes line.tags reads.parts.head.after_tags reads.parts.head.tags_split (reads.sound TagsTooLong) (reads.sound BadByte)
 
 -- a record keeps all tags that are sent
-sent_kept : (u : Connection) (tags : Option (List ℕ)) → kept_tags tags ≡ client_tags tags → kept_tags (sent_tags u tags) ≡ client_tags (sent_tags u tags)
+sent_kept : (u : ServerSession) (tags : Option (List ℕ)) → kept_tags tags ≡ client_tags tags → kept_tags (sent_tags u tags) ≡ client_tags (sent_tags u tags)
 sent_kept u tags same = either (λ (t : Option (List ℕ)). kept_tags t ≡ client_tags t) u.held.message_tags same refl
 
 -- ---- what is said
@@ -105,7 +105,7 @@ sent_kept u tags same = either (λ (t : Option (List ℕ)). kept_tags t ≡ clie
 abbrev IsKeptSo : List ℕ → ServerStep → Type 0
 IsKeptSo text s = AllByRecursion (IsSentAsKept text s.effects) s.effects
 
-module _ (u : Connection) (now : ℕ) (text : List ℕ) where
+module _ (u : ServerSession) (now : ℕ) (text : List ℕ) where
   by_id : (tags : Option (List ℕ)) (m : Message) → kept_tags tags ≡ client_tags tags → (id : Option (List ℕ)) → IsKeptSo text (say_by_id u now text tags m id)
   by_id tags m same None = (tt, tt)
   by_id tags m same (Some id) = (tt, (inl (ap (λ t. tag_part t ++ passed_line text) (sym same)), tt))
@@ -141,7 +141,7 @@ module _ (u : Connection) (now : ℕ) (text : List ℕ) where
   reading (Err fault) same = (tt, tt)
   reading (Ok line) same = command line same (command_of line.command)
 
-pub sent_as_kept : (u : Connection) (now : ℕ) (bytes : List ℕ) → IsKeptSo (without_ending bytes) (say u now bytes)
+pub sent_as_kept : (u : ServerSession) (now : ℕ) (bytes : List ℕ) → IsKeptSo (without_ending bytes) (say u now bytes)
 unfolding say
 sent_as_kept u now bytes =
     either (λ (s : ServerStep). IsKeptSo (without_ending bytes) s) u.is_closed tt

@@ -12,7 +12,7 @@ use Rattle.chat_change.specs.declared.change.Change.TheVariants.{Post, Redact}
 use Rattle.upstream_session.specs.Command.{command_of}
 use Rattle.upstream_session.specs.declared.command.ServerCommand.TheVariants.{Welcome}
 use Rattle.upstream_session.specs.declared.connection.Home.{Home}
-use Rattle.upstream_session.specs.declared.connection.Connection.{Connection}
+use Rattle.upstream_session.specs.declared.connection.ServerSession.{ServerSession}
 use Rattle.upstream_session.specs.declared.effect.UpEffect.{UpEffect}
 use Rattle.upstream_session.specs.declared.effect.UpEffect.TheVariants.{Send, Put, Relay, Close}
 use Rattle.upstream_session.specs.Messages.{made_text, kept_tags, stamp_of}
@@ -25,23 +25,23 @@ pub data ServerEvent : Type 0 where
   Line : (now : ℕ) (bytes : List ℕ) → ServerEvent
   Saying : (now : ℕ) (bytes : List ℕ) → ServerEvent
 
-abbrev pub step_by : Connection → ServerEvent → ServerStep
+abbrev pub step_by : ServerSession → ServerEvent → ServerStep
 step_by u (Line now bytes) = step u now bytes
 step_by u (Saying now bytes) = say u now bytes
 
-abbrev pub after : Connection → ServerEvent → Connection
+abbrev pub after : ServerSession → ServerEvent → ServerSession
 after u event = (step_by u event).session
 
-abbrev pub effects_of : Connection → ServerEvent → List UpEffect
+abbrev pub effects_of : ServerSession → ServerEvent → List UpEffect
 effects_of u event = (step_by u event).effects
 
 -- the session after a list of events
-abbrev pub run : Connection → List ServerEvent → Connection
+abbrev pub run : ServerSession → List ServerEvent → ServerSession
 run u [] = u
 run u (event ∷ events) = run (after u event) events
 
 -- all that its caller does for it
-abbrev pub all_effects : Connection → List ServerEvent → List UpEffect
+abbrev pub all_effects : ServerSession → List ServerEvent → List UpEffect
 all_effects u [] = []
 all_effects u (event ∷ events) = effects_of u event ++ all_effects (after u event) events
 
@@ -91,12 +91,12 @@ id_given (Saying now bytes) = None
 
 -- The post has the id that the line bears, and no serial number is used; or it has the one that is made of the serial
 -- number, and the next one is greater by one.
-abbrev pub HasOwnId : Connection → Connection → Option (List ℕ) → List ℕ → Type 0
+abbrev pub HasOwnId : ServerSession → ServerSession → Option (List ℕ) → List ℕ → Type 0
 HasOwnId old new given id =
     ((given ≡ Some id) × (new.serial ≡ old.serial))
     ⊎ ((id ≡ made_text old.home old.serial) × (new.serial ≡ old.serial + 1))
 
-abbrev pub IsIdOf : Connection → Connection → Option (List ℕ) → UpEffect → Type 0
+abbrev pub IsIdOf : ServerSession → ServerSession → Option (List ℕ) → UpEffect → Type 0
 IsIdOf old new given (Put (Post r)) = HasOwnId old new given r.id
 IsIdOf old new given _ = Unit {0}
 
@@ -107,12 +107,12 @@ HasPost id (Put (Post r) ∷ effects) = (r.id ≡ id) ⊎ HasPost id effects
 HasPost id (_ ∷ effects) = HasPost id effects
 
 -- the id that an event makes, if its serial number was used
-abbrev pub ids_made_by : Connection → ServerEvent → List (List ℕ)
+abbrev pub ids_made_by : ServerSession → ServerEvent → List (List ℕ)
 ids_made_by u event =
     if (after u event).serial == u.serial then [] else made_text u.home u.serial ∷ []
 
 -- the ids that a session makes in a list of events
-abbrev pub ids_made : Connection → List ServerEvent → List (List ℕ)
+abbrev pub ids_made : ServerSession → List ServerEvent → List (List ℕ)
 ids_made u [] = []
 ids_made u (event ∷ events) = ids_made_by u event ++ ids_made (after u event) events
 
@@ -123,7 +123,7 @@ tags_read (Err fault) = None
 tags_read (Ok line) = line.tags
 
 -- what a record keeps of the tags of a server's line, or of those that a client's line goes to the server with
-abbrev pub tags_given : Connection → ServerEvent → List ℕ
+abbrev pub tags_given : ServerSession → ServerEvent → List ℕ
 tags_given u (Line now bytes) = kept_tags (tags_read (read Server bytes))
 tags_given u (Saying now bytes) =
     kept_tags (sent_tags u (tags_read (read Client (without_ending bytes))))

@@ -16,8 +16,8 @@ use Rattle.chat_change.specs.Record.{Record}
 use Rattle.chat_change.specs.Faults.{is_message}
 use Rattle.chat_change.specs.declared.change.Change.TheVariants.{Post}
 use Rattle.upstream_session.specs.declared.connection.Home.{Home}
-use Rattle.upstream_session.specs.declared.connection.Connection.{Connection}
-use Rattle.upstream_session.specs.declared.messages.Stamp.{Stamp}
+use Rattle.upstream_session.specs.declared.connection.ServerSession.{ServerSession}
+use Rattle.upstream_session.specs.declared.messages.MessageStamp.{MessageStamp}
 use Rattle.upstream_session.specs.declared.effect.UpEffect.{UpEffect}
 use Rattle.upstream_session.specs.declared.effect.UpEffect.TheVariants.{Put}
 
@@ -36,15 +36,15 @@ abbrev pub is_from : List ℕ → Record → Bool
 is_from nick r = is_same_nick (nick_of r.message.source) nick
 
 -- the source is the session itself, by its present nick
-abbrev pub is_own : Connection → List ℕ → Bool
+abbrev pub is_own : ServerSession → List ℕ → Bool
 is_own u source = is_same_nick (nick_of source) u.entry.nick
 
 -- a line without a source comes from the network
-abbrev pub source_of : Connection → Option (List ℕ) → List ℕ
+abbrev pub source_of : ServerSession → Option (List ℕ) → List ℕ
 source_of u source = unwrap_or source u.home.network
 
 -- a message to the present nick belongs to the conversation with whoever sent it
-abbrev pub conversation : Connection → List ℕ → List ℕ → List ℕ
+abbrev pub conversation : ServerSession → List ℕ → List ℕ → List ℕ
 conversation u source target = if is_same_nick target u.entry.nick then nick_of source else target
 
 -- the conversation has a buffer
@@ -52,7 +52,7 @@ abbrev pub has_buffer : Home → List ℕ → Bool
 has_buffer home target = buffers.has_buffer home.account home.network target
 
 -- the message is one that can be kept
-abbrev pub can_be_kept : Connection → Message → Bool
+abbrev pub can_be_kept : ServerSession → Message → Bool
 can_be_kept u m = has_buffer u.home (conversation u m.source m.target) && is_message m
 
 -- ---- ids and moments (IRCv3 message-ids and server-time)
@@ -66,18 +66,18 @@ moment_if None now = now
 moment_if (Some text) now = unwrap_or (time_of text) now
 
 -- The tag `msgid` gives the id, where it can be one, and the tag `time` the moment, where it is one; else it is now.
-abbrev pub stamp_in : List Tag → ℕ → Stamp
+abbrev pub stamp_in : List Tag → ℕ → MessageStamp
 stamp_in tags now = record {
   id = id_if (value_at (codes "msgid") tags);
   at = moment_if (value_at (codes "time") tags) now;
 }
 
 -- the same of a line that may have no tags
-abbrev pub stamp_read : Option (List Tag) → ℕ → Stamp
+abbrev pub stamp_read : Option (List Tag) → ℕ → MessageStamp
 stamp_read None now = record { id = None; at = now }
 stamp_read (Some tags) now = stamp_in tags now
 
-abbrev pub stamp_of : Option (List ℕ) → ℕ → Stamp
+abbrev pub stamp_of : Option (List ℕ) → ℕ → MessageStamp
 stamp_of tags now = stamp_read (option_map tag_list tags) now
 
 -- an id that this node makes: its name, its incarnation and a serial number that it uses once
@@ -102,7 +102,7 @@ kept_read (Some tags) = if is_tags (client_only_of tags) then client_only_of tag
 
 -- ---- records
 
-abbrev pub post : Connection → List ℕ → ℕ → List ℕ → Message → UpEffect
+abbrev pub post : ServerSession → List ℕ → ℕ → List ℕ → Message → UpEffect
 post u id at tags m = Put (Post (record {
   buffer = buffer_of u.home.account u.home.network (conversation u m.source m.target);
   id = id;

@@ -7,12 +7,12 @@ use Rattle.irc_line.specs.declared.line.LineFault.{LineFault}
 use Rattle.irc_line.specs.declared.line.TagLimit.TheVariants.{Server}
 use Rattle.irc_line.specs.Line.{Reading}
 use Rattle.irc_line.specs.Read.{read}
-use Rattle.upstream_session.specs.declared.connection.Connection.{Connection}
+use Rattle.upstream_session.specs.declared.connection.ServerSession.{ServerSession}
 use Rattle.upstream_session.specs.declared.refusal.TheConstants.{MOST_WORDS}
 
 -- a session, and the words by which its server refused it last; there are none where it didn't
 pub record Session : Type 0 where
-  pub connection : Connection
+  pub connection : ServerSession
   pub refusal : List ℕ
 
 -- the command of a line by which a server refuses; once the network is up, 432 refuses a change of the nick alone
@@ -52,7 +52,7 @@ after_reading is_up before (Err fault) = before
 after_reading is_up before (Ok line) = after_line is_up before line
 
 -- what is kept after a line of the server: a session that is over hears none
-abbrev pub refusal_after : Connection → List ℕ → List ℕ → List ℕ
+abbrev pub refusal_after : ServerSession → List ℕ → List ℕ → List ℕ
 refusal_after u before bytes =
     if u.is_closed then before else after_reading u.entry.is_up before (read Server bytes)
 

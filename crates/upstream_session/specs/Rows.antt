@@ -16,7 +16,7 @@ use Rattle.cluster_directory.specs.Entry.{after_join, after_part}
 use Rattle.upstream_session.specs.declared.command.ServerCommand.{ServerCommand}
 use Rattle.upstream_session.specs.declared.command.ServerCommand.TheVariants.{Cap, Welcome, Greeting, NickInUse, Ping, Nick, Join, Part, Kick, Error, Privmsg, Notice, Redact, Tagmsg, Other}
 use Rattle.upstream_session.specs.declared.connection.TheConstants.{LAST_SERIAL, MOST_TRIES}
-use Rattle.upstream_session.specs.declared.connection.Connection.{Connection}
+use Rattle.upstream_session.specs.declared.connection.ServerSession.{ServerSession}
 use Rattle.upstream_session.specs.declared.effect.UpEffect.{UpEffect}
 use Rattle.upstream_session.specs.declared.effect.UpEffect.TheVariants.{Send, Put, Relay}
 use Rattle.irc_caps.specs.declared.recipients.Recipients.TheVariants.{All, Holding}
@@ -32,35 +32,35 @@ abbrev pub relay_to_all : Reading → List ℕ → List UpEffect
 relay_to_all line bytes = Relay (relayed_line line.source bytes) All ∷ []
 
 -- once the network is up, a line is passed on as it is
-abbrev pub pass_on : Connection → Reading → List ℕ → List UpEffect
+abbrev pub pass_on : ServerSession → Reading → List ℕ → List UpEffect
 pass_on u line bytes = if u.entry.is_up then relay_to_all line bytes else []
 
 -- ---- CAP
 
 -- `CAP * LS * :names`: more offers are to come
-abbrev pub gather : Connection → List ℕ → ServerStep
+abbrev pub gather : ServerSession → List ℕ → ServerStep
 gather u list = stays (record u { offered = with_offers u.offered (parts_of list) }) []
 
 -- `CAP * LS :names`: these are the last
-abbrev pub ask : Connection → List ℕ → ServerStep
+abbrev pub ask : ServerSession → List ℕ → ServerStep
 ask u list =
     let offered = with_offers u.offered (parts_of list) in
     stays (record u { offered = offered }) (Send (request offered) ∷ [])
 
 -- without a list nothing is offered
-abbrev pub ls : Connection → List (List ℕ) → ServerStep
+abbrev pub ls : ServerSession → List (List ℕ) → ServerStep
 ls u (first ∷ list ∷ more) = if bytes_eq first (codes "*") then gather u list else ask u first
 ls u parameters = ask u (list_in parameters)
 
 -- `CAP * ACK :names`: each name is held now, and each that `-` stands before isn't
-abbrev pub ack : Connection → List ℕ → ServerStep
+abbrev pub ack : ServerSession → List ℕ → ServerStep
 ack u list =
     let held = with_words u.held (parts_of list) in
     stays
     (record u { held = held; entry = record u.entry { takes_redact = held.message_redaction } })
     (Send cap_end ∷ [])
 
-abbrev pub cap : Connection → List (List ℕ) → ServerStep
+abbrev pub cap : ServerSession → List (List ℕ) → ServerStep
 cap u (nick ∷ subcommand ∷ more) =
     if str_eq_ignore_ascii_case subcommand (codes "LS") then ls u more
     else if str_eq_ignore_ascii_case subcommand (codes "ACK") then ack u (list_in more)
@@ -75,11 +75,11 @@ abbrev pub first_target : List (List ℕ) → Option (List ℕ)
 first_target [] = None
 first_target (word ∷ words) = if is_target word then Some word else None
 
-abbrev pub with_nick : Connection → Option (List ℕ) → Connection
+abbrev pub with_nick : ServerSession → Option (List ℕ) → ServerSession
 with_nick u None = u
 with_nick u (Some nick) = record u { entry = record u.entry { nick = nick } }
 
-abbrev pub with_network_up : Connection → Connection
+abbrev pub with_network_up : ServerSession → ServerSession
 with_network_up u = record u { entry = record u.entry { is_up = true } }
 
 -- each configured channel is joined
@@ -88,81 +88,81 @@ joins [] = []
 joins (channel ∷ channels) = Send (join_line channel) ∷ joins channels
 
 -- 001 (RPL_WELCOME)
-abbrev pub welcome : Connection → List (List ℕ) → ServerStep
+abbrev pub welcome : ServerSession → List (List ℕ) → ServerStep
 welcome u parameters =
     stays (with_network_up (with_nick u (first_target parameters))) (joins u.home.channels)
 
 -- 433 (ERR_NICKNAMEINUSE) before 001: another nick is tried, three times
-abbrev pub try_again : Connection → ServerStep
+abbrev pub try_again : ServerSession → ServerStep
 try_again u =
     if nat_lt u.tries MOST_TRIES
     then stays (record u { tries = u.tries + 1 })
     (Send (nick_line (with_underscores u.entry.nick (u.tries + 1))) ∷ [])
     else closes u
 
-abbrev pub nick_in_use : Connection → Reading → List ℕ → ServerStep
+abbrev pub nick_in_use : ServerSession → Reading → List ℕ → ServerStep
 nick_in_use u line bytes = if u.entry.is_up then stays u (relay_to_all line bytes) else try_again u
 
 -- ---- PING
 
-abbrev pub ping : Connection → Reading → List ℕ → List (List ℕ) → ServerStep
+abbrev pub ping : ServerSession → Reading → List ℕ → List (List ℕ) → ServerStep
 ping u line bytes [] = stays u (pass_on u line bytes)
 ping u line bytes (word ∷ more) = stays u (Send (pong_line word) ∷ [])
 
 -- ---- the present nick and the channels: once the network is up
 
-abbrev pub join_if : Connection → Option (List ℕ) → Connection
+abbrev pub join_if : ServerSession → Option (List ℕ) → ServerSession
 join_if u None = u
 join_if u (Some channel) = record u { entry = after_join u.entry channel }
 
-abbrev pub leave : Connection → List (List ℕ) → Connection
+abbrev pub leave : ServerSession → List (List ℕ) → ServerSession
 leave u [] = u
 leave u (channel ∷ more) = record u { entry = after_part u.entry channel }
 
-abbrev pub put_out : Connection → List (List ℕ) → Connection
+abbrev pub put_out : ServerSession → List (List ℕ) → ServerSession
 put_out u (channel ∷ nick ∷ more) =
     if is_same_nick nick u.entry.nick
     then record u { entry = after_part u.entry channel }
     else u
 put_out u parameters = u
 
-abbrev pub is_up_and_own : Connection → Reading → Bool
+abbrev pub is_up_and_own : ServerSession → Reading → Bool
 is_up_and_own u line = u.entry.is_up && is_own u (source_of u line.source)
 
 -- NICK
-abbrev pub nick : Connection → Reading → List ℕ → ServerStep
+abbrev pub nick : ServerSession → Reading → List ℕ → ServerStep
 nick u line bytes =
     stays (if is_up_and_own u line then with_nick u (first_target line.parameters) else u)
     (pass_on u line bytes)
 
 -- JOIN
-abbrev pub join : Connection → Reading → List ℕ → ServerStep
+abbrev pub join : ServerSession → Reading → List ℕ → ServerStep
 join u line bytes =
     stays (if is_up_and_own u line then join_if u (first_target line.parameters) else u)
     (pass_on u line bytes)
 
 -- the channel that the session itself joins by a JOIN
-abbrev pub own_join : Connection → Reading → Option (List ℕ)
+abbrev pub own_join : ServerSession → Reading → Option (List ℕ)
 own_join u line = if is_up_and_own u line then first_target line.parameters else None
 
 -- the channel that it joins by a line of that command
-abbrev pub joined_by : Connection → Reading → ServerCommand → Option (List ℕ)
+abbrev pub joined_by : ServerSession → Reading → ServerCommand → Option (List ℕ)
 joined_by u line Join = own_join u line
 joined_by u line _ = None
 
 -- PART
-abbrev pub part : Connection → Reading → List ℕ → ServerStep
+abbrev pub part : ServerSession → Reading → List ℕ → ServerStep
 part u line bytes =
     stays (if is_up_and_own u line then leave u line.parameters else u) (pass_on u line bytes)
 
 -- KICK, whose second parameter says who is put out
-abbrev pub kick : Connection → Reading → List ℕ → ServerStep
+abbrev pub kick : ServerSession → Reading → List ℕ → ServerStep
 kick u line bytes =
     stays (if u.entry.is_up then put_out u line.parameters else u) (pass_on u line bytes)
 
 -- ---- PRIVMSG and NOTICE
 
-abbrev pub keep_by_id : Connection → Reading → List ℕ → Message → ℕ → Option (List ℕ) → ServerStep
+abbrev pub keep_by_id : ServerSession → Reading → List ℕ → Message → ℕ → Option (List ℕ) → ServerStep
 keep_by_id u line bytes m at None = stays u (relay_to_all line bytes)
 keep_by_id u line bytes m at (Some id) = record {
   session = record u { serial = u.serial + 1 };
@@ -170,27 +170,27 @@ keep_by_id u line bytes m at (Some id) = record {
 }
 
 -- A message without an id of its own gets one that this node makes, unless the serial numbers are used up.
-abbrev pub keep_made : Connection → Reading → List ℕ → Message → ℕ → ServerStep
+abbrev pub keep_made : ServerSession → Reading → List ℕ → Message → ℕ → ServerStep
 keep_made u line bytes m at =
     if u.serial == LAST_SERIAL then closes u
     else keep_by_id u line bytes m at (made_id u.home u.serial)
 
-abbrev pub keep_stamped : Connection → Reading → List ℕ → Message → Option (List ℕ) → ℕ → ServerStep
+abbrev pub keep_stamped : ServerSession → Reading → List ℕ → Message → Option (List ℕ) → ℕ → ServerStep
 keep_stamped u line bytes m None at = keep_made u line bytes m at
 keep_stamped u line bytes m (Some id) at = stays u (post u id at (kept_tags line.tags) m ∷ [])
 
-abbrev pub keep : Connection → ℕ → Reading → List ℕ → Message → ServerStep
+abbrev pub keep : ServerSession → ℕ → Reading → List ℕ → Message → ServerStep
 keep u now line bytes m =
     let stamp = stamp_of line.tags now in
     if can_be_kept u m
     then keep_stamped u line bytes m stamp.id stamp.at
     else stays u (relay_to_all line bytes)
 
-abbrev pub message_from : Connection → Kind → Reading → List ℕ → List ℕ → Message
+abbrev pub message_from : ServerSession → Kind → Reading → List ℕ → List ℕ → Message
 message_from u kind line target body =
     record { kind = kind; source = source_of u line.source; target = target; body = body }
 
-abbrev pub message : Connection → ℕ → Kind → Reading → List ℕ → List (List ℕ) → ServerStep
+abbrev pub message : ServerSession → ℕ → Kind → Reading → List ℕ → List (List ℕ) → ServerStep
 message u now kind line bytes (target ∷ body ∷ more) =
     if u.entry.is_up
     then keep u now line bytes (message_from u kind line target body)
@@ -199,7 +199,7 @@ message u now kind line bytes parameters = stays u (pass_on u line bytes)
 
 -- ---- REDACT
 
-abbrev pub redaction : Connection → List ℕ → List ℕ → List ℕ → List UpEffect
+abbrev pub redaction : ServerSession → List ℕ → List ℕ → List ℕ → List UpEffect
 redaction u source target id =
     let talk = conversation u source target in
     if has_buffer u.home talk && is_id id
@@ -207,12 +207,12 @@ redaction u source target id =
     else []
 
 -- the redaction, and the line for the sessions that know of redactions
-abbrev pub relay_redaction : Connection → Reading → List ℕ → List ℕ → List ℕ → List UpEffect
+abbrev pub relay_redaction : ServerSession → Reading → List ℕ → List ℕ → List ℕ → List UpEffect
 relay_redaction u line bytes target id =
     redaction u (source_of u line.source) target id
     ++ Relay (relayed_line line.source bytes) (Holding MessageRedaction) ∷ []
 
-abbrev pub redact : Connection → Reading → List ℕ → List (List ℕ) → ServerStep
+abbrev pub redact : ServerSession → Reading → List ℕ → List (List ℕ) → ServerStep
 redact u line bytes (target ∷ id ∷ more) =
     if u.entry.is_up && u.entry.takes_redact
     then stays u (relay_redaction u line bytes target id)
@@ -222,7 +222,7 @@ redact u line bytes parameters = stays u (pass_on u line bytes)
 -- ---- TAGMSG
 
 -- Once the network is up, it is passed on with its client-only tags, to the sessions that get tags (IRCv3 message-tags).
-abbrev pub tagmsg : Connection → Reading → List ℕ → ServerStep
+abbrev pub tagmsg : ServerSession → Reading → List ℕ → ServerStep
 tagmsg u line bytes =
     if u.entry.is_up
     then stays u (Relay (tagged_line line.tags line.source bytes) (Holding MessageTags) ∷ [])
@@ -230,7 +230,7 @@ tagmsg u line bytes =
 
 -- ---- the table
 
-abbrev pub serve : Connection → ℕ → List ℕ → Reading → ServerCommand → ServerStep
+abbrev pub serve : ServerSession → ℕ → List ℕ → Reading → ServerCommand → ServerStep
 serve u now bytes line Cap = cap u line.parameters
 serve u now bytes line Welcome = welcome u line.parameters
 serve u now bytes line Greeting = stays u []

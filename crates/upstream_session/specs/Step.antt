@@ -2,24 +2,24 @@
 use Rattle.std.specs.Prelude.{ℕ, true, false, List, [], ◌∷◌}
 use Rattle.irc_caps.specs.CapSet.{no_capabilities}
 use Rattle.cluster_directory.specs.declared.config.SessionConfig.{SessionConfig}
-use Rattle.upstream_session.specs.declared.connection.Connection.{Connection}
+use Rattle.upstream_session.specs.declared.connection.ServerSession.{ServerSession}
 use Rattle.upstream_session.specs.declared.effect.UpEffect.{UpEffect}
 use Rattle.upstream_session.specs.declared.effect.UpEffect.TheVariants.{Close}
 
 -- the session after a line, and what its caller does, in this order
 pub record ServerStep : Type 0 where
-  pub session : Connection
+  pub session : ServerSession
   pub effects : List UpEffect
 
-abbrev pub stays : Connection → List UpEffect → ServerStep
+abbrev pub stays : ServerSession → List UpEffect → ServerStep
 stays u effects = record { session = u; effects = effects }
 
 -- the session is over
-abbrev pub closes : Connection → ServerStep
+abbrev pub closes : ServerSession → ServerStep
 closes u = record { session = record u { is_closed = true }; effects = Close ∷ [] }
 
 -- The network isn't up yet, its present nick is the configured one, and it is in no channel.
-abbrev pub new : SessionConfig → List ℕ → ℕ → ℕ → Connection
+abbrev pub new : SessionConfig → List ℕ → ℕ → ℕ → ServerSession
 new config node incarnation first_serial = record {
   home = record {
     account = config.account;

@@ -25,7 +25,7 @@ pub(crate) struct Home {
 
 /// A session with a server.
 #[derive(Drop)]
-pub(crate) struct Connection {
+pub(crate) struct ServerSession {
     pub(crate) home: Home,
     // of the next id that is made
     pub(crate) serial: u64,
@@ -48,7 +48,7 @@ pub(crate) enum MessageOutcome {
     Closes,
 }
 
-impl Connection {
+impl ServerSession {
     /// The session goes on so.
     pub(crate) fn go_on(&mut self, outcome: MessageOutcome)
         ensures { self.new ≡ after outcome self.old }

@@ -14,42 +14,42 @@ ghost use Rattle.upstream_session.specs.Passing.{is_passed_on, IsRelayAtMost};
 ghost use Rattle.upstream_session.specs.Events.{ServerEvent, Line, after, effects_of, run, all_effects, IsOwnEffect, IsUnheard, IsWelcome, id_given, IsIdOf, HasPost, ids_made, tags_given, HasTags, IsSentAsKept, HasClose, EndsAtClose};
 ghost use Rattle.upstream_session.specs.Standing.{WritesOneLine, ConfigStands, EntryStands, EventStands};
 ghost use Rattle.cluster_directory.specs.declared.config.SessionConfig.{SessionConfig};
-ghost use Rattle.upstream_session.specs.declared.connection.Connection.{Connection};
+ghost use Rattle.upstream_session.specs.declared.connection.ServerSession.{ServerSession};
 ghost use Rattle.upstream_session.specs.declared.connection.TheConstants.{LAST_SERIAL};
 
 /// A session changes the past of its own account and network alone: each change that it puts is a post or a redaction in a
 /// buffer of these, and they never change.
 pub fn changes_are_its_own()
-    ensures puts { (u : Connection) (events : List ServerEvent)
+    ensures puts { (u : ServerSession) (events : List ServerEvent)
         → AllByRecursion (IsOwnEffect u.home) (all_effects u events) }
-    ensures same { (u : Connection) (events : List ServerEvent) → (run u events).home ≡ u.home }
+    ensures same { (u : ServerSession) (events : List ServerEvent) → (run u events).home ≡ u.home }
 {}
 
 /// No id is made twice. A post has the id that its line bears, or one that is made of the serial number. The serial number
 /// rises by one for each id that is made and put, never else, and its last value is never passed. So all ids that a
 /// session makes are different.
 pub fn ids_are_made_once()
-    ensures each { (u : Connection) (event : ServerEvent)
+    ensures each { (u : ServerSession) (event : ServerEvent)
         → AllByRecursion (IsIdOf u (after u event) (id_given event)) (effects_of u event) }
-    ensures counted { (u : Connection) (event : ServerEvent) → ((after u event).serial ≡ u.serial)
+    ensures counted { (u : ServerSession) (event : ServerEvent) → ((after u event).serial ≡ u.serial)
         ⊎ (((after u event).serial ≡ u.serial + 1)
         × HasPost (made_text u.home u.serial) (effects_of u event)) }
-    ensures last { (u : Connection) (event : ServerEvent)
+    ensures last { (u : ServerSession) (event : ServerEvent)
         → u.serial ≤ LAST_SERIAL → (after u event).serial ≤ LAST_SERIAL }
-    ensures once { (u : Connection) (events : List ServerEvent)
+    ensures once { (u : ServerSession) (events : List ServerEvent)
         → u.serial ≤ LAST_SERIAL → IsDistinct bytes_eq (ids_made u events) }
 {}
 
 /// A message is kept with the client-only tags of its own line: of the server's line, or of a client's line as it goes to
 /// the server.
 pub fn tags_are_those_of_the_line()
-    ensures { (u : Connection) (event : ServerEvent)
+    ensures { (u : ServerSession) (event : ServerEvent)
         → AllByRecursion (HasTags (tags_given u event)) (effects_of u event) }
 {}
 
 /// A message that a client says and that is kept has the tags that it goes to the server with.
 pub fn kept_tags_are_sent()
-    ensures { (u : Connection) (now : ℕ) (bytes : List ℕ) → AllByRecursion
+    ensures { (u : ServerSession) (now : ℕ) (bytes : List ℕ) → AllByRecursion
         (IsSentAsKept (without_ending bytes) (say u now bytes).effects) (say u now bytes).effects }
 {}
 
@@ -63,16 +63,16 @@ pub fn nothing_is_heard_before_the_welcome()
 /// Close comes last among the effects of a line, and closes the session; nothing else does. After it there are no effects,
 /// and nothing changes.
 pub fn nothing_follows_close()
-    ensures last { (u : Connection) (event : ServerEvent) → EndsAtClose (effects_of u event) }
-    ensures closed { (u : Connection) (event : ServerEvent)
+    ensures last { (u : ServerSession) (event : ServerEvent) → EndsAtClose (effects_of u event) }
+    ensures closed { (u : ServerSession) (event : ServerEvent)
         → HasClose (effects_of u event) → (after u event).is_closed ≡ true }
-    ensures only { (u : Connection) (event : ServerEvent) → u.is_closed ≡ false
+    ensures only { (u : ServerSession) (event : ServerEvent) → u.is_closed ≡ false
         → (after u event).is_closed ≡ true → HasClose (effects_of u event) }
-    ensures stays { (u : Connection) (events : List ServerEvent)
+    ensures stays { (u : ServerSession) (events : List ServerEvent)
         → u.is_closed ≡ true → run u events ≡ u }
-    ensures silent { (u : Connection) (events : List ServerEvent)
+    ensures silent { (u : ServerSession) (events : List ServerEvent)
         → u.is_closed ≡ true → all_effects u events ≡ [] }
-    ensures start { (u : Connection) → u.is_closed ≡ true → start u ≡ [] }
+    ensures start { (u : ServerSession) → u.is_closed ≡ true → start u ≡ [] }
 {}
 
 /// Each text that a session writes, to its server or to be passed on to clients, is one line: CR LF stands at its end, and no
@@ -100,33 +100,33 @@ pub fn entries_stand()
 /// A session says of each line of the server by which it joins a channel that it does. Where it says so, that line adds this
 /// channel to it and changes nothing else of it, and it says the same once the line was taken. Any other line joins none.
 pub fn what_is_joined_is_told()
-    ensures joined { (u : Connection) (now : ℕ) (bytes channel : List ℕ)
+    ensures joined { (u : ServerSession) (now : ℕ) (bytes channel : List ℕ)
         → joined u bytes ≡ Some channel
         → after u (Line now bytes) ≡ record u { entry = after_join u.entry channel } }
-    ensures later { (u : Connection) (now : ℕ) (bytes channel : List ℕ)
+    ensures later { (u : ServerSession) (now : ℕ) (bytes channel : List ℕ)
         → joined u bytes ≡ Some channel
         → joined (after u (Line now bytes)) bytes ≡ Some channel }
-    ensures others { (u : Connection) (now : ℕ) (bytes : List ℕ) → joined u bytes ≡ None
+    ensures others { (u : ServerSession) (now : ℕ) (bytes : List ℕ) → joined u bytes ≡ None
         → JoinsNone u.entry.channels (after u (Line now bytes)).entry.channels }
 {}
 
 /// The words by which a server refused its session change by ERROR and 465 alone, and by 432 before the network is up (RFC 2812,
 /// sections 3.7.4 and 5.2), and are at most 200 bytes of printable ASCII.
 pub fn refusals_are_few_printable_words()
-    ensures others { (u : Connection) (before bytes : List ℕ)
+    ensures others { (u : ServerSession) (before bytes : List ℕ)
         → refuses u.entry.is_up (read Server bytes) ≡ false → refusal_after u before bytes ≡ before }
     ensures first { IsShown [] }
-    ensures shown { (u : Connection) (before bytes : List ℕ)
+    ensures shown { (u : ServerSession) (before bytes : List ℕ)
         → IsShown before → IsShown (refusal_after u before bytes) }
 {}
 
 /// A line that is only passed on leaves the session and the words of its refusal as they were, and gives that one line for
 /// clients at most.
 pub fn what_is_only_passed_on_changes_nothing()
-    ensures session { (u : Connection) (now : ℕ) (bytes : List ℕ)
+    ensures session { (u : ServerSession) (now : ℕ) (bytes : List ℕ)
         → is_passed_on bytes ≡ true → after u (Line now bytes) ≡ u }
-    ensures refusal { (u : Connection) (before bytes : List ℕ)
+    ensures refusal { (u : ServerSession) (before bytes : List ℕ)
         → is_passed_on bytes ≡ true → refusal_after u before bytes ≡ before }
-    ensures effects { (u : Connection) (now : ℕ) (bytes : List ℕ)
+    ensures effects { (u : ServerSession) (now : ℕ) (bytes : List ℕ)
         → is_passed_on bytes ≡ true → IsRelayAtMost (effects_of u (Line now bytes)) }
 {}

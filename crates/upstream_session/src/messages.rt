@@ -5,7 +5,7 @@ ghost use Rattle.std.specs.Fmt.{decimal};
 ghost use Rattle.chat_change.specs.Message.{value_of};
 ghost use Rattle.upstream_session.specs.Messages as spec;
 
-use crate::connection::{Connection, Home};
+use crate::connection::{Home, ServerSession};
 use crate::effect::UpEffect;
 use crate::scratch::Scratch;
 use arrayvec::{ArrayVec, CapacityError};
@@ -19,7 +19,7 @@ use std::alloc::Global;
 
 /// The id and the moment that a message bears.
 #[derive(Drop)]
-pub(crate) struct Stamp {
+pub(crate) struct MessageStamp {
     pub(crate) id: Option<MsgId>,
     pub(crate) at: Moment,
 }
@@ -82,12 +82,12 @@ fn moment_if(text: Option<&[u8]>, now: Moment) -> Moment
     }
 }
 
-fn stamp_in(alloc: Global, tags: &Tags<'_>, now: Moment) -> Result<Stamp, NoMemory>
+fn stamp_in(alloc: Global, tags: &Tags<'_>, now: Moment) -> Result<MessageStamp, NoMemory>
     ensures { IfOk result (λ stamp. stamp ≡ spec.stamp_in tags.now now) }
 {
     let at = moment_if(tags.get(b"time"), now);
     let id = id_if(alloc, tags.get(b"msgid"))?;
-    Ok(Stamp { id, at })
+    Ok(MessageStamp { id, at })
 }
 
 /// The id and the moment that the tags of a line give (IRCv3 message-ids and server-time).
@@ -95,11 +95,11 @@ pub(crate) fn stamp_of(
     alloc: Global,
     tags: &Option<Tags<'_>>,
     now: Moment,
-) -> Result<Stamp, NoMemory>
+) -> Result<MessageStamp, NoMemory>
     ensures { IfOk result (λ stamp. stamp ≡ spec.stamp_read tags.now now) }
 {
     match tags {
-        None => Ok(Stamp { id: None, at: now }),
+        None => Ok(MessageStamp { id: None, at: now }),
         Some(tags) => stamp_in(alloc, tags, now),
     }
 }
@@ -153,7 +153,7 @@ pub fn is_from(nick: &[u8], message: &Record) -> bool
     is_same_nick(nick_of(message.source()), nick)
 }
 
-impl Connection {
+impl ServerSession {
     /// Whether the source is the session itself, by its present nick.
     pub(crate) fn is_own(&self, source: &[u8]) -> bool
         ensures { result ≡ spec.is_own self.now source.now }

@@ -13,10 +13,10 @@ ghost use Rattle.upstream_session.specs.MessageOutcome.{after};
 ghost use Rattle.upstream_session.specs.declared.effect.UpEffect.TheVariants as effects;
 
 use crate::command::{ServerCommand, command_of};
-use crate::connection::{Connection, LAST_SERIAL, MOST_TRIES, MessageOutcome};
+use crate::connection::{LAST_SERIAL, MOST_TRIES, MessageOutcome, ServerSession};
 use crate::effect::UpEffect;
 use crate::effects::{one, push, send};
-use crate::messages::{Stamp, has_buffer, is_same_nick, made_id, stamp_of};
+use crate::messages::{MessageStamp, has_buffer, is_same_nick, made_id, stamp_of};
 use crate::scratch::Scratch;
 use byte_text::{NoMemory, Text};
 use chat_change::{Change, Kind, Message, Moment, MsgId, is_id, is_target, lawful_id};
@@ -94,7 +94,7 @@ fn joins(alloc: Global, channels: &[Text]) -> Result<Vec<UpEffect>, NoMemory>
     Ok(list)
 }
 
-impl Connection {
+impl ServerSession {
     // Once the network is up, a line is passed on as it is.
     fn pass_on(
         &self,
@@ -493,7 +493,7 @@ impl Connection {
         tags: &Option<Tags<'_>>,
         bytes: &[u8],
         message: Message<'_>,
-        stamp: Stamp,
+        stamp: MessageStamp,
     ) -> Result<(MessageOutcome, Vec<UpEffect>), NoMemory>
         requires can { messages.can_be_kept self.now (value_of message) ≡ true }
         requires tags { tags.now ≡ option_map tag_list line.now.tags }
@@ -501,7 +501,7 @@ impl Connection {
             ≡ spec.keep_stamped self.now line.now bytes.now (value_of message.entry)
             stamp.id stamp.at) }
     {
-        let Stamp { id, at } = stamp;
+        let MessageStamp { id, at } = stamp;
         match id {
             None => self.keep_made(alloc, scratch, line, tags, bytes, message, at),
             Some(id) => {

@@ -10,7 +10,7 @@ ghost use Rattle.upstream_session.specs.Step.{stays};
 ghost use Rattle.upstream_session.specs.Command.{command_of};
 
 use crate::command::{ServerCommand, command_of};
-use crate::connection::{Connection, LAST_SERIAL, MessageOutcome};
+use crate::connection::{LAST_SERIAL, MessageOutcome, ServerSession};
 use crate::effect::UpEffect;
 use crate::effects::{one, push};
 use crate::messages::made_id;
@@ -65,7 +65,7 @@ fn send_of_tags(
     scratch.one(alloc, UpEffect::Send(line))
 }
 
-impl Connection {
+impl ServerSession {
     fn send_only(
         &self,
         alloc: Global,

@@ -7,7 +7,7 @@ ghost use Rattle.upstream_session.specs.Rows.{serve};
 ghost use Rattle.upstream_session.specs.Session as spec;
 ghost use Rattle.upstream_session.specs.Step as steps;
 
-use crate::connection::{Connection, Home};
+use crate::connection::{Home, ServerSession};
 use crate::effect::UpEffect;
 use crate::effects::{push, send};
 use crate::refusal::Refusal;
@@ -24,7 +24,7 @@ use std::marker::Model;
 
 /// The session with the server of a network: it registers, is up, or is closed.
 pub struct Upstream {
-    connection: Connection,
+    connection: ServerSession,
     refusal: Refusal,
     scratch: Scratch,
 }
@@ -62,7 +62,7 @@ impl Upstream {
         ensures refusal { result.refusal ≡ [] }
     {
         Upstream {
-            connection: Connection {
+            connection: ServerSession {
                 home: Home {
                     account: config.account,
                     network: config.network,

@@ -8,12 +8,12 @@ use ordered_maps::Keeps;
 
 /// Keeps what a floor of a buffer leaves: all but the records of the buffer that stand below it.
 #[derive(Clone, Copy)]
-pub(crate) struct FromFloor<'a> {
+pub(crate) struct FromBufferFloor<'a> {
     pub(crate) buffer: &'a Buffer,
     pub(crate) floor: Moment,
 }
 
-impl Keeps<PieceName> for FromFloor<'_> {
+impl Keeps<PieceName> for FromBufferFloor<'_> {
     ghost is_kept = { λ f. is_left f.buffer.now f.floor };
 
     fn keeps(&self, name: &PieceName) -> bool {

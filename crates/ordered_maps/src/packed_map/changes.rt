@@ -9,12 +9,12 @@ ghost use Rattle.ordered_maps.specs.Ends.{IsGreatest};
 use super::PackedMap;
 use super::edits::{enter, take_last, take_out, write};
 use super::search::find;
-use crate::keys::{Prefixed, Sought};
+use crate::keys::{Lookup, Prefixed};
 use std::alloc::AllocError;
 
 impl<K: Prefixed + Drop, V: Drop> PackedMap<K, V> {
     /// The value at a key, if there is one.
-    pub fn get<Q: Sought<K>>(&self, key: &Q) -> Option<&V>
+    pub fn get<Q: Lookup<K>>(&self, key: &Q) -> Option<&V>
         ensures { option_map deref result ≡ get K.cmp self.now (Q.key key.now) }
     {
         match find(&self.pages, key) {
@@ -60,7 +60,7 @@ impl<K: Prefixed + Drop, V: Drop> PackedMap<K, V> {
     }
 
     /// Takes the value at a key out, if there is one. It takes no memory.
-    pub fn take_out<Q: Sought<K>>(&mut self, key: &Q)
+    pub fn take_out<Q: Lookup<K>>(&mut self, key: &Q)
         ensures { IsWithout K.cmp self.old (Q.key key.now) self.new }
     {
         if let Ok(place) = find(&self.pages, key) {
@@ -69,7 +69,7 @@ impl<K: Prefixed + Drop, V: Drop> PackedMap<K, V> {
     }
 
     /// Writes a value over the one that stands at a key. It takes no memory.
-    pub fn overwrite<Q: Sought<K>>(&mut self, key: &Q, value: V)
+    pub fn overwrite<Q: Lookup<K>>(&mut self, key: &Q, value: V)
         requires held { IsSome (get K.cmp self.old (Q.key key.now)) }
         ensures { IsWith K.cmp self.old (Q.key key.now) value self.new }
     {

@@ -6,7 +6,7 @@ ghost use Rattle.ordered_maps.specs.Pages.{entries_of};
 
 use super::{PackedEntries, PackedMap};
 use crate::keys::Prefixed;
-use crate::page::Page;
+use crate::page::MapPage;
 use std::alloc::AllocError;
 use std::cmp::Ordering;
 use std::collections::VecDeque;
@@ -31,20 +31,20 @@ impl<K: Prefixed + Clone + Drop, V: Clone + Drop> Clone for PackedMap<K, V> {
 }
 
 /// A clone has clones of the keys and values.
-impl<K: Prefixed + Clone + Drop, V: Clone + Drop> Clone for Page<K, V> {
+impl<K: Prefixed + Clone + Drop, V: Clone + Drop> Clone for MapPage<K, V> {
     ghost use Rattle.ordered_maps.specs.Clones.{AreClones};
 
     ghost is_clone = { λ m n. AreClones K.is_clone V.is_clone m n };
 
-    fn clone(&self) -> Result<Page<K, V>, AllocError> {
+    fn clone(&self) -> Result<MapPage<K, V>, AllocError> {
         let mut entries = self.entries.clone()?;
         entries.shrink_to_fit();
-        Ok(Page::of(entries))
+        Ok(MapPage::of(entries))
     }
 }
 
 // Whether the keys ascend from entry to entry and from page to page.
-fn ascend<K: Prefixed, V>(pages: &VecDeque<Page<K, V>>) -> bool
+fn ascend<K: Prefixed, V>(pages: &VecDeque<MapPage<K, V>>) -> bool
     ensures { IsTrue result → AreOrdered K.cmp (entries_of pages.now.items) }
 {
     let mut rest = PackedEntries {

@@ -7,13 +7,13 @@ ghost use Rattle.ordered_maps.specs.MapView.{AreOrdered};
 ghost use Rattle.ordered_maps.specs.Pages.{AreInPages};
 ghost use Rattle.ordered_maps.specs.Parts.{stands_before, last_passes, IsCutIn, IsCutBetween};
 
-use crate::keys::{Prefixed, Sought, order};
-use crate::page::Page;
+use crate::keys::{Lookup, Prefixed, order};
+use crate::page::MapPage;
 use std::collections::VecDeque;
 use std::ops::Bound;
 
 // Whether a key stands before a start bound.
-fn is_before<K: Prefixed, Q: Sought<K>>(key: &K, start: Bound<&Q>) -> bool
+fn is_before<K: Prefixed, Q: Lookup<K>>(key: &K, start: Bound<&Q>) -> bool
     ensures { result ≡ not (is_from_start K.cmp
         (bound_map (λ q. Q.key q.now) start.entry) key.now) }
 {
@@ -25,7 +25,7 @@ fn is_before<K: Prefixed, Q: Sought<K>>(key: &K, start: Bound<&Q>) -> bool
 }
 
 // Whether the last entry of a page stands before a start bound.
-fn ends_before<K: Prefixed, V, Q: Sought<K>>(page: &Page<K, V>, start: Bound<&Q>) -> bool
+fn ends_before<K: Prefixed, V, Q: Lookup<K>>(page: &MapPage<K, V>, start: Bound<&Q>) -> bool
     ensures { result ≡ last_passes
         (stands_before K.cmp (bound_map (λ q. Q.key q.now) start.entry)) page.now }
 {
@@ -36,8 +36,8 @@ fn ends_before<K: Prefixed, V, Q: Sought<K>>(page: &Page<K, V>, start: Bound<&Q>
 }
 
 /// How many pages stand before a start bound, whole. The front page is looked at first, as it is asked for most.
-pub(super) fn pages_before<K: Prefixed, V, Q: Sought<K>>(
-    pages: &VecDeque<Page<K, V>>,
+pub(super) fn pages_before<K: Prefixed, V, Q: Lookup<K>>(
+    pages: &VecDeque<MapPage<K, V>>,
     start: Bound<&Q>,
 ) -> usize
     requires { AreInPages K.cmp pages.now.items }
@@ -54,8 +54,8 @@ pub(super) fn pages_before<K: Prefixed, V, Q: Sought<K>>(
 }
 
 /// How many entries of a page stand before a start bound.
-pub(super) fn entries_before<K: Prefixed, V, Q: Sought<K>>(
-    page: &Page<K, V>,
+pub(super) fn entries_before<K: Prefixed, V, Q: Lookup<K>>(
+    page: &MapPage<K, V>,
     start: Bound<&Q>,
 ) -> usize
     requires { AreOrdered K.cmp page.now }

@@ -8,7 +8,7 @@ ghost use Rattle.ordered_maps.specs.Places.{IsPlace, IsEntryPlace, before, past,
 
 use super::search::Place;
 use crate::keys::Prefixed;
-use crate::page::{END_PAGE, PAGE, Page};
+use crate::page::{END_PAGE, MapPage, PAGE};
 use std::alloc::{AllocError, Global};
 use std::collections::VecDeque;
 
@@ -17,7 +17,7 @@ const PAGES_PER_ENTRY: usize = 128;
 
 /// Writes a value over the one of the entry at a place, and answers what stood there.
 pub(crate) fn write<K: Prefixed + Drop, V: Drop>(
-    pages: &mut VecDeque<Page<K, V>>,
+    pages: &mut VecDeque<MapPage<K, V>>,
     place: Place,
     value: V,
 ) -> V
@@ -30,7 +30,10 @@ pub(crate) fn write<K: Prefixed + Drop, V: Drop>(
 }
 
 /// Takes the entry at a place out. It takes no memory.
-pub(crate) fn take_out<K: Prefixed + Drop, V: Drop>(pages: &mut VecDeque<Page<K, V>>, place: Place)
+pub(crate) fn take_out<K: Prefixed + Drop, V: Drop>(
+    pages: &mut VecDeque<MapPage<K, V>>,
+    place: Place,
+)
     requires at { IsEntryPlace pages.old.items place }
     requires filled { AreFilled pages.old.items }
     ensures out { entries_of pages.new.items
@@ -43,7 +46,7 @@ pub(crate) fn take_out<K: Prefixed + Drop, V: Drop>(pages: &mut VecDeque<Page<K,
 
 /// Takes the last entry out. It takes no memory.
 pub(crate) fn take_last<K: Prefixed + Drop, V: Drop>(
-    pages: &mut VecDeque<Page<K, V>>,
+    pages: &mut VecDeque<MapPage<K, V>>,
 ) -> Option<(K, V)>
     requires filled { AreFilled pages.old.items }
     ensures out { entries_of pages.old.items ≡ entries_of pages.new.items ++ option_to_list result }
@@ -57,7 +60,7 @@ pub(crate) fn take_last<K: Prefixed + Drop, V: Drop>(
 }
 
 // Takes a page out where it is empty.
-fn drop_if_empty<K: Prefixed + Drop, V: Drop>(pages: &mut VecDeque<Page<K, V>>, page: usize)
+fn drop_if_empty<K: Prefixed + Drop, V: Drop>(pages: &mut VecDeque<MapPage<K, V>>, page: usize)
     requires within { page < length pages.old.items }
     requires others { AreFilledBut pages.old.items page }
     ensures same { entries_of pages.new.items ≡ entries_of pages.old.items }
@@ -70,7 +73,7 @@ fn drop_if_empty<K: Prefixed + Drop, V: Drop>(pages: &mut VecDeque<Page<K, V>>, 
 
 /// Puts an entry at a place. Where there is no memory the entries stay as they were.
 pub(crate) fn enter<K: Prefixed + Drop, V: Drop>(
-    pages: &mut VecDeque<Page<K, V>>,
+    pages: &mut VecDeque<MapPage<K, V>>,
     alloc: Global,
     place: Place,
     entry: (K, V),
@@ -112,7 +115,7 @@ fn limit(pages: usize) -> usize
 
 // Splits a full page and puts an entry in one of the halves.
 fn enter_in_full<K: Prefixed + Drop, V: Drop>(
-    pages: &mut VecDeque<Page<K, V>>,
+    pages: &mut VecDeque<MapPage<K, V>>,
     place: Place,
     entry: (K, V),
 ) -> bool
@@ -139,7 +142,7 @@ fn enter_in_full<K: Prefixed + Drop, V: Drop>(
 
 // Puts an entry in the page of a place.
 fn put_in<K: Prefixed + Drop, V: Drop>(
-    pages: &mut VecDeque<Page<K, V>>,
+    pages: &mut VecDeque<MapPage<K, V>>,
     place: Place,
     entry: (K, V),
 ) -> bool
@@ -154,7 +157,7 @@ fn put_in<K: Prefixed + Drop, V: Drop>(
 
 // Begins a page before those from an index on. The first page of all grows with its entries, and another has its room at once.
 fn begin<K: Prefixed + Drop, V: Drop>(
-    pages: &mut VecDeque<Page<K, V>>,
+    pages: &mut VecDeque<MapPage<K, V>>,
     alloc: Global,
     page: usize,
     entry: (K, V),
@@ -165,7 +168,7 @@ fn begin<K: Prefixed + Drop, V: Drop>(
     ensures refused { result ≡ false → pages.new.items ≡ pages.old.items }
 {
     let room = if pages.is_empty() { 0 } else { END_PAGE };
-    match Page::begin(alloc, room, entry) {
+    match MapPage::begin(alloc, room, entry) {
         Ok(begun) => pages.insert(page, begun).is_ok(),
         Err(_) => false,
     }
@@ -173,7 +176,7 @@ fn begin<K: Prefixed + Drop, V: Drop>(
 
 // Splits a page at an index. Where there is no memory it stays whole.
 fn split<K: Prefixed + Drop, V: Drop>(
-    pages: &mut VecDeque<Page<K, V>>,
+    pages: &mut VecDeque<MapPage<K, V>>,
     page: usize,
     index: usize,
 ) -> Result<(), AllocError>

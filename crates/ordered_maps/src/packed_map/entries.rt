@@ -6,7 +6,7 @@ ghost use Rattle.std.specs.Map.Iter.{TakesFirst, TakesLast, deref, deref_pair};
 ghost use Rattle.ordered_maps.specs.Parts.{rest_of};
 
 use crate::keys::Prefixed;
-use crate::page::Page;
+use crate::page::MapPage;
 use std::collections::vec_deque;
 use std::marker::Model;
 
@@ -14,7 +14,7 @@ use std::marker::Model;
 #[derive(Drop)]
 pub struct PackedEntries<'a, K: Prefixed, V> {
     pub(super) first: Option<vec_deque::Iter<'a, (K, V)>>,
-    pub(super) pages: vec_deque::Iter<'a, Page<K, V>>,
+    pub(super) pages: vec_deque::Iter<'a, MapPage<K, V>>,
     pub(super) last: Option<vec_deque::Iter<'a, (K, V)>>,
 }
 

@@ -13,7 +13,7 @@ ghost use Rattle.ordered_maps.specs.Parts.{stands_before};
 
 use super::cuts::{entries_before, pages_before};
 use super::{PackedEntries, PackedMap};
-use crate::keys::{Prefixed, Sought};
+use crate::keys::{Lookup, Prefixed};
 use std::ops::Bound;
 
 impl<K: Prefixed + Drop, V: Drop> PackedMap<K, V> {
@@ -36,14 +36,14 @@ impl<K: Prefixed + Drop, V: Drop> PackedMap<K, V> {
     }
 
     /// The entry with the greatest key below another.
-    pub fn last_before<Q: Sought<K>>(&self, key: &Q) -> Option<(&K, &V)>
+    pub fn last_before<Q: Lookup<K>>(&self, key: &Q) -> Option<(&K, &V)>
         ensures { IsLastBefore K.cmp (Q.key key.now) self.now (option_map deref_pair result) }
     {
         self.before(Bound::Included(key)).next_back()
     }
 
     /// The entries from a bound on.
-    pub fn from<Q: Sought<K>>(&self, start: Bound<&Q>) -> PackedEntries<'_, K, V>
+    pub fn from<Q: Lookup<K>>(&self, start: Bound<&Q>) -> PackedEntries<'_, K, V>
         ensures between { result
             ≡ entries_between K.cmp (bound_map (λ q. Q.key q.now) start.entry) Unbounded self.now }
         ensures ordered { AreOrdered K.cmp self.now }
@@ -64,7 +64,7 @@ impl<K: Prefixed + Drop, V: Drop> PackedMap<K, V> {
     }
 
     /// The entries up to a bound.
-    pub fn until<Q: Sought<K>>(&self, end: Bound<&Q>) -> PackedEntries<'_, K, V>
+    pub fn until<Q: Lookup<K>>(&self, end: Bound<&Q>) -> PackedEntries<'_, K, V>
         ensures between { result
             ≡ entries_between K.cmp Unbounded (bound_map (λ q. Q.key q.now) end.entry) self.now }
         ensures ordered { AreOrdered K.cmp self.now }
@@ -81,7 +81,7 @@ impl<K: Prefixed + Drop, V: Drop> PackedMap<K, V> {
     }
 
     // The entries before a start bound.
-    fn before<Q: Sought<K>>(&self, start: Bound<&Q>) -> PackedEntries<'_, K, V>
+    fn before<Q: Lookup<K>>(&self, start: Bound<&Q>) -> PackedEntries<'_, K, V>
         ensures before { result
             ≡ filter (stands_before K.cmp (bound_map (λ q. Q.key q.now) start.entry)) self.now }
         ensures ordered { AreOrdered K.cmp self.now }

@@ -7,8 +7,8 @@ ghost use Rattle.ordered_maps.specs.Pages.{entries_of, AreFilled};
 
 use super::PackedMap;
 use super::cuts::pages_before;
-use crate::keys::{Prefixed, Sought};
-use crate::page::Page;
+use crate::keys::{Lookup, Prefixed};
+use crate::page::MapPage;
 use std::collections::VecDeque;
 use std::ops::Bound;
 
@@ -35,7 +35,7 @@ impl<K: Prefixed + Drop, V: Drop> PackedMap<K, V> {
     }
 
     /// How many pages have entries from a bound on.
-    pub fn page_count_from<Q: Sought<K>>(&self, start: Bound<&Q>) -> usize {
+    pub fn page_count_from<Q: Lookup<K>>(&self, start: Bound<&Q>) -> usize {
         self.pages
             .len()
             .saturating_sub(pages_before(&self.pages, start))
@@ -43,7 +43,7 @@ impl<K: Prefixed + Drop, V: Drop> PackedMap<K, V> {
 }
 
 // Keeps the entries whose values stay by a test. It takes no memory.
-fn retain<K: Prefixed + Drop, V: Drop, T: Keeps<V>>(pages: &mut VecDeque<Page<K, V>>, test: &T)
+fn retain<K: Prefixed + Drop, V: Drop, T: Keeps<V>>(pages: &mut VecDeque<MapPage<K, V>>, test: &T)
     ensures kept { entries_of pages.new.items
         ≡ filter (λ e. T.is_kept test.now e.1) (entries_of pages.old.items) }
     ensures filled { AreFilled pages.new.items }

@@ -4,8 +4,8 @@ ghost use Rattle.std.specs.Prelude.{IfOk, IfErr, MatchOption};
 ghost use Rattle.ordered_maps.specs.Pages.{entries_of, AreInPages};
 ghost use Rattle.ordered_maps.specs.Places.{AreAbove, IsPageOf, IsHeldAt, IsGap};
 
-use crate::keys::{Prefixed, Sought};
-use crate::page::Page;
+use crate::keys::{Lookup, Prefixed};
+use crate::page::MapPage;
 use std::collections::VecDeque;
 
 /// A place among pages: the one before the entry at an index in a page, or at the page's end.
@@ -16,8 +16,8 @@ pub(crate) struct Place {
 }
 
 /// The place of the entry that has a key, or else the place where it would stand.
-pub(crate) fn find<K: Prefixed, V, Q: Sought<K>>(
-    pages: &VecDeque<Page<K, V>>,
+pub(crate) fn find<K: Prefixed, V, Q: Lookup<K>>(
+    pages: &VecDeque<MapPage<K, V>>,
     key: &Q,
 ) -> Result<Place, Place>
     requires { AreInPages K.cmp pages.now.items }
@@ -34,7 +34,7 @@ pub(crate) fn find<K: Prefixed, V, Q: Sought<K>>(
 }
 
 // The last page whose first key isn't above a key.
-fn page_of<K: Prefixed, V, Q: Sought<K>>(pages: &VecDeque<Page<K, V>>, key: &Q) -> Option<usize>
+fn page_of<K: Prefixed, V, Q: Lookup<K>>(pages: &VecDeque<MapPage<K, V>>, key: &Q) -> Option<usize>
     requires { AreInPages K.cmp pages.now.items }
     ensures { MatchOption result
         (AreAbove K.cmp (Q.key key.now) (entries_of pages.now.items))

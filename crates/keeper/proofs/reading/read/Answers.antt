@@ -14,9 +14,9 @@ returns-in-None-clause-found g c =
     let new = c.next.new.self.blocks in
     let done = c.in-Ok.ensures.last (search rules) now.past now.reading in
     let still = c.in-Ok.ensures.still (search rules) now.past now.reading in
-    let left : c.saturating_sub-left.result ≡ length (drop new.end (g.S.Source.got new.source)) =
-    omega (arith, left_behind g.S.Source.got new still.payloads still.reading, c.len.ensures, c.saturating_sub-left.ensures) in
-    from_source g.S.Source.got c.source_of-in-None.result new.source c.source_of-in-None.ensures
+    let left : c.saturating_sub-left.result ≡ length (drop new.end (g.S.ByteSource.got new.source)) =
+    omega (arith, left_behind g.S.ByteSource.got new still.payloads still.reading, c.len.ensures, c.saturating_sub-left.ensures) in
+    from_source g.S.ByteSource.got c.source_of-in-None.result new.source c.source_of-in-None.ensures
     (record { past = now.past; read = done.0; state = now.state; life = done.1; left = left; count = now.counted })
 
 pub returns-in-Err-clause-refused : goal.returns-in-Err-clause-refused
@@ -24,17 +24,17 @@ returns-in-Err-clause-refused g c = λ is.
     let now = c.loop.invariant.reading in
     let end = c.loop.reader.blocks.end in
     let found = c.in-Err.ensures.refused (ap Err is) in
-    subst (λ source. HasNoEntryAt (g.S.Source.got source) end) (sym c.source_of.ensures)
-    (no_entry_at g.S.Source.got c.next.new.self.blocks now.payloads found.0 end (found.2 now.payloads now.reading) now.reading.end found.1)
+    subst (λ source. HasNoEntryAt (g.S.ByteSource.got source) end) (sym c.source_of.ensures)
+    (no_entry_at g.S.ByteSource.got c.next.new.self.blocks now.payloads found.0 end (found.2 now.payloads now.reading) now.reading.end found.1)
 
 pub returns-in-Err-clause-damaged : goal.returns-in-Err-clause-damaged
 returns-in-Err-clause-damaged g c = λ is.
-    subst (λ source. HasDamage (g.S.Source.got source) c.loop.reader.blocks.end) (sym c.source_of.ensures) (c.in-Err.ensures.damaged (ap Err is))
+    subst (λ source. HasDamage (g.S.ByteSource.got source) c.loop.reader.blocks.end) (sym c.source_of.ensures) (c.in-Err.ensures.damaged (ap Err is))
 
 pub loop-preserved : goal.loop-preserved
 loop-preserved g c =
     let now = c.loop.invariant in
-    let next = subst (λ o. IfSome o (λ more. (past : Past) → IsReadingPast g.S.Source.got c.loop.reader past → (n : ℕ) × IsReadingPast g.S.Source.got c.next.new.self (with_life (with_changes past more.items) n)))
+    let next = subst (λ o. IfSome o (λ more. (past : Past) → IsReadingPast g.S.ByteSource.got c.loop.reader past → (n : ℕ) × IsReadingPast g.S.ByteSource.got c.next.new.self (with_life (with_changes past more.items) n)))
     c.in-Some.is c.in-Ok.ensures.next in
     let on = next now.past now.reading in
     record {

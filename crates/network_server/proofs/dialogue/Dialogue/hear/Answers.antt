@@ -1,5 +1,5 @@
 use Rattle.std.proofs.Common.{◌≡◌, [], ◌∷◌, ◌++◌, sym, ap, ◌∙◌, subst}
-use Rattle.upstream_session.specs.declared.connection.Connection.{Connection}
+use Rattle.upstream_session.specs.declared.connection.ServerSession.{ServerSession}
 use Rattle.upstream_session.specs.Events.{ServerEvent, Line}
 use Rattle.upstream_session.specs.Refusal.{Session}
 use Rattle.upstream_session.specs.Session.{step, joined, JoinsNone}
@@ -12,22 +12,22 @@ use Rattle.network_server.proofs.dialogue.Dialogue.hear.Goals as goal
 
 pub returns-clause-batch : goal.returns-clause-batch
 returns-clause-batch c =
-    let u : Connection = c.args.self.now.session.connection in
+    let u : ServerSession = c.args.self.now.session.connection in
     let bytes = c.args.line.now in
-    let after : Connection = c.step.new.self.connection in
+    let after : ServerSession = c.step.new.self.connection in
     let same : after ≡ (step u c.args.now bytes).session = ap (λ (s : ServerStep). s.session) c.in-Ok-step.ensures.step in
     let law = c.what_is_joined_is_told.ensures in
     let noted : IsNoted c.note.new.self u.entry = subst (IsNoted c.note.new.self) c.entry.ensures c.in-Ok.ensures in
     let is : entering (has_entered u.entry after.entry) (joined after bytes) ≡ entering (has_entered u.entry after.entry) (joined u bytes) =
     entered-same u after bytes
-    (λ ch e. ap (λ (v : Connection). joined v bytes) same ∙ law.later u c.args.now bytes ch e)
-    (λ none. subst (λ (v : Connection). JoinsNone u.entry.channels v.entry.channels) (sym same) (law.others u c.args.now bytes none)) in
+    (λ ch e. ap (λ (v : ServerSession). joined v bytes) same ∙ law.later u c.args.now bytes ch e)
+    (λ none. subst (λ (v : ServerSession). JoinsNone u.entry.channels v.entry.channels) (sym same) (law.others u c.args.now bytes none)) in
     c.in-Ok-carry_out.ensures.batch u (joined u bytes) noted (c.in-Ok-entered.ensures u noted ∙ is)
     ∙ ap (λ (s : ServerStep). c.args.batch.now ++ entries_by u s (joined u bytes)) c.in-Ok-step.ensures.step
 
 pub returns-in_default-entered-clause-over : goal.returns-in_default-entered-clause-over
 returns-in_default-entered-clause-over c = λ closed.
-    let u : Connection = c.args.self.now.session.connection in
+    let u : ServerSession = c.args.self.now.session.connection in
     let event : ServerEvent = Line c.args.now c.args.line.now in
     let law = c.nothing_follows_close.ensures in
     over-by u (step u c.args.now c.args.line.now) c.args.self.now.is_over c.step.new.self.connection c.in-Ok-step.effects.items c.has_close.result
@@ -35,7 +35,7 @@ returns-in_default-entered-clause-over c = λ closed.
 
 pub returns-in_default-carry_out-clause-over : goal.returns-in_default-carry_out-clause-over
 returns-in_default-carry_out-clause-over c = λ closed.
-    let u : Connection = c.args.self.now.session.connection in
+    let u : ServerSession = c.args.self.now.session.connection in
     let event : ServerEvent = Line c.args.now c.args.line.now in
     let law = c.nothing_follows_close.ensures in
     let over = over-by u (step u c.args.now c.args.line.now) c.args.self.now.is_over c.step.new.self.connection c.in-Ok-step.effects.items c.has_close.result
@@ -44,7 +44,7 @@ returns-in_default-carry_out-clause-over c = λ closed.
 
 pub returns-clause-over : goal.returns-clause-over
 returns-clause-over c = λ closed.
-    let u : Connection = c.args.self.now.session.connection in
+    let u : ServerSession = c.args.self.now.session.connection in
     let event : ServerEvent = Line c.args.now c.args.line.now in
     let law = c.nothing_follows_close.ensures in
     let over = over-by u (step u c.args.now c.args.line.now) c.args.self.now.is_over c.step.new.self.connection c.in-Ok-step.effects.items c.has_close.result

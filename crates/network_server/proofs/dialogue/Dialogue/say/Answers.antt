@@ -1,5 +1,5 @@
 use Rattle.std.proofs.Common.{[], ◌∷◌, sym, ap, ◌∙◌}
-use Rattle.upstream_session.specs.declared.connection.Connection.{Connection}
+use Rattle.upstream_session.specs.declared.connection.ServerSession.{ServerSession}
 use Rattle.upstream_session.specs.Events.{ServerEvent, Saying}
 use Rattle.upstream_session.specs.Refusal.{Session}
 use Rattle.upstream_session.specs.Session.{say}
@@ -9,7 +9,7 @@ use Rattle.network_server.proofs.dialogue.Dialogue.say.Goals as goal
 
 pub returns-in_default-carry_out-clause-over : goal.returns-in_default-carry_out-clause-over
 returns-in_default-carry_out-clause-over c = λ closed.
-    let u : Connection = c.args.self.now.session.connection in
+    let u : ServerSession = c.args.self.now.session.connection in
     let event : ServerEvent = Saying c.args.now c.args.text.now in
     let law = c.nothing_follows_close.ensures in
     let over = over-by u (say u c.args.now c.args.text.now) c.args.self.now.is_over c.say.new.self.connection c.in-Ok-say.effects.items c.has_close.result
@@ -18,7 +18,7 @@ returns-in_default-carry_out-clause-over c = λ closed.
 
 pub returns-clause-over : goal.returns-clause-over
 returns-clause-over c = λ closed.
-    let u : Connection = c.args.self.now.session.connection in
+    let u : ServerSession = c.args.self.now.session.connection in
     let event : ServerEvent = Saying c.args.now c.args.text.now in
     let law = c.nothing_follows_close.ensures in
     let over = over-by u (say u c.args.now c.args.text.now) c.args.self.now.is_over c.say.new.self.connection c.in-Ok-say.effects.items c.has_close.result

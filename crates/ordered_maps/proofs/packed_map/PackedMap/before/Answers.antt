@@ -17,7 +17,7 @@ pub returns-clause-before : goal.returns-clause-before
 returns-clause-before g c =
     let pages = c.self.inside.pages.items in
     let whole = c.pages_before-whole.result in
-    let start = bound_map (λ q. g.Q.Sought.key q.now) c.args.start in
+    let start = bound_map (λ q. g.Q.Lookup.key q.now) c.args.start in
     let test = stands_before g.K.Ord.cmp start in
     let front : deque_iter_rest c.range-2.result ≡ take whole pages = c.range-2.ensures.rest ∙ slice_front pages whole in
     elim c.match-get.branch [

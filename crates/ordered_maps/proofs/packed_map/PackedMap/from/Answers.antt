@@ -17,7 +17,7 @@ pub returns-in_default-clause-between : goal.returns-in_default-clause-between
 returns-in_default-clause-between g c =
     let pages = c.self.inside.pages.items in
     let whole = c.pages_before-whole.result in
-    let start = bound_map (λ q. g.Q.Sought.key q.now) c.args.start in
+    let start = bound_map (λ q. g.Q.Lookup.key q.now) c.args.start in
     let none : deque_iter_rest c.range.result ≡ [] = c.range.ensures.rest ∙ slice_back pages whole c.self.inside.pages.len (omega arith) ∙ drop_all whole pages (search rules) in
     append-nil (entries_of (deque_iter_rest c.range.result)) ∙ ap entries_of none
     ∙ sym (from_end g.met.K.Ord.total start pages whole c.self.invariant.ordered c.pages_before-whole.ensures.cut (omega arith) (search rules))
@@ -29,7 +29,7 @@ returns-clause-between g c =
     let page = c.in-Some.page.now in
     let whole = c.pages_before-whole.result in
     let cut = c.entries_before.result in
-    let start = bound_map (λ q. g.Q.Sought.key q.now) c.args.start in
+    let start = bound_map (λ q. g.Q.Lookup.key q.now) c.args.start in
     let rest : deque_iter_rest c.range-2.result ≡ drop cut page = c.range-2.ensures.rest ∙ slice_back c.page.inside.entries.items cut c.page.inside.entries.len (omega arith) ∙ ap (drop cut) c.page.view_is in
     let back : deque_iter_rest c.range-3.result ≡ drop (whole + 1) pages = c.range-3.ensures.rest ∙ slice_back pages (whole + 1) c.self.inside.pages.len (omega arith) in
     append-nil (deque_iter_rest c.range-2.result ++ entries_of (deque_iter_rest c.range-3.result))

@@ -10,15 +10,15 @@ invariant_of-self g c =
     let place = c.in-Ok.place in
     record {
       filled = c.take_out.ensures.filled;
-      ordered = out_ordered g.met.K.Ord.total (g.Q.Sought.key c.args.key.now) pages c.self.invariant place c.in-Ok.ensures.held c.take_out.new.pages.items c.take_out.ensures.out;
+      ordered = out_ordered g.met.K.Ord.total (g.Q.Lookup.key c.args.key.now) pages c.self.invariant place c.in-Ok.ensures.held c.take_out.new.pages.items c.take_out.ensures.out;
     }
 
 pub returns-in-Ok : goal.returns-in-Ok
 returns-in-Ok g c =
-    subst (λ es. IsWithout g.K.Ord.cmp es (g.Q.Sought.key c.args.key.now) (entries_of c.take_out.new.pages.items)) c.self.view_is
-    (out_without g.met.K.Ord.total (g.Q.Sought.key c.args.key.now) c.self.inside.pages.items c.self.invariant c.in-Ok.place c.in-Ok.ensures.held c.take_out.new.pages.items c.take_out.ensures.out)
+    subst (λ es. IsWithout g.K.Ord.cmp es (g.Q.Lookup.key c.args.key.now) (entries_of c.take_out.new.pages.items)) c.self.view_is
+    (out_without g.met.K.Ord.total (g.Q.Lookup.key c.args.key.now) c.self.inside.pages.items c.self.invariant c.in-Ok.place c.in-Ok.ensures.held c.take_out.new.pages.items c.take_out.ensures.out)
 
 pub returns-in_default : goal.returns-in_default
 returns-in_default g c =
-    subst (λ es. IsWithout g.K.Ord.cmp es (g.Q.Sought.key c.args.key.now) es) c.self.view_is
-    (gap_without g.met.K.Ord.total (g.Q.Sought.key c.args.key.now) c.self.inside.pages.items c.self.invariant c.in_default.field-0 c.in_default.ensures.gap)
+    subst (λ es. IsWithout g.K.Ord.cmp es (g.Q.Lookup.key c.args.key.now) es) c.self.view_is
+    (gap_without g.met.K.Ord.total (g.Q.Lookup.key c.args.key.now) c.self.inside.pages.items c.self.invariant c.in_default.field-0 c.in_default.ensures.gap)

@@ -11,4 +11,4 @@ pub returns-in-Unbounded-clause-between : goal.returns-in-Unbounded-clause-betwe
 returns-in-Unbounded-clause-between g c =
     append-nil (entries_of (deque_iter_rest c.iter.result)) ∙ ap entries_of c.iter.ensures.rest ∙ c.self.view_is
     ∙ sym (kept_all g.K.Ord.cmp c.args.self.now)
-    ∙ ap (λ end. entries_between g.K.Ord.cmp Unbounded (bound_map (λ q. g.Q.Sought.key q.now) end) c.args.self.now) (sym c.in-Unbounded.is)
+    ∙ ap (λ end. entries_between g.K.Ord.cmp Unbounded (bound_map (λ q. g.Q.Lookup.key q.now) end) c.args.self.now) (sym c.in-Unbounded.is)

@@ -6,7 +6,7 @@ use Rattle.ordered_maps.proofs.packed_map.cuts.ends_before.Goals as goal
 
 pub returns-in-Some : goal.returns-in-Some
 returns-in-Some g c =
-    let test = stands_before g.K.Ord.cmp (bound_map (λ q. g.Q.Sought.key q.now) c.args.start) in
+    let test = stands_before g.K.Ord.cmp (bound_map (λ q. g.Q.Lookup.key q.now) c.args.start) in
     let items = c.page.inside.entries.items in
     c.is_before.ensures ∙ ap test c.in-Some.ensures.lookup
     ∙ sym (last_passes_at test items (c.page.inside.entries.len - 1) c.in-Some.entry.now (omega (arith, c.in-Some.ensures.variant.0 refl)))

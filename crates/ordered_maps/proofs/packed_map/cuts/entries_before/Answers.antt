@@ -9,9 +9,9 @@ use Rattle.ordered_maps.proofs.packed_map.cuts.entries_before.Goals as goal
 
 pub returns-clause-cut : goal.returns-clause-cut
 returns-clause-cut g c =
-    let test = stands_before g.K.Ord.cmp (bound_map (λ q. g.Q.Sought.key q.now) c.args.start) in
+    let test = stands_before g.K.Ord.cmp (bound_map (λ q. g.Q.Lookup.key q.now) c.args.start) in
     let items = c.page.inside.entries.items in
     subst (λ es. IsPartitionPoint (λ e. test e ≡ true) (λ e. test e ≡ false) es c.partition_point.result) c.page.view_is
     (IsPartitionPoint-from_clause test items c.partition_point.result c.partition_point.ensures.partitioned
-    (page_falls g.met.K.Ord.total (bound_map (λ q. g.Q.Sought.key q.now) c.args.start) items (subst (λ es. AreOrdered g.K.Ord.cmp es) (sym c.page.view_is) c.requires))
+    (page_falls g.met.K.Ord.total (bound_map (λ q. g.Q.Lookup.key q.now) c.args.start) items (subst (λ es. AreOrdered g.K.Ord.cmp es) (sym c.page.view_is) c.requires))
     (λ a r f k. search rules))

@@ -8,11 +8,11 @@ use Rattle.ordered_maps.proofs.packed_map.cuts.pages_before.Goals as goal
 pub returns-then-not-ends_before-clause-cut : goal.returns-then-not-ends_before-clause-cut
 returns-then-not-ends_before-clause-cut g c = (
   λ k d low high. absurd (omega arith),
-  no_page g.met.K.Ord.total (bound_map (λ q. g.Q.Sought.key q.now) c.args.start) c.args.pages.now.items c.in-Some.front.now c.requires.filled c.requires.ordered c.in-Some.ensures.lookup (search rules),
+  no_page g.met.K.Ord.total (bound_map (λ q. g.Q.Lookup.key q.now) c.args.start) c.args.pages.now.items c.in-Some.front.now c.requires.filled c.requires.ordered c.in-Some.ensures.lookup (search rules),
 )
 
 pub returns-clause-cut : goal.returns-clause-cut
 returns-clause-cut g c =
-    IsPartitionPoint-from_clause (last_passes (stands_before g.K.Ord.cmp (bound_map (λ q. g.Q.Sought.key q.now) c.args.start))) c.args.pages.now.items c.partition_point.result c.partition_point.ensures.partitioned
-    (pages_fall g.met.K.Ord.total (bound_map (λ q. g.Q.Sought.key q.now) c.args.start) c.args.pages.now.items c.requires.filled c.requires.ordered)
+    IsPartitionPoint-from_clause (last_passes (stands_before g.K.Ord.cmp (bound_map (λ q. g.Q.Lookup.key q.now) c.args.start))) c.args.pages.now.items c.partition_point.result c.partition_point.ensures.partitioned
+    (pages_fall g.met.K.Ord.total (bound_map (λ q. g.Q.Lookup.key q.now) c.args.start) c.args.pages.now.items c.requires.filled c.requires.ordered)
     (λ a r f k. search rules)

@@ -1,6 +1,6 @@
 use Rattle.std.proofs.Common.{arith}
 use Rattle.std.proofs.lemmas.Grind.{common_steps}
-use Rattle.upstream_session.proofs.connection.Connection.say_of_tags.Goals as goal
+use Rattle.upstream_session.proofs.connection.ServerSession.say_of_tags.Goals as goal
 
 pub returns-in-None : goal.returns-in-None
 returns-in-None c = grind (arith, common_steps)

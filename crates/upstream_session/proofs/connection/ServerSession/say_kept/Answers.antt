@@ -5,7 +5,7 @@ use Rattle.chat_change.specs.Message.{value_of}
 use Rattle.upstream_session.specs.Messages.{made_id}
 use Rattle.upstream_session.specs.Sayings.{say_of_tags}
 use Rattle.upstream_session.proofs.KeptLemmas.{say_read}
-use Rattle.upstream_session.proofs.connection.Connection.say_kept.Goals as goal
+use Rattle.upstream_session.proofs.connection.ServerSession.say_kept.Goals as goal
 
 pub returns-then-self : goal.returns-then-self
 returns-then-self c = grind (arith, common_steps)

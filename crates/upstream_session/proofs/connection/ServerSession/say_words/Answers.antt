@@ -2,12 +2,12 @@ use Rattle.std.proofs.Common.{◌≡◌, ◌<◌, ℕ, List, [], ◌∷◌, leng
 use Rattle.std.specs.Option.{option_copied}
 use Rattle.std.proofs.lemmas.List.{length-map}
 use Rattle.chat_change.specs.declared.message.Kind.{Kind}
-use Rattle.upstream_session.specs.declared.connection.Connection.{Connection}
+use Rattle.upstream_session.specs.declared.connection.ServerSession.{ServerSession}
 use Rattle.upstream_session.specs.Step.{stays}
 use Rattle.upstream_session.specs.Sayings.{send_tagged, say_words}
-use Rattle.upstream_session.proofs.connection.Connection.say_words.Goals as goal
+use Rattle.upstream_session.proofs.connection.ServerSession.say_words.Goals as goal
 
-too_few : (u : Connection) (now : ℕ) (text : List ℕ) (tags : Option (List ℕ)) (kind : Kind) (ps : List (List ℕ)) → length ps < 2
+too_few : (u : ServerSession) (now : ℕ) (text : List ℕ) (tags : Option (List ℕ)) (kind : Kind) (ps : List (List ℕ)) → length ps < 2
     → say_words u now text tags kind ps ≡ stays u (send_tagged tags text)
 too_few u now text tags kind [] h = refl
 too_few u now text tags kind (a ∷ []) h = refl

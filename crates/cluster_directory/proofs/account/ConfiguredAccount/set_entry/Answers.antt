@@ -2,7 +2,7 @@ use Rattle.std.proofs.Common.{◌≡◌, ◌∙◌, List, Some, position, refl, 
 use Rattle.std.specs.Str.{bytes_eq}
 use Rattle.cluster_directory.specs.Directory.{Account, Network, account_with}
 use Rattle.cluster_directory.proofs.FirstLemmas.{first_set, none_changed}
-use Rattle.cluster_directory.proofs.account.Account.set_entry.Goals as goal
+use Rattle.cluster_directory.proofs.account.ConfiguredAccount.set_entry.Goals as goal
 
 pub returns-in-None : goal.returns-in-None
 returns-in-None c =

@@ -4,7 +4,7 @@ use Rattle.chat_change.specs.declared.faults.ChangeFault.{ChangeFault}
 use Rattle.chat_change.specs.Faults.{is_message, record_fault}
 use Rattle.chat_change.specs.Message.{Message, value_of}
 use Rattle.upstream_session.specs.Messages.{conversation, has_buffer}
-use Rattle.upstream_session.proofs.connection.Connection.post.Goals as goal
+use Rattle.upstream_session.proofs.connection.ServerSession.post.Goals as goal
 
 -- a message that can be kept is of a conversation that has a buffer
 pub buffer_for-requires : goal.buffer_for-requires

@@ -2,12 +2,12 @@ use Rattle.std.proofs.Common.{◌≡◌, ◌<◌, ◌∙◌, ℕ, List, [], ◌�
 use Rattle.std.proofs.lemmas.List.{length-map}
 use Rattle.irc_line.specs.Line.{Reading}
 use Rattle.chat_change.specs.declared.message.Kind.{Kind}
-use Rattle.upstream_session.specs.declared.connection.Connection.{Connection}
+use Rattle.upstream_session.specs.declared.connection.ServerSession.{ServerSession}
 use Rattle.upstream_session.specs.Step.{stays}
 use Rattle.upstream_session.specs.Rows.{pass_on, message}
-use Rattle.upstream_session.proofs.connection.Connection.serve_message.Goals as goal
+use Rattle.upstream_session.proofs.connection.ServerSession.serve_message.Goals as goal
 
-too_few : (u : Connection) (now : ℕ) (kind : Kind) (line : Reading) (bytes : List ℕ) (ps : List (List ℕ)) → length ps < 2
+too_few : (u : ServerSession) (now : ℕ) (kind : Kind) (line : Reading) (bytes : List ℕ) (ps : List (List ℕ)) → length ps < 2
     → message u now kind line bytes ps ≡ stays u (pass_on u line bytes)
 too_few u now kind line bytes [] h = refl
 too_few u now kind line bytes (a ∷ []) h = refl

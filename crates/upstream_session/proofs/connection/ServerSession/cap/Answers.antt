@@ -1,6 +1,6 @@
 use Rattle.std.proofs.Common.{arith}
 use Rattle.std.proofs.lemmas.Grind.{common_steps}
-use Rattle.upstream_session.proofs.connection.Connection.cap.Goals as goal
+use Rattle.upstream_session.proofs.connection.ServerSession.cap.Goals as goal
 
 pub bounds-parameters-1 : goal.bounds-parameters-1
 bounds-parameters-1 c = omega arith

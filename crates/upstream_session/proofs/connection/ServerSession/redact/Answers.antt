@@ -1,6 +1,6 @@
 use Rattle.std.proofs.Common.{arith}
 use Rattle.std.proofs.lemmas.Grind.{common_steps}
-use Rattle.upstream_session.proofs.connection.Connection.redact.Goals as goal
+use Rattle.upstream_session.proofs.connection.ServerSession.redact.Goals as goal
 
 pub bounds-parameters-0 : goal.bounds-parameters-0
 bounds-parameters-0 c = omega arith

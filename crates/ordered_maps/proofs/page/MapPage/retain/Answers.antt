@@ -1,7 +1,7 @@
 use Rattle.std.proofs.Common.{rules, of_calls, ap, ◌∙◌}
 use Rattle.std.specs.List.{filter}
 use Rattle.std.proofs.lemmas.Fn.{filter_same}
-use Rattle.ordered_maps.proofs.page.Page.retain.Goals as goal
+use Rattle.ordered_maps.proofs.page.MapPage.retain.Goals as goal
 
 pub returns-then-len-capacity : goal.returns-then-len-capacity
 returns-then-len-capacity g c =
