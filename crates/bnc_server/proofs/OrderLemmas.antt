@@ -15,9 +15,9 @@ use Rattle.chat_change.specs.declared.change.Change.{Change}
 use Rattle.chat_history.specs.History.{norm, changes_of, SameSet}
 use Rattle.chat_history.specs.Visible.{records_in}
 use Rattle.chat_history.proofs.CallerLemmas.{norm_left, norm_of_set}
-use Rattle.chat_past.specs.Answers.{Answer}
+use Rattle.chat_query.specs.Answers.{Answer}
 use Rattle.chat_query.specs.declared.facts.Facts.{Facts}
-use Rattle.chat_past.proofs.CallerLemmas.{same_answer}
+use Rattle.chat_query.proofs.CallerLemmas.{same_answer}
 use Rattle.cluster_directory.specs.Directory.{Directory}
 use Rattle.client_session.specs.Lookup.{MessageName, name_sought}
 use Rattle.client_session.specs.Session.{step, too_long, facts_in, session_after}

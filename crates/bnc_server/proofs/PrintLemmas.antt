@@ -13,9 +13,8 @@ use Rattle.irc_line.specs.Stream.{Item, items}
 use Rattle.irc_line.proofs.CallerLemmas.{middle_from, no_space_from}
 use Rattle.irc_reply.specs.Standing.{IsCluster}
 use Rattle.chat_change.specs.Faults.{buffer_fault}
-use Rattle.chat_past.specs.Answers.{answer_of}
-use Rattle.chat_query.proofs.CallerLemmas.{target_word}
-use Rattle.chat_past.proofs.CallerLemmas.{answer_lines}
+use Rattle.chat_query.specs.Answers.{answer_of}
+use Rattle.chat_query.proofs.CallerLemmas.{target_word, answer_lines}
 use Rattle.change_lines.specs.declared.fault.ChangeLineFault.TheVariants.{BadForm, BadField, NoMemory}
 use Rattle.cluster_directory.specs.Life.{Life}
 use Rattle.peer_lines.specs.Packet.{Packet, Ack}

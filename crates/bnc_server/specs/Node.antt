@@ -9,7 +9,7 @@ use Rattle.irc_line.specs.Read.{read}
 use Rattle.chat_change.specs.Record.{Record}
 use Rattle.chat_change.specs.declared.change.Change.{Change}
 use Rattle.chat_history.specs.Visible.{visible}
-use Rattle.chat_past.specs.Answers.{Answer, answer_of}
+use Rattle.chat_query.specs.Answers.{Answer, answer_of}
 use Rattle.chat_query.specs.declared.facts.Facts.{Facts}
 use Rattle.chat_query.specs.declared.facts.Answered.{Answered}
 use Rattle.cluster_directory.specs.Directory.{Directory}

@@ -4,7 +4,7 @@ use Rattle.std.specs.Prelude.{IfOk}
 use Rattle.byte_text.specs.Writes.{AppendsPrefix, WritesKnown}
 use Rattle.byte_text.proofs.CallerLemmas.{prefix_none}
 use Rattle.chat_query.specs.declared.parameters.QueryFault.{QueryFault}
-use Rattle.chat_past.specs.Answers.{Answer, fail, subcommand_of, code_of, reason_of, refusal_about, unknown_message}
+use Rattle.chat_query.specs.Answers.{Answer, fail, subcommand_of, code_of, reason_of, refusal_about, unknown_message}
 use Rattle.chat_query.specs.declared.facts.Facts.{Facts}
 use Rattle.chat_batch.specs.WritesAnswer.{WritesAnswer, IsUnwritten}
 use Rattle.chat_query.specs.declared.facts.Answered.{Answered}

@@ -4,7 +4,7 @@ use Rattle.std.specs.Io.KnownBytes.{Appends}
 use Rattle.byte_text.specs.Writes.{AppendsPrefix}
 use Rattle.chat_change.specs.declared.change.Change.{Change}
 use Rattle.chat_history.specs.History.{History, norm}
-use Rattle.chat_past.specs.Answers.{Answer}
+use Rattle.chat_query.specs.Answers.{Answer}
 use Rattle.chat_query.specs.declared.facts.Answered.{Answered}
 use Rattle.chat_batch.specs.declared.answers.AnswerFault.{AnswerFault}
 use Rattle.chat_batch.specs.declared.answers.AnswerFault.TheVariants.{NoMemory, Write}

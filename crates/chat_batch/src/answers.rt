@@ -3,7 +3,7 @@ ghost use Rattle.std.specs.Prelude.{◌≡◌, Err, List, IfOk};
 ghost use Rattle.byte_text.specs.Writes.{Writes};
 ghost use Rattle.chat_change.specs.declared.change.Change.{Change};
 ghost use Rattle.chat_history.specs.History.{norm};
-ghost use Rattle.chat_past.specs.Answers as spec;
+ghost use Rattle.chat_query.specs.Answers as spec;
 ghost use Rattle.chat_batch.specs.WritesAnswer.{WritesAnswer, IsUnwritten};
 
 use crate::history::answer_history;

@@ -2,15 +2,14 @@
 ghost use Rattle.std.specs.Prelude.{◌≡◌, map, if◌then◌else◌};
 ghost use Rattle.byte_text.specs.Writes.{Writes};
 ghost use Rattle.chat_page.specs.Answer.{value_of};
-ghost use Rattle.chat_past.specs.Answers as spec;
-ghost use Rattle.chat_past.specs.Batch.{page_text};
+ghost use Rattle.chat_query.specs.Answers as spec;
+ghost use Rattle.chat_query.specs.Batch.{page_text};
 ghost use Rattle.chat_batch.specs.WritesAnswer.{WritesAnswer, WritesAnswerFrom, IsUnwritten};
 
 use crate::answers::{AnswerFault, write_incapable};
 use crate::refusal::{refuse_query, refuse_selector};
 use chat_page::{Page, PageFault, Query, QueryFault, Scope, page, read_query};
-use chat_past::{write_page, write_targets};
-use chat_query::{Answered, Facts, reference_text};
+use chat_query::{Answered, Facts, reference_text, write_page, write_targets};
 use chat_state::State;
 use irc_caps::CapSet;
 use irc_line::Line;
@@ -127,7 +126,7 @@ fn answer_in_scope<W: Write>(
     }
 }
 
-ghost use Rattle.chat_past.specs.Page.{page};
+ghost use Rattle.chat_query.specs.Page.{page};
 
 /// Answers a query.
 fn answer_query<W: Write>(

@@ -1,7 +1,7 @@
 //! Answers to MARKREAD (IRCv3 draft/read-marker).
 ghost use Rattle.std.specs.Prelude.{◌≡◌, map, IfOk};
 ghost use Rattle.chat_query.specs.Buffers.{has_buffer};
-ghost use Rattle.chat_past.specs.Answers as spec;
+ghost use Rattle.chat_query.specs.Answers as spec;
 ghost use Rattle.chat_batch.specs.WritesAnswer.{WritesAnswer, WritesAnswerFrom, IsUnwritten};
 
 use crate::answers::{AnswerFault, write_incapable};

@@ -1,7 +1,7 @@
 //! Refusals of CHATHISTORY and MARKREAD (IRCv3 standard-replies, `FAIL`).
 ghost use Rattle.std.specs.Prelude.{◌≡◌, Some, None, IfOk, map};
 ghost use Rattle.irc_reply.specs.Reply.{value_of};
-ghost use Rattle.chat_past.specs.Answers as spec;
+ghost use Rattle.chat_query.specs.Answers as spec;
 ghost use Rattle.chat_batch.specs.WritesAnswer.{WritesAnswer, IsUnwritten};
 
 use crate::answers::AnswerFault;

@@ -16,7 +16,7 @@ use Rattle.chat_query.specs.Scope.{Scope}
 use Rattle.chat_query.specs.declared.query.Selector.{Selector}
 use Rattle.chat_query.specs.declared.query.Query.TheVariants as queries
 use Rattle.chat_page.specs.declared.answer.SelectorSide.TheVariants.{LatestAfter, Before, After, Around}
-use Rattle.chat_past.specs.Page.{Point, is_before, is_after, last, page, page_in, of_records, buffer_of, point_of}
+use Rattle.chat_query.specs.Page.{Point, is_before, is_after, last, page, page_in, of_records, buffer_of, point_of}
 use Rattle.chat_page.specs.Answer.{AreRecords, side_of, between_of}
 use Rattle.chat_page.specs.declared.pages.PageFault.{PageFault}
 use Rattle.chat_page.specs.declared.pages.PageFault.TheVariants.{NoMemory}

@@ -21,8 +21,8 @@ use Rattle.chat_history.specs.Latest.{latest_in}
 use Rattle.chat_history.specs.Visible.{spot_cmp}
 use Rattle.chat_history.proofs.CallerLemmas.{spot_total}
 use Rattle.chat_state.specs.LatestSince.{is_since, latest_since_in}
-use Rattle.chat_past.specs.Page.{last, listed, lies_between}
-use Rattle.chat_past.proofs.CallerLemmas.{Listed, spot_exact, set_is}
+use Rattle.chat_query.specs.Page.{last, listed, lies_between}
+use Rattle.chat_query.proofs.CallerLemmas.{Listed, spot_exact, set_is}
 
 -- ---- the last of a list
 

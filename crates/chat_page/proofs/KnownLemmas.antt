@@ -10,7 +10,7 @@ use Rattle.chat_query.specs.Scope.{Scope}
 use Rattle.chat_query.specs.declared.query.Selector.{Selector}
 use Rattle.chat_query.specs.declared.query.Selector.TheVariants.{Message}
 use Rattle.chat_query.specs.declared.query.Query.TheVariants as queries
-use Rattle.chat_past.specs.Page.{spot, page, page_in, buffer_of, point_of}
+use Rattle.chat_query.specs.Page.{spot, page, page_in, buffer_of, point_of}
 
 some_mapped : {A B : Type 0} (f : A → B) (o : Option A) → is_some (option_map f o) ≡ is_some o
 some_mapped f None = refl

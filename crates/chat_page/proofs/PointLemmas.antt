@@ -12,7 +12,7 @@ use Rattle.chat_history.specs.Visible.{spot_cmp}
 use Rattle.chat_history.specs.Cut.{cut_cmp, of_record}
 use Rattle.chat_history.specs.declared.cut.Spot.{Spot}
 use Rattle.chat_history.proofs.CallerLemmas.{spot_total, position_in-norm}
-use Rattle.chat_past.specs.Page.{Point, spot, point_of, is_before}
+use Rattle.chat_query.specs.Page.{Point, spot, point_of, is_before}
 use Rattle.chat_query.specs.declared.query.Selector.{Selector}
 use Rattle.chat_query.specs.declared.query.Selector.TheVariants.{Message}
 

@@ -3,7 +3,7 @@ use Rattle.std.specs.Prelude.{◌≡◌, ⊤, ℕ, Option, Some, None, IsSome, L
 use Rattle.std.specs.Option.{option_map, option_and_then}
 use Rattle.std.specs.Borrow.{Bor}
 use Rattle.chat_change.specs.Record.{Record}
-use Rattle.chat_past.specs.Page as spec
+use Rattle.chat_query.specs.Page as spec
 use Rattle.chat_change.specs.Buffer.{Buffer}
 use Rattle.chat_history.specs.History.{History}
 use Rattle.chat_history.specs.Visible.{records_in}

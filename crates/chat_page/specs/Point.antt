@@ -1,7 +1,7 @@
 -- Where a selector stands.
 use Rattle.std.specs.Prelude.{Option, Some}
 use Rattle.std.specs.Option.{option_map}
-use Rattle.chat_past.specs.Page.{Point, moment, spot}
+use Rattle.chat_query.specs.Page.{Point, moment, spot}
 use Rattle.chat_page.specs.declared.point.SelectorPoint.{SelectorPoint}
 use Rattle.chat_page.specs.declared.point.SelectorPoint.TheVariants.{Moment, Message}
 

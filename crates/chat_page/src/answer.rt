@@ -4,7 +4,7 @@ ghost use Rattle.std.specs.Option.{option_map};
 ghost use Rattle.chat_change.specs.declared.change.Change.{Change};
 ghost use Rattle.chat_history.specs.History.{norm};
 ghost use Rattle.chat_history.specs.Visible.{records_in};
-ghost use Rattle.chat_past.specs.Page as spec;
+ghost use Rattle.chat_query.specs.Page as spec;
 ghost use Rattle.chat_page.specs.Answer.{IsAnswer, IsRefusal, IsAnswerIfMemory, AreRecords, side_of, between_of};
 
 use crate::known::has_page;

@@ -2,7 +2,7 @@
 ghost use Rattle.std.specs.Prelude.{◌≡◌, List, is_some};
 ghost use Rattle.chat_change.specs.declared.change.Change.{Change};
 ghost use Rattle.chat_history.specs.History.{norm};
-ghost use Rattle.chat_past.specs.Page.{buffer_of, page, point_of};
+ghost use Rattle.chat_query.specs.Page.{buffer_of, page, point_of};
 
 use chat_query::{Query, Scope, Selector, Target};
 use chat_state::State;

@@ -4,11 +4,10 @@ ghost use Rattle.std.specs.Iterator.{at_most};
 ghost use Rattle.std.specs.BTreeSet.{btree_set_len, insert_key};
 ghost use Rattle.std.specs.Map.Iter.{TakesFirst};
 ghost use Rattle.chat_history.specs.Visible.{spot_cmp};
-ghost use Rattle.chat_past.specs.Page.{buffers_in, last, lies_between, targets_cut};
+ghost use Rattle.chat_query.specs.Page.{buffers_in, last, lies_between, targets_cut};
 
 use chat_change::Moment;
-use chat_past::ListedBuffer;
-use chat_query::Scope;
+use chat_query::{ListedBuffer, Scope};
 use chat_state::{Latest, State};
 use std::alloc::{AllocError, Global};
 use std::collections::BTreeSet;
@@ -22,7 +21,7 @@ struct Listing<'a> {
 
 impl<'a> Model for Listing<'a> {
     ghost use Rattle.std.specs.Prelude.{ℕ, List};
-    ghost use Rattle.chat_past.specs.Page.{listed};
+    ghost use Rattle.chat_query.specs.Page.{listed};
 
     ghost Value = { List (ℕ × List ℕ) };
 

@@ -1,7 +1,7 @@
 //! Pages.
 
 use chat_change::Record;
-use chat_past::ListedBuffer;
+use chat_query::ListedBuffer;
 use thiserror::Error;
 
 /// Why there is no page.

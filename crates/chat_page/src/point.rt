@@ -4,7 +4,7 @@ ghost use Rattle.chat_change.specs.declared.change.Change.{Change};
 ghost use Rattle.chat_change.specs.Record.{Record};
 ghost use Rattle.chat_history.specs.History.{norm};
 ghost use Rattle.chat_history.specs.Cut.{is_after as is_after_cut};
-ghost use Rattle.chat_past.specs.Page.{Point, point_of, is_before, is_after};
+ghost use Rattle.chat_query.specs.Page.{Point, point_of, is_before, is_after};
 
 use crate::pages::PageFault;
 use chat_change::{Buffer, Moment, MsgId};

@@ -2,7 +2,7 @@
 ghost use Rattle.std.specs.Prelude.{◌≡◌, IfOk, map, take, reverse};
 ghost use Rattle.chat_history.specs.Visible.{records_in};
 ghost use Rattle.chat_page.specs.Cuts.{between_cuts};
-ghost use Rattle.chat_past.specs.Page.{last};
+ghost use Rattle.chat_query.specs.Page.{last};
 
 use chat_change::{Buffer, Moment, Record};
 use chat_history::is_after;

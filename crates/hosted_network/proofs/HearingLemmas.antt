@@ -4,7 +4,7 @@ use Rattle.std.specs.Prelude.{slice_get, Result, Ok, Err, IfOk, OnErr}
 use Rattle.std.proofs.Math.Logic.{∥∥₁_map, ∥∥₁_map₂}
 use Rattle.irc_line.specs.Stream.{Item}
 use Rattle.chat_change.specs.declared.change.Change.{Change}
-use Rattle.chat_past.specs.declared.past.AskFault.{AskFault}
+use Rattle.chat_query.specs.declared.past.AskFault.{AskFault}
 use Rattle.cluster_directory.specs.Directory.{Directory}
 use Rattle.client_session.specs.Step.{Step}
 use Rattle.client_session.specs.declared.session.StepFault.{StepFault}

@@ -9,8 +9,7 @@ ghost use Rattle.hosted_network.specs.Written.{IsWritten};
 
 use byte_text::NoMemory;
 use chat_change::{Change, Moment};
-use chat_past::write_live;
-use chat_query::Facts;
+use chat_query::{Facts, write_live};
 use client_session::hears_message;
 use irc_caps::Recipients;
 use irc_reply::write_mark;

@@ -4,7 +4,7 @@ use Rattle.std.specs.Str.{bytes_eq}
 use Rattle.std.proofs.lemmas.Bool.{and_parts}
 use Rattle.std.proofs.lemmas.Slice.Eq.{bytes_eq-Decides}
 use Rattle.irc_line.specs.Stream.{Item}
-use Rattle.chat_past.specs.Answers.{Answer}
+use Rattle.chat_query.specs.Answers.{Answer}
 use Rattle.chat_query.specs.declared.facts.Facts.{Facts}
 use Rattle.cluster_directory.specs.Directory.{Directory}
 use Rattle.cluster_directory.specs.Entry.{Entry}

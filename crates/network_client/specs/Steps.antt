@@ -3,7 +3,7 @@ use Rattle.std.specs.Prelude.{ℕ, ◌≡◌, ◌≢◌, Bool, ◌&&◌, true, f
 use Rattle.std.specs.Str.{bytes_eq}
 use Rattle.irc_line.specs.Stream.{Item}
 use Rattle.chat_change.specs.declared.change.Change.{Change}
-use Rattle.chat_past.specs.Answers.{Answer}
+use Rattle.chat_query.specs.Answers.{Answer}
 use Rattle.chat_query.specs.declared.facts.Answered.{Answered}
 use Rattle.chat_query.specs.declared.facts.Facts.{Facts}
 use Rattle.cluster_directory.specs.Directory.{Directory}

@@ -8,8 +8,7 @@ ghost use Rattle.network_client.specs.Steps as spec;
 
 use crate::client::Client;
 use crate::fall::Fall;
-use chat_past::AskFault;
-use chat_query::Answered;
+use chat_query::{Answered, AskFault};
 use client_session::{Directory, Effect, Session, StepFault};
 use irc_line::{TagLimit, read_line};
 use node_ports::{Connection, Input, NodePass};

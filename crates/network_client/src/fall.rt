@@ -1,5 +1,5 @@
 //! Why clients are gone.
-use chat_past::AskFault;
+use chat_query::AskFault;
 use client_session::StepFault;
 
 /// Why a client is gone.

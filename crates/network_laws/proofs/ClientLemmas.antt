@@ -8,7 +8,7 @@ use Rattle.irc_line.specs.Line.{Reading}
 use Rattle.irc_line.specs.Read.{read}
 use Rattle.irc_line.specs.Stream.{Item, items, line as whole_line, too_long as cut_line}
 use Rattle.chat_change.specs.declared.change.Change.{Change}
-use Rattle.chat_past.specs.Answers.{Answer, answer_of}
+use Rattle.chat_query.specs.Answers.{Answer, answer_of}
 use Rattle.chat_query.specs.declared.facts.Facts.{Facts}
 use Rattle.cluster_directory.specs.Directory.{Directory}
 use Rattle.cluster_directory.specs.declared.config.SessionConfig.{SessionConfig}

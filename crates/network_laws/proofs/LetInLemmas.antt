@@ -5,7 +5,7 @@ use Rattle.std.proofs.lemmas.Option.{same_Some}
 use Rattle.std.specs.Str.{bytes_eq}
 use Rattle.irc_line.specs.Stream.{Item, items, line as whole_line, too_long as cut_line}
 use Rattle.chat_change.specs.declared.change.Change.{Change}
-use Rattle.chat_past.specs.Answers.{Answer}
+use Rattle.chat_query.specs.Answers.{Answer}
 use Rattle.chat_query.specs.declared.facts.Facts.{Facts}
 use Rattle.cluster_directory.specs.Directory.{Account, Directory, account_in, account_with, directory_with}
 use Rattle.cluster_directory.specs.Entry.{Entry}

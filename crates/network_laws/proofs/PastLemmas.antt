@@ -12,8 +12,8 @@ use Rattle.chat_change.specs.declared.change.Change.{Change}
 use Rattle.chat_history.specs.Buffers.{is_of_network}
 use Rattle.chat_history.specs.History.{mark}
 use Rattle.chat_history.specs.Retention.{same_account}
-use Rattle.chat_past.specs.Answers.{Answer, answer_of, marker_answer, marker_refusal, unknown}
-use Rattle.chat_past.specs.OwnPast.{is_own, is_own_extent, own_past}
+use Rattle.chat_query.specs.Answers.{Answer, answer_of, marker_answer, marker_refusal, unknown}
+use Rattle.chat_query.specs.OwnPast.{is_own, is_own_extent, own_past}
 use Rattle.chat_query.specs.Buffers.{has_buffer, scope_of}
 use Rattle.chat_query.specs.Scope.{Scope}
 use Rattle.chat_query.specs.declared.facts.Facts.{Facts}

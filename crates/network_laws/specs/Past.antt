@@ -2,7 +2,7 @@
 use Rattle.std.specs.Prelude.{◌≡◌, Bool, true, List}
 use Rattle.std.specs.List.{AllByRecursion}
 use Rattle.chat_change.specs.declared.change.Change.{Change}
-use Rattle.chat_past.specs.OwnPast.{is_own, own_past}
+use Rattle.chat_query.specs.OwnPast.{is_own, own_past}
 use Rattle.chat_query.specs.Scope.{Scope}
 use Rattle.cluster_directory.specs.declared.config.SessionConfig.{SessionConfig}
 use Rattle.network_log.specs.Facts.{NodeFacts}

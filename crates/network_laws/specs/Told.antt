@@ -8,7 +8,7 @@ use Rattle.irc_line.specs.Read.{read}
 use Rattle.irc_line.specs.Stream.{Item, items}
 use Rattle.irc_reply.specs.ToClient.{no_nick}
 use Rattle.chat_change.specs.declared.change.Change.{Change}
-use Rattle.chat_past.specs.Answers.{answer_of}
+use Rattle.chat_query.specs.Answers.{answer_of}
 use Rattle.chat_query.specs.declared.facts.Facts.{Facts}
 use Rattle.cluster_directory.specs.declared.config.SessionConfig.{SessionConfig}
 use Rattle.client_session.specs.declared.effect.Effect.{Effect}

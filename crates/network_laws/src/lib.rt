@@ -32,7 +32,7 @@ ghost use Rattle.network_laws.specs.Stranger.{AreOfAPeer, IsGreeted};
 ghost use Rattle.network_laws.specs.Streams.{AreStreams, HearsItsClientsAlone, Stream, said_of};
 ghost use Rattle.network_laws.specs.Told.{Course, HearsItsOwnAlone, HearsItsSessionAlone};
 
-use chat_past::laws::answers_are_of_the_own_past;
+use chat_query::laws::answers_are_of_the_own_past;
 use client_session::laws::{
     each_reaches_its_own_past_alone, nobody_enters_without_the_secret, nothing_follows_close,
 };

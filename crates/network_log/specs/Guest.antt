@@ -8,7 +8,7 @@ use Rattle.irc_line.specs.Stream.{Item, items, line as whole_line, too_long as c
 use Rattle.irc_reply.specs.ToClient.{no_nick}
 use Rattle.chat_change.specs.declared.change.Change.{Change}
 use Rattle.chat_query.specs.declared.facts.Facts.{Facts}
-use Rattle.chat_past.specs.Answers.{Answer, answer_of}
+use Rattle.chat_query.specs.Answers.{Answer, answer_of}
 use Rattle.cluster_directory.specs.Directory.{Directory}
 use Rattle.client_session.specs.declared.effect.Effect.{Effect}
 use Rattle.client_session.specs.declared.effect.Effect.TheVariants.{Send, Ask, Close}

@@ -9,7 +9,7 @@ use Rattle.chat_change.specs.declared.change.Change.TheVariants.{Post}
 use Rattle.chat_history.specs.History.{mark}
 use Rattle.chat_query.specs.Buffers.{has_buffer}
 use Rattle.chat_query.specs.declared.facts.Facts.{Facts}
-use Rattle.chat_past.specs.Message.{live_text}
+use Rattle.chat_query.specs.Message.{live_text}
 use Rattle.client_session.specs.Hearers.{hears_message, is_recipient}
 use Rattle.client_session.specs.Session.{facts_in}
 use Rattle.network_log.specs.Guest.{Guest}

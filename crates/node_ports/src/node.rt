@@ -7,7 +7,7 @@ ghost use Rattle.chat_history.specs.History.{mark, norm};
 ghost use Rattle.chat_history.specs.Lookups.{IsShown};
 ghost use Rattle.chat_history.specs.Numbering as numbering;
 ghost use Rattle.chat_history.specs.Retention.{due_floors};
-ghost use Rattle.chat_past.specs.Answers.{answer_of};
+ghost use Rattle.chat_query.specs.Answers.{answer_of};
 ghost use Rattle.network_log.specs.Peer.{IsInNode};
 ghost use Rattle.network_log.specs.Putting.{AreBrought, AreDueFloors, ArePublished, IsSeen, MayBePutFor};
 
@@ -15,8 +15,7 @@ use crate::connection::Connection;
 use byte_text::NoMemory;
 use chat_change::{Buffer, Change, Moment, MsgId};
 use chat_history::{Delta, DeltaFault, NoEntry};
-use chat_past::AskFault;
-use chat_query::{Answered, Facts};
+use chat_query::{Answered, AskFault, Facts};
 use irc_line::Line;
 use std::alloc::Global;
 use std::io::Write;

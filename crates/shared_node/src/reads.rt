@@ -5,7 +5,7 @@ ghost use Rattle.chat_history.specs.History.{mark, norm};
 ghost use Rattle.chat_history.specs.Lookups.{IsShown};
 ghost use Rattle.chat_history.specs.Numbering as numbering;
 ghost use Rattle.chat_history.specs.Retention as retention;
-ghost use Rattle.chat_past.specs.Answers.{answer_of};
+ghost use Rattle.chat_query.specs.Answers.{answer_of};
 ghost use Rattle.change_log.specs.Lists.{changes_in};
 ghost use Rattle.shared_node.specs.Passes.{Reads};
 

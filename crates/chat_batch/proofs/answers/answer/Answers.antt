@@ -1,4 +1,4 @@
-use Rattle.chat_past.specs.Answers.{answer_of}
+use Rattle.chat_query.specs.Answers.{answer_of}
 use Rattle.chat_batch.proofs.AnswerLemmas.{written_text, written_answered, is_unwritten}
 use Rattle.chat_batch.proofs.answers.answer.Goals as goal
 

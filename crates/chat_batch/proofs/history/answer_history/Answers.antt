@@ -1,6 +1,6 @@
 use Rattle.std.proofs.Common.{sym, subst}
 use Rattle.std.proofs.lemmas.Bool.{cond-true, cond-false}
-use Rattle.chat_past.specs.Answers.{Answer}
+use Rattle.chat_query.specs.Answers.{Answer}
 use Rattle.chat_batch.specs.WritesAnswer.{WritesAnswer}
 use Rattle.chat_batch.proofs.history.answer_history.Goals as goal
 

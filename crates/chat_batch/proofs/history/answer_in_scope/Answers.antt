@@ -1,6 +1,6 @@
 use Rattle.std.proofs.Common.{◌≡◌, ◌∙◌, ap, sym, subst, map, None}
-use Rattle.chat_past.specs.Page.{page}
-use Rattle.chat_past.specs.Answers.{Answer, unknown_message, page_or_unknown}
+use Rattle.chat_query.specs.Page.{page}
+use Rattle.chat_query.specs.Answers.{Answer, unknown_message, page_or_unknown}
 use Rattle.chat_batch.specs.WritesAnswer.{WritesAnswer}
 use Rattle.chat_batch.proofs.history.answer_in_scope.Goals as goal
 

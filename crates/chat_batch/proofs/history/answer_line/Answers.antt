@@ -1,5 +1,5 @@
 use Rattle.std.proofs.Common.{◌∙◌, ap, subst}
-use Rattle.chat_past.specs.Answers.{Answer, query_answer, query_refusal, query_or_refusal}
+use Rattle.chat_query.specs.Answers.{Answer, query_answer, query_refusal, query_or_refusal}
 use Rattle.chat_batch.specs.WritesAnswer.{WritesAnswer}
 use Rattle.chat_batch.proofs.history.answer_line.Goals as goal
 

@@ -1,5 +1,5 @@
 use Rattle.std.proofs.Common.{subst}
-use Rattle.chat_past.specs.Answers.{Answer}
+use Rattle.chat_query.specs.Answers.{Answer}
 use Rattle.chat_batch.specs.WritesAnswer.{WritesAnswer}
 use Rattle.chat_batch.proofs.AnswerLemmas.{bare_refused}
 use Rattle.chat_batch.proofs.refusal.refuse_bare.Goals as goal

@@ -1,5 +1,5 @@
 use Rattle.std.proofs.Common.{ap, subst}
-use Rattle.chat_past.specs.Answers.{Answer, refusal_about}
+use Rattle.chat_query.specs.Answers.{Answer, refusal_about}
 use Rattle.chat_batch.specs.WritesAnswer.{WritesAnswer}
 use Rattle.chat_batch.proofs.refusal.refuse_query.Goals as goal
 

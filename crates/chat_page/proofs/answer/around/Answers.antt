@@ -2,7 +2,7 @@ use Rattle.std.proofs.Common.{◌∙◌, ◌++◌, ◌-◌, ◌/◌, ap, map, ta
 use Rattle.std.specs.Map.Iter.{deref}
 use Rattle.std.proofs.lemmas.List.{map-append}
 use Rattle.chat_history.specs.Visible.{records_in}
-use Rattle.chat_past.specs.Page.{last}
+use Rattle.chat_query.specs.Page.{last}
 use Rattle.chat_page.proofs.AnswerLemmas.{before_is, not_before_is}
 use Rattle.chat_page.proofs.answer.around.Goals as goal
 

@@ -1,7 +1,7 @@
 use Rattle.std.proofs.Common.{subst, ap, ◌∙◌}
 use Rattle.chat_history.specs.Visible.{records_in}
 use Rattle.chat_page.specs.Point.{value_of}
-use Rattle.chat_past.specs.Page.{point_of, between_cut}
+use Rattle.chat_query.specs.Page.{point_of, between_cut}
 use Rattle.chat_page.specs.Answer.{AreRecords, between_of}
 use Rattle.chat_page.proofs.AnswerLemmas.{at_points}
 use Rattle.chat_page.proofs.answer.between.Goals as goal

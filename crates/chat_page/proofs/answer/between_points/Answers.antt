@@ -3,7 +3,7 @@ use Rattle.std.proofs.lemmas.List.{length-map}
 use Rattle.std.specs.Prelude.{IfOk}
 use Rattle.std.specs.Map.Iter.{deref}
 use Rattle.chat_history.specs.Visible.{records_in}
-use Rattle.chat_past.specs.Page.{last}
+use Rattle.chat_query.specs.Page.{last}
 use Rattle.chat_page.proofs.AnswerLemmas.{between_is, turns, goes_on}
 use Rattle.chat_page.proofs.answer.between_points.Goals as goal
 

@@ -1,6 +1,6 @@
 use Rattle.std.proofs.Common.{sym, subst, min, Some}
 use Rattle.chat_history.specs.Visible.{records_in}
-use Rattle.chat_past.specs.Page.{page, page_in, last, of_records, buffer_of}
+use Rattle.chat_query.specs.Page.{page, page_in, last, of_records, buffer_of}
 use Rattle.chat_page.specs.Answer.{IsAnswerIfMemory}
 use Rattle.chat_query.specs.declared.query.Query.TheVariants.{Latest}
 use Rattle.chat_page.proofs.AnswerLemmas.{latest_after_page}

@@ -1,6 +1,6 @@
 use Rattle.std.proofs.Common.{◌∙◌, ap, sym, Some}
 use Rattle.chat_history.specs.Visible.{records_in}
-use Rattle.chat_past.specs.Page.{of_records, last}
+use Rattle.chat_query.specs.Page.{of_records, last}
 use Rattle.chat_page.proofs.AnswerLemmas.{all_between}
 use Rattle.chat_page.proofs.answer.latest_page.Goals as goal
 

@@ -1,5 +1,5 @@
 use Rattle.std.proofs.Common.{sym, subst, min, Some}
-use Rattle.chat_past.specs.Page.{page, page_in, of_buffers, buffers_in, targets_cut}
+use Rattle.chat_query.specs.Page.{page, page_in, of_buffers, buffers_in, targets_cut}
 use Rattle.chat_page.specs.Answer.{IsAnswerIfMemory}
 use Rattle.chat_page.proofs.AnswerLemmas.{before_page, after_page, around_page, between_page}
 use Rattle.chat_page.proofs.answer.page_if_memory.Goals as goal

@@ -1,7 +1,7 @@
 use Rattle.std.proofs.Common.{◌∙◌, sym, ap}
 use Rattle.std.specs.Prelude.{◌&&◌, is_some}
 use Rattle.chat_history.specs.History.{norm}
-use Rattle.chat_past.specs.Page.{page, buffer_of, point_of}
+use Rattle.chat_query.specs.Page.{page, buffer_of, point_of}
 use Rattle.chat_query.specs.declared.query.Query.TheVariants.{Latest}
 use Rattle.chat_page.proofs.KnownLemmas.{latest_known, before_known, after_known, around_known, between_known, latest_always, targets_always}
 use Rattle.chat_page.proofs.known.has_page.Goals as goal

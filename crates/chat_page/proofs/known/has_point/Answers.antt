@@ -1,7 +1,7 @@
 use Rattle.std.proofs.Common.{◌≡◌, ◌∙◌, sym, ap}
 use Rattle.std.specs.Prelude.{is_some}
 use Rattle.chat_history.specs.History.{norm, position_of}
-use Rattle.chat_past.specs.Page.{buffer_of, point_of}
+use Rattle.chat_query.specs.Page.{buffer_of, point_of}
 use Rattle.chat_page.proofs.KnownLemmas.{point_known}
 use Rattle.chat_page.proofs.known.has_point.Goals as goal
 

@@ -2,7 +2,7 @@ use Rattle.std.proofs.Common.{◌≡◌, ◌∙◌, ap, filter, map-id, min, nat
 use Rattle.std.proofs.lemmas.Iterator.Consumers.{YieldsList-at, YieldsList-from_first, YieldsList-end}
 use Rattle.chat_history.specs.Latest.{latest_in}
 use Rattle.chat_state.specs.LatestSince.{latest_since_in}
-use Rattle.chat_past.specs.Page.{listed, lies_between}
+use Rattle.chat_query.specs.Page.{listed, lies_between}
 use Rattle.chat_page.proofs.KeptLemmas.{IsCutOf, cut_is, cut_none, cut_fits, cut_passing, cut_other, least_is, between_since}
 use Rattle.chat_page.proofs.listed_buffer.found_between.Goals as goal
 

@@ -1,5 +1,5 @@
 use Rattle.std.proofs.Common.{filter}
-use Rattle.chat_past.specs.Page.{lies_between}
+use Rattle.chat_query.specs.Page.{lies_between}
 use Rattle.chat_page.proofs.KeptLemmas.{IsCutOf}
 use Rattle.chat_page.proofs.listed_buffer.found_between.Given as goal
 

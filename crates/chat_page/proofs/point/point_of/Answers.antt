@@ -1,6 +1,6 @@
 use Rattle.std.proofs.Common.{◌∙◌, ap}
 use Rattle.std.specs.Option.{option_map}
-use Rattle.chat_past.specs.Page.{spot}
+use Rattle.chat_query.specs.Page.{spot}
 use Rattle.chat_page.proofs.PointLemmas.{point_found}
 use Rattle.chat_page.proofs.point.point_of.Goals as goal
 

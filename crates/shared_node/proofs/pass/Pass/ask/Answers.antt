@@ -2,8 +2,8 @@ use Rattle.std.proofs.Common.{◌≡◌, List, Result, Ok, Err, ap, subst}
 use mathlib.Core.List.{IsPrefix}
 use Rattle.chat_query.specs.declared.facts.Answered.{Answered}
 use Rattle.change_log.specs.declared.entry.LogEntry.{LogEntry}
-use Rattle.chat_past.specs.declared.past.AskFault.{AskFault}
-use Rattle.chat_past.specs.declared.past.AskFault.TheVariants.{NoEntry, NoMemory, Write}
+use Rattle.chat_query.specs.declared.past.AskFault.{AskFault}
+use Rattle.chat_query.specs.declared.past.AskFault.TheVariants.{NoEntry, NoMemory, Write}
 use Rattle.shared_node.specs.Passes.{PassValue, FollowsAll, IsSamePut}
 use Rattle.shared_node.proofs.pass.Pass.ask.Goals.{in-Ok, in-Err-NoMemory, in-Err-Write}
 use Rattle.shared_node.proofs.pass.Pass.ask.Goals as goal
