@@ -1,4 +1,5 @@
--- What a pass has seen after a call, as what it had seen and what others added to it.
+-- What the crates above may name of these proofs: the changes of published lists, and what a pass has seen after a call, as what
+-- it had seen and what others added to it.
 use Rattle.std.proofs.Common.{◌≡◌, ℕ, List, [], ◌∷◌, ◌++◌, Option, None, Some, refl, sym, ◌∙◌, ap}
 use Rattle.std.specs.Prelude.{IfSome}
 use Rattle.std.proofs.lemmas.List.{append-nil}
@@ -6,10 +7,13 @@ use mathlib.Core.List.{IsPrefix}
 use Rattle.chat_change.specs.Buffer.{Buffer}
 use Rattle.chat_change.specs.declared.change.Change.{Change}
 use Rattle.chat_history.specs.History.{mark}
-use Rattle.change_log.specs.declared.entry.LogEntry.{LogEntry}
-use Rattle.change_log.specs.Lists.{changes_in, under}
+use Rattle.shared_node.specs.declared.entry.LogEntry.{LogEntry}
+use Rattle.shared_node.specs.Lists.{changes_in, under}
 use Rattle.shared_node.specs.Passes.{PassValue, Reads}
-use Rattle.change_log.proofs.CallerLemmas.{changes_in-append}
+
+pub changes_in-append : (xs ys : List LogEntry) → changes_in (xs ++ ys) ≡ changes_in xs ++ changes_in ys
+changes_in-append [] ys = refl
+changes_in-append (x ∷ xs) ys = ap (λ l. x.change ∷ l) (changes_in-append xs ys)
 
 -- a pass has seen these changes, from the start on
 abbrev pub HasSeen : PassValue → ℕ → List Change → Type 0

@@ -5,7 +5,7 @@ use Rattle.chat_change.specs.declared.change.Change.{Change}
 use Rattle.chat_history.specs.Numbering.{Delta, delta}
 use Rattle.chat_history.specs.declared.delta.DeltaFault.{DeltaFault}
 use Rattle.chat_history.specs.declared.delta.DeltaFault.TheVariants.{NoEntry, NoMemory}
-use Rattle.change_log.specs.Lists.{changes_in}
+use Rattle.shared_node.specs.Lists.{changes_in}
 use Rattle.shared_node.specs.Passes.{PassValue, Reads}
 use Rattle.shared_node.proofs.CallerLemmas.{HasSeen, seen_further, kept}
 

@@ -1,7 +1,7 @@
 -- Passes: what they have put, seen and been told of.
 use Rattle.std.specs.Prelude.{◌≡◌, ◌⊎◌, ◌<◌, ℕ, zero, suc, List, [], ◌∷◌, ◌++◌}
 use mathlib.Core.List.{IsPrefix}
-use Rattle.change_log.specs.declared.entry.LogEntry.{LogEntry}
+use Rattle.shared_node.specs.declared.entry.LogEntry.{LogEntry}
 
 -- a pass: its number, how many changes it put, the list that it has seen, and the longest list that
 -- it was told of

@@ -1,10 +1,10 @@
 -- What a put leaves.
 use Rattle.std.specs.Prelude.{◌≡◌, ℕ, ◌+◌, ◌^◌, ◌≤◌, List, ◌++◌, length, take}
 use Rattle.chat_change.specs.declared.change.Change.{Change}
-use Rattle.change_log.specs.Log.{LogValue, total}
+use Rattle.shared_node.specs.Log.{LogValue, total}
 use Rattle.shared_node.specs.declared.faults.PutFault.{PutFault}
 use Rattle.shared_node.specs.declared.faults.PutFault.TheVariants.{NoMemory, Waiting, Exhausted}
-use Rattle.change_log.specs.Lists.{under}
+use Rattle.shared_node.specs.Lists.{under}
 
 -- a refused put of these changes leaves the published list, and a prefix of the changes waits
 abbrev pub LeavesWaiting : LogValue → ℕ → List Change → LogValue → PutFault → Type 0

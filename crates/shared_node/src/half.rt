@@ -1,13 +1,14 @@
 //! What stands under the lock.
 ghost use Rattle.std.specs.Prelude.{◌≡◌, ◌+◌, ◌<◌, ◌≤◌, ◌^◌, ◌++◌, [], length, IfOk, IfErr, OnOk, IsErr};
-ghost use Rattle.change_log.specs.Log.{all_put, log_value, total};
-ghost use Rattle.change_log.specs.Lists.{under};
+ghost use Rattle.shared_node.specs.Log.{all_put, log_value, total};
+ghost use Rattle.shared_node.specs.Lists.{under};
 ghost use Rattle.shared_node.specs.Passes.{FollowsAll};
 ghost use Rattle.shared_node.specs.Puts.{LeavesWaiting};
 
 use crate::faults::PutFault;
+use crate::history::Naming;
+use crate::log_writer::LogWriter;
 use crate::pass::{Pass, Receipt};
-use change_log::{LogWriter, Naming};
 use chat_change::Change;
 use std::marker::Model;
 use std::sync::Wait;
@@ -55,7 +56,7 @@ pub struct WritingHalf<J: Naming, R: Ends> {
 
 impl<J: Naming, R: Ends> Model for WritingHalf<J, R> {
     ghost use Rattle.std.specs.Prelude.{◌≡◌};
-    ghost use Rattle.change_log.specs.Log.{LogValue, total};
+    ghost use Rattle.shared_node.specs.Log.{LogValue, total};
 
     ghost Value = { LogValue };
 

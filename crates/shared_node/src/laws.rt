@@ -5,8 +5,8 @@ ghost use Rattle.std.specs.Prelude.{List, Contains};
 ghost use mathlib.Core.List.{IsPrefix};
 ghost use Rattle.chat_change.specs.Buffer.{Buffer};
 ghost use Rattle.chat_history.specs.History.{mark, IsAtMost};
-ghost use Rattle.change_log.specs.declared.entry.LogEntry.{LogEntry};
-ghost use Rattle.change_log.specs.Lists.{changes_in};
+ghost use Rattle.shared_node.specs.declared.entry.LogEntry.{LogEntry};
+ghost use Rattle.shared_node.specs.Lists.{changes_in};
 
 pub use crate::half::WritingHalf;
 

@@ -1,16 +1,18 @@
 //! The node: the writing half under a lock, and its passes.
 ghost use Rattle.std.specs.Prelude.{◌≡◌, ◌≢◌, ◌+◌, ◌++◌, length, MatchResult, IfOk, IfErr, IsErrAnd, OnErr, vec_len};
 ghost use Rattle.std.specs.List.{sum_by};
-ghost use Rattle.change_log.specs.Log.{total};
-ghost use Rattle.change_log.specs.Lists.{under};
-ghost use Rattle.change_log.specs.Names.{IsNamed};
+ghost use Rattle.shared_node.specs.Log.{total};
+ghost use Rattle.shared_node.specs.Lists.{under};
+ghost use Rattle.shared_node.specs.Names.{IsNamed};
 ghost use Rattle.shared_node.specs.Passes.{FollowsAll, IsBadCount, newcomers};
 ghost use Rattle.shared_node.specs.Puts.{appended_of};
 
 use crate::faults::{NodeFault, PutFault};
 use crate::half::{Ends, WritingHalf};
+use crate::history::Naming;
+use crate::log_writer::LogWriter;
 use crate::pass::{Pass, Receipt};
-use change_log::{LogWriter, Naming, Unnamed};
+use crate::unnamed::Unnamed;
 use chat_change::Change;
 use std::alloc::Global;
 use std::sync::{Mutex, Wait};

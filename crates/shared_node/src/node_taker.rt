@@ -1,14 +1,14 @@
 //! A node that takes what a peer sends.
 ghost use Rattle.std.specs.Prelude.{◌≡◌, ◌+◌, ◌++◌, length, IfOk, OnErr, MatchResult};
-ghost use Rattle.change_log.specs.Lists.{changes_in, under};
+ghost use Rattle.shared_node.specs.Lists.{changes_in, under};
 ghost use Rattle.shared_node.specs.Passes.{FollowsAll};
 ghost use Rattle.shared_node.specs.Puts.{appended_of};
 
 use crate::faults::PutFault;
 use crate::half::Ends;
+use crate::history::Naming;
 use crate::node::SharedNode;
 use crate::pass::{Pass, Receipt};
-use change_log::Naming;
 use chat_change::Change;
 use gossip_delta::{NotTaken, Taker};
 use std::alloc::Global;

@@ -3,7 +3,9 @@ ghost use Rattle.std.specs.Prelude.{◌≡◌, MatchBool};
 ghost use mathlib.Core.List.{IsPrefix};
 ghost use Rattle.shared_node.specs.Passes.{IsSamePut};
 
-use change_log::{Entrance, Naming, Prefix};
+use crate::entrance::Entrance;
+use crate::history::Naming;
+use crate::prefix::Prefix;
 use std::marker::Model;
 use std::sync::ledger::Share;
 
@@ -41,7 +43,7 @@ pub struct Receipt<J: Naming> {
 
 impl<J: Naming> Model for Receipt<J> {
     ghost use Rattle.std.specs.Prelude.{List};
-    ghost use Rattle.change_log.specs.declared.entry.LogEntry.{LogEntry};
+    ghost use Rattle.shared_node.specs.declared.entry.LogEntry.{LogEntry};
 
     ghost Value = { List LogEntry };
 

@@ -6,11 +6,11 @@ ghost use Rattle.chat_history.specs.Lookups.{IsShown};
 ghost use Rattle.chat_history.specs.Numbering as numbering;
 ghost use Rattle.chat_history.specs.Retention as retention;
 ghost use Rattle.chat_query.specs.Answers.{answer_of};
-ghost use Rattle.change_log.specs.Lists.{changes_in};
+ghost use Rattle.shared_node.specs.Lists.{changes_in};
 ghost use Rattle.shared_node.specs.Passes.{Reads};
 
+use crate::history::Naming;
 use crate::pass::Pass;
-use change_log::Naming;
 use chat_batch::{AnswerFault, Answered, AskFault, Facts, Past, answer};
 use chat_change::{Buffer, Change, Moment, MsgId};
 use chat_state::{NoEntry, Peek};

@@ -2,12 +2,13 @@
 ghost use Rattle.std.specs.Prelude.{◌≡◌, ◌≢◌, ◌+◌, [], IfOk, IfErr, vec_len, vec_capacity};
 ghost use Rattle.std.specs.List.{sum_by};
 ghost use Rattle.shared_node.specs.Passes.{pass_value, newcomers};
-ghost use Rattle.change_log.specs.Log.{total};
+ghost use Rattle.shared_node.specs.Log.{total};
 
 use crate::faults::NodeFault;
 use crate::half::{Ends, WritingHalf};
+use crate::history::Naming;
 use crate::pass::Pass;
-use change_log::{Naming, Prefix};
+use crate::prefix::Prefix;
 use std::alloc::Global;
 use std::sync::ledger::{Book, Share};
 

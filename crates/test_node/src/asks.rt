@@ -1,6 +1,6 @@
 //! What is asked, and what the answers say.
 use crate::changes::buffer_of;
-use crate::fault::Fault;
+use crate::fault::RowFault;
 use chat_batch::Facts;
 use chat_change::{Change, Moment, MsgId};
 use chat_state::{NoEntry, Peek};
@@ -79,9 +79,9 @@ fn ask<J: Naming>(
     pass: &mut Pass<J>,
     question: &[u8],
     output: &mut Vec<u8>,
-) -> Result<(), Fault> {
+) -> Result<(), RowFault> {
     let Ok(line) = read_line(question, TagLimit::Client) else {
-        return Err(Fault::NoMarker);
+        return Err(RowFault::NoMarker);
     };
     pass.ask(alloc, facts, &line, output)?;
     Ok(())
@@ -93,38 +93,38 @@ pub fn marker<J: Naming>(
     facts: &Facts,
     pass: &mut Pass<J>,
     channel: Channel,
-) -> Result<u64, Fault> {
+) -> Result<u64, RowFault> {
     let mut output = Vec::new(alloc);
     ask(alloc, facts, pass, channel.question, &mut output)?;
     match str::from_utf8(&output) {
-        Ok(text) => moment_in(text, channel.head).ok_or(Fault::NoMarker),
-        Err(_) => Err(Fault::NoMarker),
+        Ok(text) => moment_in(text, channel.head).ok_or(RowFault::NoMarker),
+        Err(_) => Err(RowFault::NoMarker),
     }
 }
 
 /// How many changes the delta of a source since 0 has. u64::MAX where it isn't up to that number.
-pub fn delta_count<S: Source>(alloc: Global, source: &mut S) -> Result<u64, Fault> {
+pub fn delta_count<S: Source>(alloc: Global, source: &mut S) -> Result<u64, RowFault> {
     let delta = source.delta(alloc, 0)?;
     let count = delta.changes().len() as u64;
     Ok(if delta.to() == count { count } else { u64::MAX })
 }
 
 /// 1 where a message of `#a` is shown, and 0 where it isn't.
-pub fn shown<P: Peek>(alloc: Global, peek: &mut P, id: &str) -> Result<u64, Fault> {
-    let buffer = buffer_of(alloc, "#a").ok_or(Fault::NoMemory)?;
+pub fn shown<P: Peek>(alloc: Global, peek: &mut P, id: &str) -> Result<u64, RowFault> {
+    let buffer = buffer_of(alloc, "#a").ok_or(RowFault::NoMemory)?;
     let Ok(message) = MsgId::new(alloc, id.as_bytes()) else {
-        return Err(Fault::NoMemory);
+        return Err(RowFault::NoMemory);
     };
     match peek.shown(&buffer, &message) {
         Ok(shown) => Ok(u64::from(shown)),
-        Err(NoEntry) => Err(Fault::NoEntry),
+        Err(NoEntry) => Err(RowFault::NoEntry),
     }
 }
 
 /// The moment of the one floor that is due, a day and two seconds after 1970 began, after a day. u64::MAX where there are
 /// more, or none.
-pub fn due_floor<J: Naming>(alloc: Global, pass: &mut Pass<J>) -> Result<u64, Fault> {
-    let now = Moment::from_ms(86_402_000).ok_or(Fault::NoMoment)?;
+pub fn due_floor<J: Naming>(alloc: Global, pass: &mut Pass<J>) -> Result<u64, RowFault> {
+    let now = Moment::from_ms(86_402_000).ok_or(RowFault::NoMoment)?;
     let floors = pass.due_floors(alloc, now, 1)?;
     Ok(match floors.as_slice() {
         [Change::Floor { at, .. }] => at.ms(),

@@ -4,7 +4,7 @@ use shared_node::{AskFault, NodeFault, PutFault};
 
 /// Why a row ends before its time.
 #[derive(Clone, Copy, Debug, PartialEq)]
-pub enum Fault {
+pub enum RowFault {
     /// There was no memory.
     NoMemory,
     /// The node would have no pass, or too many.
@@ -33,36 +33,36 @@ pub enum Fault {
     NoPass,
 }
 
-impl From<NodeFault> for Fault {
-    fn from(fault: NodeFault) -> Fault {
+impl From<NodeFault> for RowFault {
+    fn from(fault: NodeFault) -> RowFault {
         match fault {
-            NodeFault::BadCount => Fault::BadCount,
-            NodeFault::NoMemory | NodeFault::NoReader => Fault::NoMemory,
+            NodeFault::BadCount => RowFault::BadCount,
+            NodeFault::NoMemory | NodeFault::NoReader => RowFault::NoMemory,
         }
     }
 }
 
-impl From<PutFault> for Fault {
-    fn from(_: PutFault) -> Fault {
-        Fault::NoMemory
+impl From<PutFault> for RowFault {
+    fn from(_: PutFault) -> RowFault {
+        RowFault::NoMemory
     }
 }
 
-impl From<AskFault> for Fault {
-    fn from(fault: AskFault) -> Fault {
+impl From<AskFault> for RowFault {
+    fn from(fault: AskFault) -> RowFault {
         match fault {
-            AskFault::NoEntry => Fault::NoEntry,
+            AskFault::NoEntry => RowFault::NoEntry,
             // A vector can't be written to for want of memory alone.
-            AskFault::NoMemory | AskFault::Write => Fault::NoMemory,
+            AskFault::NoMemory | AskFault::Write => RowFault::NoMemory,
         }
     }
 }
 
-impl From<DeltaFault> for Fault {
-    fn from(fault: DeltaFault) -> Fault {
+impl From<DeltaFault> for RowFault {
+    fn from(fault: DeltaFault) -> RowFault {
         match fault {
-            DeltaFault::NoEntry => Fault::NoEntry,
-            DeltaFault::NoMemory => Fault::NoMemory,
+            DeltaFault::NoEntry => RowFault::NoEntry,
+            DeltaFault::NoMemory => RowFault::NoMemory,
         }
     }
 }

@@ -1,7 +1,7 @@
 //! What stands after a put that was refused for want of memory.
 use crate::asks::{THREE, delta_count, marker};
 use crate::changes::mark;
-use crate::fault::Fault;
+use crate::fault::RowFault;
 use chat_batch::Facts;
 use chat_change::Change;
 use shared_node::laws::WritingHalf;
@@ -13,7 +13,7 @@ use std::sync::Wait;
 pub const REFUSALS: usize = 3;
 
 /// What a pass puts changes on: a node, or what stands under its lock.
-pub trait Target<J: Naming> {
+pub trait PutTarget<J: Naming> {
     fn put(&mut self, pass: &mut Pass<J>, changes: &[Change]) -> Result<(), PutFault>;
 }
 
@@ -24,7 +24,7 @@ struct Locked<'a, J: Naming, H: Ends, W: Wait> {
     rt: &'a W,
 }
 
-impl<J: Naming, H: Ends, W: Wait> Target<J> for Locked<'_, J, H, W> {
+impl<J: Naming, H: Ends, W: Wait> PutTarget<J> for Locked<'_, J, H, W> {
     fn put(&mut self, pass: &mut Pass<J>, changes: &[Change]) -> Result<(), PutFault> {
         self.node.put(self.rt, pass, changes).map(drop)
     }
@@ -37,7 +37,7 @@ struct Unlocked<'a, 'b, J: Naming, H: Ends, W: Wait> {
     rt: &'b W,
 }
 
-impl<J: Naming, H: Ends, W: Wait> Target<J> for Unlocked<'_, '_, J, H, W> {
+impl<J: Naming, H: Ends, W: Wait> PutTarget<J> for Unlocked<'_, '_, J, H, W> {
     fn put(&mut self, pass: &mut Pass<J>, changes: &[Change]) -> Result<(), PutFault> {
         self.half.put_now(self.rt, pass, changes).map(drop)
     }
@@ -49,7 +49,7 @@ fn sees_markers<J: Naming>(
     facts: &Facts,
     pass: &mut Pass<J>,
     count: usize,
-) -> Result<bool, Fault> {
+) -> Result<bool, RowFault> {
     let mut right = true;
     let mut ms: u64 = 0;
     for (place, channel) in THREE.iter().enumerate() {
@@ -69,12 +69,12 @@ fn look_at_first<J: Naming>(
     facts: &Facts,
     pass: &mut Pass<J>,
     count: usize,
-) -> Result<(), Fault> {
+) -> Result<(), RowFault> {
     let right = sees_markers(alloc, facts, pass, count)?;
     if right && delta_count(alloc, pass)? == count as u64 {
         Ok(())
     } else {
-        Err(Fault::NotTheFirst(count))
+        Err(RowFault::NotTheFirst(count))
     }
 }
 
@@ -84,10 +84,10 @@ fn sees_first<J: Naming>(
     facts: &Facts,
     pass: &mut Pass<J>,
     count: usize,
-) -> Result<(), Fault> {
+) -> Result<(), RowFault> {
     for _ in 0..REFUSALS {
         match look_at_first(alloc, facts, pass, count) {
-            Err(Fault::NoMemory) => {}
+            Err(RowFault::NoMemory) => {}
             looked => return looked,
         }
     }
@@ -95,24 +95,24 @@ fn sees_first<J: Naming>(
 }
 
 // How many of so many changes wait, where they weren't published for want of memory. None where they were.
-fn waiting(put: Result<(), PutFault>, count: usize) -> Result<Option<usize>, Fault> {
+fn waiting(put: Result<(), PutFault>, count: usize) -> Result<Option<usize>, RowFault> {
     match put {
         Ok(()) => Ok(None),
         Err(PutFault::NoMemory { appended }) => Ok(Some(appended)),
         Err(PutFault::Waiting) => Ok(Some(count)),
-        Err(PutFault::Exhausted) => Err(Fault::Exhausted),
+        Err(PutFault::Exhausted) => Err(RowFault::Exhausted),
     }
 }
 
 // A put of nothing publishes what waits. Where it is refused, it is made again, and nothing more is seen meanwhile than so many
 // of the first markers.
-fn publish<J: Naming, T: Target<J>>(
+fn publish<J: Naming, T: PutTarget<J>>(
     alloc: Global,
     facts: &Facts,
     target: &mut T,
     pass: &mut Pass<J>,
     seen: usize,
-) -> Result<(), Fault> {
+) -> Result<(), RowFault> {
     for _ in 0..REFUSALS {
         if waiting(target.put(pass, &[]), 0)?.is_none() {
             return Ok(());
@@ -125,14 +125,14 @@ fn publish<J: Naming, T: Target<J>>(
 
 // Puts the changes behind the first ones, of which so many are there. Where that is refused, those that were appended are
 // published, and it is answered how many are there then.
-fn put_some<J: Naming, T: Target<J>>(
+fn put_some<J: Naming, T: PutTarget<J>>(
     alloc: Global,
     facts: &Facts,
     target: &mut T,
     pass: &mut Pass<J>,
     changes: &[Change],
     there: usize,
-) -> Result<Option<usize>, Fault> {
+) -> Result<Option<usize>, RowFault> {
     let rest = changes.get(there..).unwrap_or(&[]);
     let Some(appended) = waiting(target.put(pass, rest), rest.len())? else {
         return Ok(None);
@@ -145,13 +145,13 @@ fn put_some<J: Naming, T: Target<J>>(
 }
 
 // Puts markers, and the rest of them again and again where a put was refused: then says how many waited at first.
-fn put_all<J: Naming, T: Target<J>>(
+fn put_all<J: Naming, T: PutTarget<J>>(
     alloc: Global,
     facts: &Facts,
     target: &mut T,
     pass: &mut Pass<J>,
     changes: &[Change],
-) -> Result<Option<usize>, Fault> {
+) -> Result<Option<usize>, RowFault> {
     let waited = put_some(alloc, facts, target, pass, changes, 0)?;
     let mut there = waited.unwrap_or(changes.len());
     for _ in 0..REFUSALS {
@@ -166,14 +166,14 @@ fn put_all<J: Naming, T: Target<J>>(
 
 // Puts markers of the first of [`THREE`], so many, at 1, 2 and 3, and sees them. Where the put is refused, the rest is put
 // afterwards, and it is answered how many waited by then.
-fn put_markers<J: Naming, T: Target<J> + Drop>(
+fn put_markers<J: Naming, T: PutTarget<J> + Drop>(
     alloc: Global,
     facts: &Facts,
     mut target: T,
     pass: &mut Pass<J>,
     count: usize,
-) -> Result<Option<usize>, Fault> {
-    let changes = markers(alloc, count).ok_or(Fault::NoMemory)?;
+) -> Result<Option<usize>, RowFault> {
+    let changes = markers(alloc, count).ok_or(RowFault::NoMemory)?;
     put_all(alloc, facts, &mut target, pass, &changes)
 }
 
@@ -186,7 +186,7 @@ pub fn put_markers_on<J: Naming, H: Ends, W: Wait>(
     facts: &Facts,
     pass: &mut Pass<J>,
     count: usize,
-) -> Result<Option<usize>, Fault> {
+) -> Result<Option<usize>, RowFault> {
     put_markers(alloc, facts, Locked { node, rt }, pass, count)
 }
 
@@ -198,7 +198,7 @@ pub fn put_markers_on_half<J: Naming, H: Ends, W: Wait>(
     facts: &Facts,
     pass: &mut Pass<J>,
     count: usize,
-) -> Result<Option<usize>, Fault> {
+) -> Result<Option<usize>, RowFault> {
     put_markers(alloc, facts, Unlocked { half, rt }, pass, count)
 }
 

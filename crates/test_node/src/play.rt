@@ -1,8 +1,8 @@
 //! Plays the rows.
-ghost use Rattle.change_log.specs.Names.{IsNamed};
+ghost use Rattle.shared_node.specs.Names.{IsNamed};
 
 use crate::asks::facts;
-use crate::fault::Fault;
+use crate::fault::RowFault;
 use crate::growth::{REFUSALS, put_markers_on_half};
 use crate::rows::{LONG, Play, SHORT};
 use crate::steps::Cluster;
@@ -18,10 +18,13 @@ use std::thread::Threads;
 type Node<'a, J, R> = SharedNode<J, &'a R>;
 
 /// How many changes were put, where these are all passes of the node.
-fn total_of<J: Naming, R: Wait>(node: Node<'_, J, R>, passes: Vec<Pass<J>>) -> Result<u64, Fault> {
+fn total_of<J: Naming, R: Wait>(
+    node: Node<'_, J, R>,
+    passes: Vec<Pass<J>>,
+) -> Result<u64, RowFault> {
     match node.close(passes) {
         Ok((half, _)) => Ok(half.total()),
-        Err(_) => Err(Fault::NotClosed),
+        Err(_) => Err(RowFault::NotClosed),
     }
 }
 
@@ -30,20 +33,23 @@ fn total_with<J: Naming, R: Wait>(
     node: Node<'_, J, R>,
     mut passes: Vec<Pass<J>>,
     pass: Pass<J>,
-) -> Result<u64, Fault> {
+) -> Result<u64, RowFault> {
     match passes.push(pass) {
         Ok(()) => total_of(node, passes),
-        Err(_) => Err(Fault::NoMemory),
+        Err(_) => Err(RowFault::NoMemory),
     }
 }
 
 /// A node isn't closed where a pass is missing. Then it counts what all of them put.
-fn close<J: Naming, R: Wait>(node: Node<'_, J, R>, mut passes: Vec<Pass<J>>) -> Result<u64, Fault> {
+fn close<J: Naming, R: Wait>(
+    node: Node<'_, J, R>,
+    mut passes: Vec<Pass<J>>,
+) -> Result<u64, RowFault> {
     let Some(pass) = passes.pop() else {
-        return Err(Fault::NoPass);
+        return Err(RowFault::NoPass);
     };
     match node.close(passes) {
-        Ok(_) => Err(Fault::NotClosed),
+        Ok(_) => Err(RowFault::NotClosed),
         Err((node, passes)) => total_with(node, passes, pass),
     }
 }
@@ -55,9 +61,9 @@ fn put_on_half<J: Naming, H: Ends, W: Wait>(
     facts: &Facts,
     half: &mut WritingHalf<J, H>,
     passes: &mut [Pass<J>],
-) -> Result<u64, Fault> {
+) -> Result<u64, RowFault> {
     let Some(pass) = passes.first_mut() else {
-        return Err(Fault::NoPass);
+        return Err(RowFault::NoPass);
     };
     let _ = put_markers_on_half(rt, half, alloc, facts, pass, 3)?;
     Ok(half.total())
@@ -69,12 +75,12 @@ fn play_half<J: Naming, R: Wait>(
     facts: &Facts,
     node: Node<'_, J, R>,
     passes: Vec<Pass<J>>,
-) -> Result<u64, Fault> {
+) -> Result<u64, RowFault> {
     match node.close(passes) {
         Ok((mut half, mut passes)) => {
             put_on_half(rt, alloc, facts, &mut half, passes.as_mut_slice())
         }
-        Err(_) => Err(Fault::NotClosed),
+        Err(_) => Err(RowFault::NotClosed),
     }
 }
 
@@ -82,7 +88,7 @@ fn play_half<J: Naming, R: Wait>(
 fn play_open<J: Naming + Send + Sync, R: Threads + Wait + Sync>(
     cluster: &mut Cluster<'_, J, R>,
     play: Play,
-) -> Result<(), Fault> {
+) -> Result<(), RowFault> {
     match play {
         Play::Half => Ok(()),
         Play::Steps(steps) => cluster.play_steps(steps),
@@ -93,7 +99,7 @@ fn play_open<J: Naming + Send + Sync, R: Threads + Wait + Sync>(
 fn play_on<J: Naming + Send + Sync, R: Threads + Wait + Sync>(
     mut cluster: Cluster<'_, J, R>,
     play: Play,
-) -> Result<u64, Fault> {
+) -> Result<u64, RowFault> {
     play_open(&mut cluster, play)?;
     let Cluster {
         rt,
@@ -113,11 +119,11 @@ fn play<J: Naming + Send + Sync, R: Threads + Wait + AllocGlobal + Sync>(
     rt: &R,
     name: Unnamed,
     play: Play,
-) -> Result<u64, Fault>
+) -> Result<u64, RowFault>
     requires { IsNamed J.book J.name J.parts name }
 {
     let alloc = rt.alloc();
-    let facts = facts(alloc).ok_or(Fault::NoMemory)?;
+    let facts = facts(alloc).ok_or(RowFault::NoMemory)?;
     let (node, passes) = SharedNode::<J, &R>::new(alloc, rt, name)?;
     let cluster = Cluster {
         rt,
@@ -134,7 +140,7 @@ fn play_anew<R: Threads + Wait + AllocGlobal + Sync>(
     rt: &R,
     passes: usize,
     row: Play,
-) -> Result<u64, Fault> {
+) -> Result<u64, RowFault> {
     play::<Brand, R>(rt, Unnamed::new(passes), row)
 }
 
@@ -143,10 +149,10 @@ fn play_again<R: Threads + Wait + AllocGlobal + Sync>(
     rt: &R,
     passes: usize,
     row: Play,
-) -> Result<u64, Fault> {
+) -> Result<u64, RowFault> {
     for _ in 0..REFUSALS {
         match play_anew(rt, passes, row) {
-            Err(Fault::NoMemory) => {}
+            Err(RowFault::NoMemory) => {}
             played => return played,
         }
     }
@@ -171,6 +177,6 @@ fn long_rows_come_to_their_totals(rt: HostRuntime) {
 fn a_node_has_1_to_64_passes(rt: HostRuntime) {
     for passes in [0, 65] {
         let refused = play_anew(&rt, passes, Play::Steps(&[]));
-        assert!(rt; matches!(refused, Err(Fault::BadCount)));
+        assert!(rt; matches!(refused, Err(RowFault::BadCount)));
     }
 }

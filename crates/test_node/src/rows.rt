@@ -15,7 +15,7 @@ pub enum Read {
 
 /// A step, with moments in milliseconds.
 #[derive(Clone, Copy)]
-pub enum Step {
+pub enum RowStep {
     /// The pass of that place reads, and gets this number.
     Read(usize, Read, u64),
     /// The first pass puts a marker of `#a`, and the second one learns of it.
@@ -35,7 +35,7 @@ pub enum Step {
 /// What is played on a node.
 #[derive(Clone, Copy)]
 pub enum Play {
-    Steps(&'static [Step]),
+    Steps(&'static [RowStep]),
     /// Three markers, on the writing half of the closed node.
     Half,
     /// Puts beside asks, in two threads, or in four where there are as many passes.
@@ -49,13 +49,13 @@ pub type Row = (&'static str, usize, Play, u64);
 pub const SHORT: [Row; 6] = [
     ("nothing, by one pass", 1, Play::Steps(&[]), 0),
     ("told and taken", 2, Play::Steps(&TOLD), 3),
-    ("three markers", 1, Play::Steps(&[Step::Markers(3)]), 3),
-    ("one marker", 1, Play::Steps(&[Step::Markers(1)]), 1),
+    ("three markers", 1, Play::Steps(&[RowStep::Markers(3)]), 3),
+    ("one marker", 1, Play::Steps(&[RowStep::Markers(1)]), 1),
     ("three markers, on a half", 2, Play::Half, 3),
     (
         "three markers at once",
         1,
-        Play::Steps(&[Step::MarkersAtOnce]),
+        Play::Steps(&[RowStep::MarkersAtOnce]),
         3,
     ),
 ];
@@ -68,18 +68,18 @@ pub const LONG: [Row; 4] = [
     ("two put, two ask", 4, Play::Threads, 1000),
 ];
 
-const PACKET: [Step; 2] = [Step::Packet, Step::Read(0, Read::Delta, 256)];
+const PACKET: [RowStep; 2] = [RowStep::Packet, RowStep::Read(0, Read::Delta, 256)];
 
-const TOLD: [Step; 11] = [
-    Step::Read(1, Read::Marker, 0),
-    Step::TellMark(5000),
-    Step::Read(1, Read::Marker, 5000),
-    Step::Read(0, Read::Marker, 5000),
-    Step::Read(0, Read::Delta, 1),
-    Step::Take(6000),
-    Step::Read(1, Read::Marker, 6000),
-    Step::TellPost(1000),
-    Step::Read(0, Read::Shown("m1"), 1),
-    Step::Read(0, Read::Shown("m2"), 0),
-    Step::Read(0, Read::Due, 2000),
+const TOLD: [RowStep; 11] = [
+    RowStep::Read(1, Read::Marker, 0),
+    RowStep::TellMark(5000),
+    RowStep::Read(1, Read::Marker, 5000),
+    RowStep::Read(0, Read::Marker, 5000),
+    RowStep::Read(0, Read::Delta, 1),
+    RowStep::Take(6000),
+    RowStep::Read(1, Read::Marker, 6000),
+    RowStep::TellPost(1000),
+    RowStep::Read(0, Read::Shown("m1"), 1),
+    RowStep::Read(0, Read::Shown("m2"), 0),
+    RowStep::Read(0, Read::Due, 2000),
 ];

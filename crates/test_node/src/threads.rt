@@ -1,7 +1,7 @@
 //! Puts beside asks: none is refused, and no ask goes back behind what its pass saw or was told of.
 use crate::asks::{A, marker};
 use crate::changes::mark;
-use crate::fault::Fault;
+use crate::fault::RowFault;
 use crate::steps::Cluster;
 use chat_batch::Facts;
 use shared_node::{Naming, Pass, Receipt, SharedNode};
@@ -14,12 +14,12 @@ const ROUNDS: u64 = 500;
 
 // The latest receipt, and the moment of the marker that it is for.
 #[derive(Drop)]
-struct Told<J: Naming> {
+struct LatestTold<J: Naming> {
     ms: u64,
     receipt: Option<Receipt<J>>,
 }
 
-impl<J: Naming> Told<J> {
+impl<J: Naming> LatestTold<J> {
     fn set(&mut self, ms: u64, receipt: Receipt<J>) {
         self.ms = ms;
         self.receipt = Some(receipt);
@@ -41,19 +41,19 @@ struct Shared<'a, 'r, J: Naming, R: Wait> {
     alloc: Global,
     facts: &'a Facts,
     node: &'a SharedNode<J, &'r R>,
-    told: &'a Mutex<Told<J>>,
+    told: &'a Mutex<LatestTold<J>>,
 }
 
 impl<J: Naming, R: Wait> Shared<'_, '_, J, R> {
-    fn put(&self, pass: &mut Pass<J>, ms: u64) -> Result<(), Fault> {
-        let change = mark(self.alloc, A.name, ms).ok_or(Fault::NoMemory)?;
+    fn put(&self, pass: &mut Pass<J>, ms: u64) -> Result<(), RowFault> {
+        let change = mark(self.alloc, A.name, ms).ok_or(RowFault::NoMemory)?;
         let receipt = self.node.put(self.rt, pass, &[change])?;
         self.told.lock(self.rt).set(ms, receipt);
         Ok(())
     }
 
     // Puts markers of rising moments, and tells of them.
-    fn puts(&self, pass: &mut Pass<J>) -> Result<(), Fault> {
+    fn puts(&self, pass: &mut Pass<J>) -> Result<(), RowFault> {
         for ms in 1..ROUNDS + 1 {
             self.put(pass, ms)?;
         }
@@ -61,13 +61,13 @@ impl<J: Naming, R: Wait> Shared<'_, '_, J, R> {
     }
 
     // Asks again and again. No answer is behind the last one, or behind what the pass was told of.
-    fn asks(&self, pass: &mut Pass<J>) -> Result<(), Fault> {
+    fn asks(&self, pass: &mut Pass<J>) -> Result<(), RowFault> {
         let mut least = 0;
         for _ in 0..ROUNDS {
             least = self.told.lock(self.rt).tell(pass).max(least);
             let seen = marker(self.alloc, self.facts, pass, A)?;
             if seen < least {
-                return Err(Fault::WentBack);
+                return Err(RowFault::WentBack);
             }
             least = seen;
         }
@@ -77,16 +77,16 @@ impl<J: Naming, R: Wait> Shared<'_, '_, J, R> {
 
 impl<J: Naming + Send + Sync, R: Threads + Wait + Sync> Shared<'_, '_, J, R> {
     // The first pass puts and the second asks, each in a thread of its own.
-    fn put_beside_ask(&self, passes: &mut [Pass<J>]) -> Result<(), Fault> {
+    fn put_beside_ask(&self, passes: &mut [Pass<J>]) -> Result<(), RowFault> {
         let [a, b, ..] = passes else {
-            return Err(Fault::NoPass);
+            return Err(RowFault::NoPass);
         };
         let (put, asked) = join(self.rt, move || self.puts(a), move || self.asks(b));
         put.and(asked)
     }
 
     // Two passes put and two ask, in four threads; or one each, where there are fewer.
-    fn put_beside_asks(&self, passes: &mut [Pass<J>]) -> Result<(), Fault> {
+    fn put_beside_asks(&self, passes: &mut [Pass<J>]) -> Result<(), RowFault> {
         if passes.len() < 4 {
             return self.put_beside_ask(passes);
         }
@@ -103,8 +103,8 @@ impl<J: Naming + Send + Sync, R: Threads + Wait + Sync> Shared<'_, '_, J, R> {
 /// Puts beside asks, in as many threads as there are passes, two or four. Each second pass puts.
 pub fn puts_beside_asks<J: Naming + Send + Sync, R: Threads + Wait + Sync>(
     cluster: &mut Cluster<'_, J, R>,
-) -> Result<(), Fault> {
-    let told = Mutex::new(Told {
+) -> Result<(), RowFault> {
+    let told = Mutex::new(LatestTold {
         ms: 0,
         receipt: None,
     });

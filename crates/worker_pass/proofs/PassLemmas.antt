@@ -9,9 +9,9 @@ use Rattle.chat_change.specs.declared.change.Change.{Change}
 use Rattle.chat_history.specs.Numbering.{Delta}
 use Rattle.chat_history.specs.declared.delta.DeltaFault.{DeltaFault}
 use Rattle.chat_history.specs.declared.delta.DeltaFault.TheVariants.{NoEntry, NoMemory}
-use Rattle.change_log.specs.declared.entry.LogEntry.{LogEntry}
-use Rattle.change_log.specs.Lists.{changes_in, under}
-use Rattle.change_log.proofs.CallerLemmas.{changes_in-append}
+use Rattle.shared_node.specs.declared.entry.LogEntry.{LogEntry}
+use Rattle.shared_node.specs.Lists.{changes_in, under}
+use Rattle.shared_node.proofs.CallerLemmas.{changes_in-append}
 use Rattle.network_log.specs.Facts.{NodeFacts}
 use Rattle.network_log.specs.Peer.{IsInNode}
 use Rattle.network_log.specs.Putting.{ArePublished, IsSeen, Same, More}

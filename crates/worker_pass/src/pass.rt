@@ -71,7 +71,7 @@ impl<'a, C: Witness<J>, J: Naming, R: Ends, W: Wait, G: Gate> WorkerPass<'a, C, 
 
 impl<'a, C: Witness<J>, J: Naming, R: Ends, W: Wait, G: Gate> NodePass
     for WorkerPass<'a, C, J, R, W, G> {
-    ghost use Rattle.change_log.specs.Lists.{changes_in};
+    ghost use Rattle.shared_node.specs.Lists.{changes_in};
 
     type Connection = C;
 

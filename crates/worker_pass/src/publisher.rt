@@ -1,6 +1,6 @@
 //! How a worker puts into its node, and what it has to do behind that.
 ghost use Rattle.std.specs.Prelude.{◌≡◌, ◌+◌, ◌++◌, IfErr, IfOk, MatchResult, OnErr, OnOk, length, take};
-ghost use Rattle.change_log.specs.Lists.{changes_in, under};
+ghost use Rattle.shared_node.specs.Lists.{changes_in, under};
 ghost use Rattle.network_log.specs.Putting.{ArePublished, IsSeen};
 ghost use Rattle.shared_node.specs.Passes.{FollowsAll};
 ghost use Rattle.shared_node.specs.Puts.{appended_of};

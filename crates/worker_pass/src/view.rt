@@ -1,7 +1,7 @@
 //! What a network has seen of the node that its worker shares with others.
 ghost use Rattle.std.specs.Prelude.{◌≡◌, []};
 ghost use mathlib.Core.List.{IsPrefix};
-ghost use Rattle.change_log.specs.Lists.{changes_in};
+ghost use Rattle.shared_node.specs.Lists.{changes_in};
 ghost use Rattle.network_log.specs.Putting.{IsSeen};
 
 use crate::put_list::PutList;

@@ -2,7 +2,7 @@
 ghost use mathlib.Core.List.{IsPrefix};
 ghost use Rattle.std.specs.Prelude.{List};
 ghost use Rattle.chat_change.specs.declared.change.Change.{Change as Piece};
-ghost use Rattle.change_log.specs.Lists.{changes_in};
+ghost use Rattle.shared_node.specs.Lists.{changes_in};
 
 use crate::view::WorkerView;
 use node_ports::{Connection, NetworkView};

@@ -2,9 +2,9 @@ use Rattle.std.proofs.Common.{List, sym, ◌∙◌, ap, subst, arith, length-app
 use Rattle.std.specs.Prelude.{Contains}
 use Rattle.std.proofs.Math.ListN.{get_or-append}
 use Rattle.chat_history.specs.History.{mark, IsAtMost}
-use Rattle.change_log.specs.declared.entry.LogEntry.{LogEntry}
-use Rattle.change_log.specs.Lists.{changes_in}
-use Rattle.change_log.proofs.CallerLemmas.{changes_in-append}
+use Rattle.shared_node.specs.declared.entry.LogEntry.{LogEntry}
+use Rattle.shared_node.specs.Lists.{changes_in}
+use Rattle.shared_node.proofs.CallerLemmas.{changes_in-append}
 use Rattle.shared_node.proofs.laws.later_lists_keep_what_was_put.Goals as goal
 
 pub returns-clause-entries : goal.returns-clause-entries

@@ -1,9 +1,9 @@
 use Rattle.std.proofs.Common.{append_assoc, ◌≡◌, ℕ, ◌+◌, ◌-◌, ◌<◌, ◌≤◌, List, [], ◌++◌, length, take, refl, sym, ap, ◌∙◌, arith}
 use Rattle.std.proofs.lemmas.List.{take_all, length-append, length-map, length-take-le}
 use Rattle.chat_change.specs.declared.change.Change.{Change}
-use Rattle.change_log.specs.declared.entry.LogEntry.{LogEntry}
-use Rattle.change_log.specs.Lists.{entry, under}
-use Rattle.change_log.specs.Log.{LogValue, all_put, log_value, total}
+use Rattle.shared_node.specs.declared.entry.LogEntry.{LogEntry}
+use Rattle.shared_node.specs.Lists.{entry, under}
+use Rattle.shared_node.specs.Log.{LogValue, all_put, log_value, total}
 use Rattle.shared_node.proofs.half.WritingHalf.put_now.Goals as goal
 
 -- whether there is a number for each of n changes more

@@ -1,5 +1,5 @@
 use Rattle.std.proofs.Common.{◌≡◌, ◌+◌, ℕ, List, [], ◌∷◌, ◌++◌, add-one, sym, ap, ◌∙◌, arith}
-use Rattle.change_log.specs.declared.entry.LogEntry.{LogEntry}
+use Rattle.shared_node.specs.declared.entry.LogEntry.{LogEntry}
 use Rattle.shared_node.specs.Passes.{PassValue, pass_value, newcomers}
 use Rattle.shared_node.proofs.half.WritingHalf.seat_all.Goals as goal
 

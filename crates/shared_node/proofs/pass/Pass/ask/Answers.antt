@@ -1,7 +1,7 @@
 use Rattle.std.proofs.Common.{◌≡◌, List, Result, Ok, Err, ap, subst}
 use mathlib.Core.List.{IsPrefix}
 use Rattle.chat_query.specs.declared.facts.Answered.{Answered}
-use Rattle.change_log.specs.declared.entry.LogEntry.{LogEntry}
+use Rattle.shared_node.specs.declared.entry.LogEntry.{LogEntry}
 use Rattle.chat_query.specs.declared.past.AskFault.{AskFault}
 use Rattle.chat_query.specs.declared.past.AskFault.TheVariants.{NoEntry, NoMemory, Write}
 use Rattle.shared_node.specs.Passes.{PassValue, FollowsAll, IsSamePut}

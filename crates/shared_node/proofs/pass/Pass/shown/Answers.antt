@@ -2,7 +2,7 @@ use Rattle.std.proofs.Common.{◌≡◌, ◌∙◌, ap, subst}
 use Rattle.std.specs.Prelude.{◌↔◌, IsTrue}
 use Rattle.chat_history.specs.History.{History, norm}
 use Rattle.chat_history.specs.Lookups.{IsShown}
-use Rattle.change_log.specs.Lists.{changes_in}
+use Rattle.shared_node.specs.Lists.{changes_in}
 use Rattle.shared_node.proofs.pass.Pass.shown.Goals as goal
 
 pub returns-clause-shown : goal.returns-clause-shown

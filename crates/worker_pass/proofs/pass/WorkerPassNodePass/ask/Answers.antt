@@ -1,6 +1,6 @@
 use Rattle.std.proofs.Common.{refl, ap}
 use Rattle.chat_query.specs.Answers.{answer_of}
-use Rattle.change_log.specs.Lists.{changes_in}
+use Rattle.shared_node.specs.Lists.{changes_in}
 use Rattle.worker_pass.proofs.PassLemmas.{nothing_written, prefix_trans}
 use Rattle.worker_pass.proofs.pass.WorkerPassNodePass.ask.Goals as goal
 

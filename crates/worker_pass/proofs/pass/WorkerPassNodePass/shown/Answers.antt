@@ -2,7 +2,7 @@ use Rattle.std.proofs.Common.{subst, sym}
 use Rattle.std.specs.Prelude.{◌↔◌, IsTrue}
 use Rattle.chat_history.specs.History.{norm}
 use Rattle.chat_history.specs.Lookups.{IsShown}
-use Rattle.change_log.specs.Lists.{changes_in}
+use Rattle.shared_node.specs.Lists.{changes_in}
 use Rattle.worker_pass.proofs.pass.WorkerPassNodePass.shown.Goals as goal
 
 pub returns-clause-shown : goal.returns-clause-shown

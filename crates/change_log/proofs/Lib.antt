@@ -1,5 +1,0 @@
-mod PrefixLemmas
-mod GrowingLemmas
-mod StateLemmas
-mod VersionLemmas
-pub mod CallerLemmas

@@ -1,0 +1,8 @@
+use base.Growing.{at_least}
+use denote.RattleType.{RattleType}
+use denote.Param.Send.{IsSend}
+use Rattle.shared_node.specs.contracts.growing.Reached.{the_row}
+
+pub send : (E : RattleType) → IsSend (the_row E)
+unfolding at_least
+send E = record { owned = λ d vs. ((λ vss. (tt, ((λ uss. (tt, tt)), tt))), tt); leaving = λ k f vs. tt }

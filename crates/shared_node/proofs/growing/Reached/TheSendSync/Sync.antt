@@ -1,0 +1,11 @@
+use base.Growing.{at_least}
+use denote.RattleType.{RattleType}
+use denote.Param.Send.{IsSync, sendable}
+use denote.Struct.Struct.{Struct}
+use denote.Struct.Owning.{shape}
+use Rattle.shared_node.specs.contracts.growing.Reached.{the_row, the_type}
+
+pub sync : (E : RattleType) → IsSync (the_row E)
+unfolding at_least
+sync E = let fields : IsSync (Struct (shape (the_type E))) = search sendable depth 20 in
+    record { shared = λ d b o ν. (fields.shared (tt, tt) b o ν, tt) }
