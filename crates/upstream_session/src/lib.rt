@@ -11,6 +11,7 @@ mod command;
 mod connection;
 mod effect;
 mod effects;
+mod heard;
 pub mod laws;
 mod messages;
 mod passing;

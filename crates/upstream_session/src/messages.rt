@@ -24,6 +24,14 @@ pub(crate) struct MessageStamp {
     pub(crate) at: Moment,
 }
 
+/// A message with the tags that were read of its line, and its moment.
+#[derive(Clone, Copy)]
+pub(crate) struct TaggedMessage<'a, 'b> {
+    pub(crate) message: Message<'a>,
+    pub(crate) tags: &'b Option<Tags<'a>>,
+    pub(crate) at: Moment,
+}
+
 /// The nick of a source, which stands before its `!` (RFC 2812, section 2.3.1).
 pub(crate) fn nick_of(source: &[u8]) -> &[u8]
     ensures { result.now ≡ spec.nick_of source.now }
@@ -190,24 +198,23 @@ impl ServerSession {
         has_buffer(&self.home, talk) && is_message(message)
     }
 
-    /// The post of a message that can be kept, with what is kept of those tags.
+    /// The post of a message that can be kept, with what is kept of its tags.
     pub(crate) fn post(
         &self,
         alloc: Global,
         scratch: &mut Scratch,
         id: MsgId,
-        at: Moment,
-        tags: &Option<Tags<'_>>,
-        message: Message<'_>,
+        tagged: &TaggedMessage<'_, '_>,
     ) -> Result<UpEffect, NoMemory>
-        requires { spec.can_be_kept self.now (value_of message) ≡ true }
-        ensures { IfOk result (λ effect. effect ≡ spec.post self.now id at
-            (spec.kept_read tags.now) (value_of message.entry)) }
+        requires { spec.can_be_kept self.now (value_of tagged.now.message) ≡ true }
+        ensures { IfOk result (λ effect. effect ≡ spec.post self.now id tagged.now.at
+            (spec.kept_read tagged.now.tags.now) (value_of tagged.now.message)) }
     {
+        let message = tagged.message;
         let talk = self.conversation(message.source, message.target);
         let buffer = scratch.buffers.buffer_for(alloc, &self.home, talk)?;
-        let tags = scratch.kept_tags(tags)?;
-        let record = lawful_record(alloc, buffer, id, at, message, tags)?;
+        let tags = scratch.kept_tags(tagged.tags)?;
+        let record = lawful_record(alloc, buffer, id, tagged.at, message, tags)?;
         Ok(UpEffect::Put(Change::Post(record)))
     }
 }

@@ -16,15 +16,16 @@ use crate::command::{ServerCommand, command_of};
 use crate::connection::{LAST_SERIAL, MOST_TRIES, MessageOutcome, ServerSession};
 use crate::effect::UpEffect;
 use crate::effects::{one, push, send};
-use crate::messages::{MessageStamp, has_buffer, is_same_nick, made_id, stamp_of};
+use crate::heard::HeardLine;
+use crate::messages::{MessageStamp, TaggedMessage, has_buffer, is_same_nick, made_id, stamp_of};
 use crate::scratch::Scratch;
 use byte_text::{NoMemory, Text};
-use chat_change::{Change, Kind, Message, Moment, MsgId, is_id, is_target, lawful_id};
+use chat_change::{Change, Kind, Message, MsgId, is_id, is_target, lawful_id};
 use irc_caps::{Capability, Recipients, request, with_acknowledged, with_offers};
 use irc_line::Line;
 use irc_reply::to_client::{relayed_line, tagged_line};
 use irc_reply::to_server::{cap_end, join_line, nick_line, pong_line, with_underscores};
-use irc_tags::{Tags, line_tags};
+use irc_tags::line_tags;
 use std::alloc::Global;
 
 fn is_star(word: &[u8]) -> bool
@@ -67,12 +68,12 @@ fn copy_of(alloc: Global, text: Option<&[u8]>) -> Result<Option<Text>, NoMemory>
 fn relay_to_all(
     alloc: Global,
     scratch: &mut Scratch,
-    line: &Line<'_>,
-    bytes: &[u8],
+    heard: &HeardLine<'_>,
 ) -> Result<Vec<UpEffect>, NoMemory>
-    ensures { IfOk result (λ list. list.items ≡ spec.relay_to_all line.now bytes.now) }
+    ensures { IfOk result (λ list. list.items
+        ≡ spec.relay_to_all heard.now.line.now heard.now.bytes.now) }
 {
-    let text = relayed_line(scratch.text_room(alloc), line.source(), bytes)?;
+    let text = relayed_line(scratch.text_room(alloc), heard.line.source(), heard.bytes)?;
     scratch.one(alloc, UpEffect::Relay(text, Recipients::All))
 }
 
@@ -100,13 +101,13 @@ impl ServerSession {
         &self,
         alloc: Global,
         scratch: &mut Scratch,
-        line: &Line<'_>,
-        bytes: &[u8],
+        heard: &HeardLine<'_>,
     ) -> Result<Vec<UpEffect>, NoMemory>
-        ensures { IfOk result (λ list. list.items ≡ spec.pass_on self.now line.now bytes.now) }
+        ensures { IfOk result (λ list. list.items
+            ≡ spec.pass_on self.now heard.now.line.now heard.now.bytes.now) }
     {
         if self.entry.is_up() {
-            relay_to_all(alloc, scratch, line, bytes)
+            relay_to_all(alloc, scratch, heard)
         } else {
             Ok(Vec::new(alloc))
         }
@@ -256,15 +257,14 @@ impl ServerSession {
         &mut self,
         alloc: Global,
         scratch: &mut Scratch,
-        line: &Line<'_>,
-        bytes: &[u8],
+        heard: &HeardLine<'_>,
     ) -> Result<Vec<UpEffect>, NoMemory>
         ensures ok { IfOk result (λ effects. record { session = self.new; effects = effects.items }
-            ≡ spec.nick_in_use self.old line.now bytes.now) }
+            ≡ spec.nick_in_use self.old heard.now.line.now heard.now.bytes.now) }
         ensures err { OnErr result (self.new ≡ self.old) }
     {
         if self.entry.is_up() {
-            relay_to_all(alloc, scratch, line, bytes)
+            relay_to_all(alloc, scratch, heard)
         } else {
             self.try_again(alloc)
         }
@@ -275,19 +275,18 @@ impl ServerSession {
         &self,
         alloc: Global,
         scratch: &mut Scratch,
-        line: &Line<'_>,
-        bytes: &[u8],
-        parameters: &[&[u8]],
+        heard: &HeardLine<'_>,
     ) -> Result<Vec<UpEffect>, NoMemory>
         ensures { IfOk result (λ list. record { session = self.now; effects = list.items }
-            ≡ spec.ping self.now line.now bytes.now (map (λ p. p.now) parameters.now)) }
+            ≡ spec.ping self.now heard.now.line.now heard.now.bytes.now
+            heard.now.line.now.parameters) }
     {
-        match parameters {
+        match heard.line.parameters() {
             [word, ..] => {
                 let text = pong_line(alloc, word)?;
                 send(alloc, text)
             }
-            [] => self.pass_on(alloc, scratch, line, bytes),
+            [] => self.pass_on(alloc, scratch, heard),
         }
     }
 
@@ -298,23 +297,31 @@ impl ServerSession {
         self.entry.is_up() && self.is_own(self.source_of(line.source()))
     }
 
+    // The nick that the session itself takes by a NICK, or the channel that it joins by a JOIN.
+    fn own_target<'a>(&self, line: &Line<'a>) -> Option<&'a [u8]>
+        ensures { option_copied result ≡ spec.own_join self.now line.now }
+    {
+        if self.is_up_and_own(line) {
+            first_target(line.parameters())
+        } else {
+            None
+        }
+    }
+
     /// NICK (RFC 2812, section 3.1.2).
     fn nick(
         &mut self,
         alloc: Global,
         scratch: &mut Scratch,
-        line: &Line<'_>,
-        bytes: &[u8],
+        heard: &HeardLine<'_>,
     ) -> Result<Vec<UpEffect>, NoMemory>
         ensures ok { IfOk result (λ effects. record { session = self.new; effects = effects.items }
-            ≡ spec.nick self.old line.now bytes.now) }
+            ≡ spec.nick self.old heard.now.line.now heard.now.bytes.now) }
         ensures err { OnErr result (self.new ≡ self.old) }
     {
-        let effects = self.pass_on(alloc, scratch, line, bytes)?;
-        if self.is_up_and_own(line) {
-            let nick = copy_of(alloc, first_target(line.parameters()))?;
-            self.set_nick(nick);
-        }
+        let effects = self.pass_on(alloc, scratch, heard)?;
+        let nick = copy_of(alloc, self.own_target(heard.line))?;
+        self.set_nick(nick);
         Ok(effects)
     }
 
@@ -337,29 +344,15 @@ impl ServerSession {
         &mut self,
         alloc: Global,
         scratch: &mut Scratch,
-        line: &Line<'_>,
-        bytes: &[u8],
+        heard: &HeardLine<'_>,
     ) -> Result<Vec<UpEffect>, NoMemory>
         ensures ok { IfOk result (λ effects. record { session = self.new; effects = effects.items }
-            ≡ spec.join self.old line.now bytes.now) }
+            ≡ spec.join self.old heard.now.line.now heard.now.bytes.now) }
         ensures err { OnErr result (self.new ≡ self.old) }
     {
-        let effects = self.pass_on(alloc, scratch, line, bytes)?;
-        if self.is_up_and_own(line) {
-            self.join_if(alloc, first_target(line.parameters()))?;
-        }
+        let effects = self.pass_on(alloc, scratch, heard)?;
+        self.join_if(alloc, self.own_target(heard.line))?;
         Ok(effects)
-    }
-
-    // The channel that the session itself joins by a JOIN.
-    fn own_join<'a>(&self, line: &Line<'a>) -> Option<&'a [u8]>
-        ensures { option_copied result ≡ spec.own_join self.now line.now }
-    {
-        if self.is_up_and_own(line) {
-            first_target(line.parameters())
-        } else {
-            None
-        }
     }
 
     /// The channel that the session itself joins by a line of the server.
@@ -368,7 +361,7 @@ impl ServerSession {
             ≡ spec.joined_by self.now line.now (command_of line.now.command) }
     {
         match command_of(line.command()) {
-            ServerCommand::Join => self.own_join(line),
+            ServerCommand::Join => self.own_target(line),
             _ => None,
         }
     }
@@ -387,16 +380,15 @@ impl ServerSession {
         &mut self,
         alloc: Global,
         scratch: &mut Scratch,
-        line: &Line<'_>,
-        bytes: &[u8],
+        heard: &HeardLine<'_>,
     ) -> Result<Vec<UpEffect>, NoMemory>
         ensures ok { IfOk result (λ effects. record { session = self.new; effects = effects.items }
-            ≡ spec.part self.old line.now bytes.now) }
+            ≡ spec.part self.old heard.now.line.now heard.now.bytes.now) }
         ensures err { OnErr result (self.new ≡ self.old) }
     {
-        let effects = self.pass_on(alloc, scratch, line, bytes)?;
-        if self.is_up_and_own(line) {
-            self.leave(line.parameters());
+        let effects = self.pass_on(alloc, scratch, heard)?;
+        if self.is_up_and_own(heard.line) {
+            self.leave(heard.line.parameters());
         }
         Ok(effects)
     }
@@ -419,38 +411,32 @@ impl ServerSession {
         &mut self,
         alloc: Global,
         scratch: &mut Scratch,
-        line: &Line<'_>,
-        bytes: &[u8],
+        heard: &HeardLine<'_>,
     ) -> Result<Vec<UpEffect>, NoMemory>
         ensures ok { IfOk result (λ effects. record { session = self.new; effects = effects.items }
-            ≡ spec.kick self.old line.now bytes.now) }
+            ≡ spec.kick self.old heard.now.line.now heard.now.bytes.now) }
         ensures err { OnErr result (self.new ≡ self.old) }
     {
-        let effects = self.pass_on(alloc, scratch, line, bytes)?;
+        let effects = self.pass_on(alloc, scratch, heard)?;
         if self.entry.is_up() {
-            self.put_out(line.parameters());
+            self.put_out(heard.line.parameters());
         }
         Ok(effects)
     }
 
-    // A message is kept under that id, with the tags that were read of its line.
-    #[tactic(auto, using(crate::proofs::KeptLemmas::kept_tags_read))]
+    // A message is kept under that id.
     fn keep_under(
         &self,
         alloc: Global,
         scratch: &mut Scratch,
-        line: &Line<'_>,
-        tags: &Option<Tags<'_>>,
-        message: Message<'_>,
         id: MsgId,
-        at: Moment,
+        tagged: &TaggedMessage<'_, '_>,
     ) -> Result<Vec<UpEffect>, NoMemory>
-        requires can { messages.can_be_kept self.now (value_of message) ≡ true }
-        requires tags { tags.now ≡ option_map tag_list line.now.tags }
-        ensures { IfOk result (λ list. list.items ≡ messages.post self.now id at
-            (messages.kept_tags line.now.tags) (value_of message.entry) ∷ []) }
+        requires { messages.can_be_kept self.now (value_of tagged.now.message) ≡ true }
+        ensures { IfOk result (λ list. list.items ≡ messages.post self.now id tagged.now.at
+            (messages.kept_read tagged.now.tags.now) (value_of tagged.now.message) ∷ []) }
     {
-        let post = self.post(alloc, scratch, id, at, tags, message)?;
+        let post = self.post(alloc, scratch, id, tagged)?;
         scratch.one(alloc, post)
     }
 
@@ -458,16 +444,14 @@ impl ServerSession {
         &self,
         alloc: Global,
         scratch: &mut Scratch,
-        line: &Line<'_>,
-        tags: &Option<Tags<'_>>,
-        bytes: &[u8],
-        message: Message<'_>,
-        at: Moment,
+        heard: &HeardLine<'_>,
+        tagged: &TaggedMessage<'_, '_>,
     ) -> Result<(MessageOutcome, Vec<UpEffect>), NoMemory>
-        requires can { messages.can_be_kept self.now (value_of message) ≡ true }
-        requires tags { tags.now ≡ option_map tag_list line.now.tags }
+        requires can { messages.can_be_kept self.now (value_of tagged.now.message) ≡ true }
+        requires tags { tagged.now.tags.now ≡ option_map tag_list heard.now.line.now.tags }
         ensures { IfOk result (λ r. record { session = after r.0 self.now; effects = r.1.items }
-            ≡ spec.keep_made self.now line.now bytes.now (value_of message.entry) at) }
+            ≡ spec.keep_made self.now heard.now.line.now heard.now.bytes.now
+            (value_of tagged.now.message) tagged.now.at) }
     {
         if self.serial == LAST_SERIAL {
             let list = one(alloc, UpEffect::Close)?;
@@ -475,60 +459,58 @@ impl ServerSession {
         }
         match made_id(alloc, &self.home, self.serial)? {
             None => {
-                let list = relay_to_all(alloc, scratch, line, bytes)?;
+                let list = relay_to_all(alloc, scratch, heard)?;
                 Ok((MessageOutcome::Stays, list))
             }
             Some(id) => {
-                let list = self.keep_under(alloc, scratch, line, tags, message, id, at)?;
+                let list = self.keep_under(alloc, scratch, id, tagged)?;
                 Ok((MessageOutcome::Counts(self.serial + 1), list))
             }
         }
     }
 
+    #[tactic(auto, using(crate::proofs::KeptLemmas::kept_tags_read))]
     fn keep_stamped(
         &self,
         alloc: Global,
         scratch: &mut Scratch,
-        line: &Line<'_>,
-        tags: &Option<Tags<'_>>,
-        bytes: &[u8],
-        message: Message<'_>,
-        stamp: MessageStamp,
+        heard: &HeardLine<'_>,
+        id: Option<MsgId>,
+        tagged: &TaggedMessage<'_, '_>,
     ) -> Result<(MessageOutcome, Vec<UpEffect>), NoMemory>
-        requires can { messages.can_be_kept self.now (value_of message) ≡ true }
-        requires tags { tags.now ≡ option_map tag_list line.now.tags }
+        requires can { messages.can_be_kept self.now (value_of tagged.now.message) ≡ true }
+        requires tags { tagged.now.tags.now ≡ option_map tag_list heard.now.line.now.tags }
         ensures { IfOk result (λ r. record { session = after r.0 self.now; effects = r.1.items }
-            ≡ spec.keep_stamped self.now line.now bytes.now (value_of message.entry)
-            stamp.id stamp.at) }
+            ≡ spec.keep_stamped self.now heard.now.line.now heard.now.bytes.now
+            (value_of tagged.now.message) id tagged.now.at) }
     {
-        let MessageStamp { id, at } = stamp;
         match id {
-            None => self.keep_made(alloc, scratch, line, tags, bytes, message, at),
+            None => self.keep_made(alloc, scratch, heard, tagged),
             Some(id) => {
-                let list = self.keep_under(alloc, scratch, line, tags, message, id, at)?;
+                let list = self.keep_under(alloc, scratch, id, tagged)?;
                 Ok((MessageOutcome::Stays, list))
             }
         }
     }
 
-    fn keep(
+    fn keep<'a>(
         &self,
         alloc: Global,
         scratch: &mut Scratch,
-        now: Moment,
-        line: &Line<'_>,
-        bytes: &[u8],
-        message: Message<'_>,
+        heard: &HeardLine<'a>,
+        message: Message<'a>,
     ) -> Result<(MessageOutcome, Vec<UpEffect>), NoMemory>
         ensures { IfOk result (λ r. record { session = after r.0 self.now; effects = r.1.items }
-            ≡ spec.keep self.now now line.now bytes.now (value_of message.entry)) }
+            ≡ spec.keep self.now heard.now.at heard.now.line.now heard.now.bytes.now
+            (value_of message.entry)) }
     {
         if self.can_be_kept(message) {
-            let tags = line_tags(alloc, line.tags())?;
-            let stamp = stamp_of(alloc, &tags, now)?;
-            self.keep_stamped(alloc, scratch, line, &tags, bytes, message, stamp)
+            let tags = &line_tags(alloc, heard.line.tags())?;
+            let MessageStamp { id, at } = stamp_of(alloc, tags, heard.at)?;
+            let tagged = TaggedMessage { message, tags, at };
+            self.keep_stamped(alloc, scratch, heard, id, &tagged)
         } else {
-            let list = relay_to_all(alloc, scratch, line, bytes)?;
+            let list = relay_to_all(alloc, scratch, heard)?;
             Ok((MessageOutcome::Stays, list))
         }
     }
@@ -537,32 +519,30 @@ impl ServerSession {
         &self,
         alloc: Global,
         scratch: &mut Scratch,
-        now: Moment,
         kind: Kind,
-        line: &Line<'_>,
-        bytes: &[u8],
-        parameters: &[&[u8]],
+        heard: &HeardLine<'_>,
     ) -> Result<(MessageOutcome, Vec<UpEffect>), NoMemory>
         ensures { IfOk result (λ r. record { session = after r.0 self.now; effects = r.1.items }
-            ≡ spec.message self.now now kind line.now bytes.now (map (λ p. p.now) parameters.now)) }
+            ≡ spec.message self.now heard.now.at kind heard.now.line.now heard.now.bytes.now
+            heard.now.line.now.parameters) }
     {
-        match parameters {
+        match heard.line.parameters() {
             [target, body, ..] => {
                 if self.entry.is_up() {
-                    let source = self.source_of(line.source());
+                    let source = self.source_of(heard.line.source());
                     let message = Message {
                         kind,
                         source,
                         target,
                         body,
                     };
-                    self.keep(alloc, scratch, now, line, bytes, message)
+                    self.keep(alloc, scratch, heard, message)
                 } else {
                     Ok((MessageOutcome::Stays, Vec::new(alloc)))
                 }
             }
             _ => {
-                let list = self.pass_on(alloc, scratch, line, bytes)?;
+                let list = self.pass_on(alloc, scratch, heard)?;
                 Ok((MessageOutcome::Stays, list))
             }
         }
@@ -573,24 +553,15 @@ impl ServerSession {
         &mut self,
         alloc: Global,
         scratch: &mut Scratch,
-        now: Moment,
         kind: Kind,
-        line: &Line<'_>,
-        bytes: &[u8],
+        heard: &HeardLine<'_>,
     ) -> Result<Vec<UpEffect>, NoMemory>
         ensures ok { IfOk result (λ effects. record { session = self.new; effects = effects.items }
-            ≡ spec.message self.old now kind line.now bytes.now line.now.parameters) }
+            ≡ spec.message self.old heard.now.at kind heard.now.line.now heard.now.bytes.now
+            heard.now.line.now.parameters) }
         ensures err { OnErr result (self.new ≡ self.old) }
     {
-        let (outcome, list) = self.serve_message(
-            alloc,
-            scratch,
-            now,
-            kind,
-            line,
-            bytes,
-            line.parameters(),
-        )?;
+        let (outcome, list) = self.serve_message(alloc, scratch, kind, heard)?;
         self.go_on(outcome);
         Ok(list)
     }
@@ -641,17 +612,17 @@ impl ServerSession {
         &self,
         alloc: Global,
         scratch: &mut Scratch,
-        line: &Line<'_>,
-        bytes: &[u8],
+        heard: &HeardLine<'_>,
         target: &[u8],
         id: &[u8],
     ) -> Result<Vec<UpEffect>, NoMemory>
         ensures { IfOk result (λ list. list.items
-            ≡ spec.relay_redaction self.now line.now bytes.now target.now id.now) }
+            ≡ spec.relay_redaction self.now heard.now.line.now heard.now.bytes.now
+            target.now id.now) }
     {
-        let source = self.source_of(line.source());
+        let source = self.source_of(heard.line.source());
         let mut list = self.redaction(alloc, scratch, source, target, id)?;
-        let text = relayed_line(scratch.text_room(alloc), line.source(), bytes)?;
+        let text = relayed_line(scratch.text_room(alloc), heard.line.source(), heard.bytes)?;
         let to = Recipients::Holding(Capability::MessageRedaction);
         push(&mut list, UpEffect::Relay(text, to))?;
         Ok(list)
@@ -662,22 +633,21 @@ impl ServerSession {
         &self,
         alloc: Global,
         scratch: &mut Scratch,
-        line: &Line<'_>,
-        bytes: &[u8],
-        parameters: &[&[u8]],
+        heard: &HeardLine<'_>,
     ) -> Result<Vec<UpEffect>, NoMemory>
         ensures { IfOk result (λ list. record { session = self.now; effects = list.items }
-            ≡ spec.redact self.now line.now bytes.now (map (λ p. p.now) parameters.now)) }
+            ≡ spec.redact self.now heard.now.line.now heard.now.bytes.now
+            heard.now.line.now.parameters) }
     {
-        match parameters {
+        match heard.line.parameters() {
             [target, id, ..] => {
                 if self.entry.is_up() && self.entry.takes_redact() {
-                    self.relay_redaction(alloc, scratch, line, bytes, target, id)
+                    self.relay_redaction(alloc, scratch, heard, target, id)
                 } else {
-                    self.pass_on(alloc, scratch, line, bytes)
+                    self.pass_on(alloc, scratch, heard)
                 }
             }
-            _ => self.pass_on(alloc, scratch, line, bytes),
+            _ => self.pass_on(alloc, scratch, heard),
         }
     }
 
@@ -686,17 +656,17 @@ impl ServerSession {
         &self,
         alloc: Global,
         scratch: &mut Scratch,
-        line: &Line<'_>,
-        bytes: &[u8],
+        heard: &HeardLine<'_>,
     ) -> Result<Vec<UpEffect>, NoMemory>
         ensures { IfOk result (λ list. record { session = self.now; effects = list.items }
-            ≡ spec.tagmsg self.now line.now bytes.now) }
+            ≡ spec.tagmsg self.now heard.now.line.now heard.now.bytes.now) }
     {
         if !self.entry.is_up() {
             return Ok(Vec::new(alloc));
         }
+        let line = heard.line;
         let room = scratch.text_room(alloc);
-        let text = tagged_line(room, line.tags(), line.source(), bytes)?;
+        let text = tagged_line(room, line.tags(), line.source(), heard.bytes)?;
         let to = Recipients::Holding(Capability::MessageTags);
         scratch.one(alloc, UpEffect::Relay(text, to))
     }
@@ -706,30 +676,29 @@ impl ServerSession {
         &mut self,
         alloc: Global,
         scratch: &mut Scratch,
-        now: Moment,
-        bytes: &[u8],
-        line: &Line<'_>,
+        heard: &HeardLine<'_>,
     ) -> Result<Vec<UpEffect>, NoMemory>
         ensures ok { IfOk result (λ effects. record { session = self.new; effects = effects.items }
-            ≡ spec.serve self.old now bytes.now line.now (command_of line.now.command)) }
+            ≡ spec.serve self.old heard.now.at heard.now.bytes.now heard.now.line.now
+            (command_of heard.now.line.now.command)) }
         ensures err { OnErr result (self.new ≡ self.old) }
     {
-        match command_of(line.command()) {
-            ServerCommand::Cap => self.cap(alloc, line.parameters()),
-            ServerCommand::Welcome => self.welcome(alloc, line.parameters()),
+        match command_of(heard.line.command()) {
+            ServerCommand::Cap => self.cap(alloc, heard.line.parameters()),
+            ServerCommand::Welcome => self.welcome(alloc, heard.line.parameters()),
             ServerCommand::Greeting => Ok(Vec::new(alloc)),
-            ServerCommand::NickInUse => self.nick_in_use(alloc, scratch, line, bytes),
-            ServerCommand::Ping => self.ping(alloc, scratch, line, bytes, line.parameters()),
+            ServerCommand::NickInUse => self.nick_in_use(alloc, scratch, heard),
+            ServerCommand::Ping => self.ping(alloc, scratch, heard),
             ServerCommand::Error => self.close(alloc),
-            ServerCommand::Nick => self.nick(alloc, scratch, line, bytes),
-            ServerCommand::Join => self.join(alloc, scratch, line, bytes),
-            ServerCommand::Part => self.part(alloc, scratch, line, bytes),
-            ServerCommand::Kick => self.kick(alloc, scratch, line, bytes),
-            ServerCommand::Privmsg => self.message(alloc, scratch, now, Kind::Privmsg, line, bytes),
-            ServerCommand::Notice => self.message(alloc, scratch, now, Kind::Notice, line, bytes),
-            ServerCommand::Redact => self.redact(alloc, scratch, line, bytes, line.parameters()),
-            ServerCommand::Tagmsg => self.tagmsg(alloc, scratch, line, bytes),
-            ServerCommand::Other => self.pass_on(alloc, scratch, line, bytes),
+            ServerCommand::Nick => self.nick(alloc, scratch, heard),
+            ServerCommand::Join => self.join(alloc, scratch, heard),
+            ServerCommand::Part => self.part(alloc, scratch, heard),
+            ServerCommand::Kick => self.kick(alloc, scratch, heard),
+            ServerCommand::Privmsg => self.message(alloc, scratch, Kind::Privmsg, heard),
+            ServerCommand::Notice => self.message(alloc, scratch, Kind::Notice, heard),
+            ServerCommand::Redact => self.redact(alloc, scratch, heard),
+            ServerCommand::Tagmsg => self.tagmsg(alloc, scratch, heard),
+            ServerCommand::Other => self.pass_on(alloc, scratch, heard),
         }
     }
 }

@@ -13,11 +13,12 @@ use crate::command::{ServerCommand, command_of};
 use crate::connection::{LAST_SERIAL, MessageOutcome, ServerSession};
 use crate::effect::UpEffect;
 use crate::effects::{one, push};
-use crate::messages::made_id;
+use crate::heard::HeardLine;
+use crate::messages::{TaggedMessage, made_id};
 use crate::scratch::Scratch;
 use byte_text::NoMemory;
 use chat_change::{Kind, Message, Moment};
-use irc_line::{Line, TagLimit, read_line};
+use irc_line::{TagLimit, read_line};
 use irc_reply::to_server::{line_of_tags, passed_line, tagged_line};
 use irc_tags::{Tags, line_tags};
 use std::alloc::Global;
@@ -79,20 +80,6 @@ impl ServerSession {
         Ok((MessageOutcome::Stays, list))
     }
 
-    fn send_only_tagged(
-        &self,
-        alloc: Global,
-        scratch: &mut Scratch,
-        tags: Option<&[u8]>,
-        text: &[u8],
-    ) -> Result<(MessageOutcome, Vec<UpEffect>), NoMemory>
-        ensures { IfOk result (λ r. record { session = after r.0 self.now; effects = r.1.items }
-            ≡ stays self.now (spec.send_tagged (option_copied tags.entry) text.now)) }
-    {
-        let list = send_tagged(alloc, scratch, tags, text)?;
-        Ok((MessageOutcome::Stays, list))
-    }
-
     // The tags that a line goes with: none to a server that takes no tags.
     fn sent_tags<'a>(&self, tags: Option<&'a [u8]>) -> Option<&'a [u8]>
         ensures { option_copied result ≡ spec.sent_tags self.now (option_copied tags.entry) }
@@ -100,19 +87,33 @@ impl ServerSession {
         if self.held.message_tags { tags } else { None }
     }
 
+    fn send_only_tagged(
+        &self,
+        alloc: Global,
+        scratch: &mut Scratch,
+        heard: &HeardLine<'_>,
+    ) -> Result<(MessageOutcome, Vec<UpEffect>), NoMemory>
+        ensures { IfOk result (λ r. record { session = after r.0 self.now; effects = r.1.items }
+            ≡ stays self.now (spec.send_tagged
+            (spec.sent_tags self.now heard.now.line.now.tags) heard.now.bytes.now)) }
+    {
+        let tags = self.sent_tags(heard.line.tags());
+        let list = send_tagged(alloc, scratch, tags, heard.bytes)?;
+        Ok((MessageOutcome::Stays, list))
+    }
+
     // TAGMSG, which doesn't go to a server that takes no tags.
     fn say_tagmsg(
         &self,
         alloc: Global,
         scratch: &mut Scratch,
-        text: &[u8],
-        tags: Option<&[u8]>,
+        heard: &HeardLine<'_>,
     ) -> Result<(MessageOutcome, Vec<UpEffect>), NoMemory>
         ensures { IfOk result (λ r. record { session = after r.0 self.now; effects = r.1.items }
-            ≡ spec.say_tagmsg self.now text.now (option_copied tags.entry)) }
+            ≡ spec.say_tagmsg self.now heard.now.bytes.now heard.now.line.now.tags) }
     {
         if self.held.message_tags {
-            self.send_only_tagged(alloc, scratch, tags, text)
+            self.send_only_tagged(alloc, scratch, heard)
         } else {
             Ok((MessageOutcome::Stays, Vec::new(alloc)))
         }
@@ -130,48 +131,49 @@ impl ServerSession {
         &self,
         alloc: Global,
         scratch: &mut Scratch,
-        now: Moment,
         text: &[u8],
-        tags: &Option<Tags<'_>>,
-        message: Message<'_>,
+        tagged: &TaggedMessage<'_, '_>,
     ) -> Result<(MessageOutcome, Vec<UpEffect>), NoMemory>
-        requires can { messages.can_be_kept self.now (value_of message) ≡ true }
+        requires can { messages.can_be_kept self.now (value_of tagged.now.message) ≡ true }
         requires more { self.now.serial < LAST_SERIAL }
         ensures { IfOk result (λ r. record { session = after r.0 self.now; effects = r.1.items }
-            ≡ spec.say_of_tags self.now now text.now tags.now (value_of message.entry)
-            (messages.made_id self.now.home self.now.serial)) }
+            ≡ spec.say_of_tags self.now tagged.now.at text.now tagged.now.tags.now
+            (value_of tagged.now.message) (messages.made_id self.now.home self.now.serial)) }
     {
-        let mut list = send_of_tags(alloc, scratch, tags, text)?;
+        let mut list = send_of_tags(alloc, scratch, tagged.tags, text)?;
         match made_id(alloc, &self.home, self.serial)? {
             None => Ok((MessageOutcome::Stays, list)),
             Some(id) => {
-                let post = self.post(alloc, scratch, id, now, tags, message)?;
+                let post = self.post(alloc, scratch, id, tagged)?;
                 push(&mut list, post)?;
                 Ok((MessageOutcome::Counts(self.serial + 1), list))
             }
         }
     }
 
-    fn say_kept(
+    fn say_kept<'a>(
         &self,
         alloc: Global,
         scratch: &mut Scratch,
-        now: Moment,
-        text: &[u8],
-        tags: Option<&[u8]>,
-        message: Message<'_>,
+        heard: &HeardLine<'a>,
+        message: Message<'a>,
     ) -> Result<(MessageOutcome, Vec<UpEffect>), NoMemory>
         requires { messages.can_be_kept self.now (value_of message) ≡ true }
         ensures { IfOk result (λ r. record { session = after r.0 self.now; effects = r.1.items }
-            ≡ spec.say_kept self.now now text.now (option_copied tags.entry)
-            (value_of message.entry)) }
+            ≡ spec.say_kept self.now heard.now.at heard.now.bytes.now
+            (spec.sent_tags self.now heard.now.line.now.tags) (value_of message.entry)) }
     {
         if self.serial == LAST_SERIAL {
             let list = one(alloc, UpEffect::Close)?;
             return Ok((MessageOutcome::Closes, list));
         }
-        let read = line_tags(alloc, tags)?;
-        let said = self.say_of_tags(alloc, scratch, now, text, &read, message)?;
+        let read = line_tags(alloc, self.sent_tags(heard.line.tags()))?;
+        let tagged = TaggedMessage {
+            message,
+            tags: &read,
+            at: heard.at,
+        };
+        let said = self.say_of_tags(alloc, scratch, heard.bytes, &tagged)?;
         Ok(said)
     }
 
@@ -179,19 +181,17 @@ impl ServerSession {
         &self,
         alloc: Global,
         scratch: &mut Scratch,
-        now: Moment,
-        text: &[u8],
-        tags: Option<&[u8]>,
+        heard: &HeardLine<'_>,
         message: Message<'_>,
     ) -> Result<(MessageOutcome, Vec<UpEffect>), NoMemory>
         ensures { IfOk result (λ r. record { session = after r.0 self.now; effects = r.1.items }
-            ≡ spec.say_message self.now now text.now (option_copied tags.entry)
-            (value_of message.entry)) }
+            ≡ spec.say_message self.now heard.now.at heard.now.bytes.now
+            (spec.sent_tags self.now heard.now.line.now.tags) (value_of message.entry)) }
     {
         if self.is_kept_here(message) {
-            self.say_kept(alloc, scratch, now, text, tags, message)
+            self.say_kept(alloc, scratch, heard, message)
         } else {
-            self.send_only_tagged(alloc, scratch, tags, text)
+            self.send_only_tagged(alloc, scratch, heard)
         }
     }
 
@@ -199,17 +199,15 @@ impl ServerSession {
         &self,
         alloc: Global,
         scratch: &mut Scratch,
-        now: Moment,
-        text: &[u8],
-        tags: Option<&[u8]>,
         kind: Kind,
-        parameters: &[&[u8]],
+        heard: &HeardLine<'_>,
     ) -> Result<(MessageOutcome, Vec<UpEffect>), NoMemory>
         ensures { IfOk result (λ r. record { session = after r.0 self.now; effects = r.1.items }
-            ≡ spec.say_words self.now now text.now (option_copied tags.entry) kind
-            (map (λ p. p.now) parameters.now)) }
+            ≡ spec.say_words self.now heard.now.at heard.now.bytes.now
+            (spec.sent_tags self.now heard.now.line.now.tags) kind
+            heard.now.line.now.parameters) }
     {
-        match parameters {
+        match heard.line.parameters() {
             [target, body, ..] => {
                 let source = self.entry.nick();
                 let message = Message {
@@ -218,9 +216,9 @@ impl ServerSession {
                     target,
                     body,
                 };
-                self.say_message(alloc, scratch, now, text, tags, message)
+                self.say_message(alloc, scratch, heard, message)
             }
-            _ => self.send_only_tagged(alloc, scratch, tags, text),
+            _ => self.send_only_tagged(alloc, scratch, heard),
         }
     }
 
@@ -229,24 +227,16 @@ impl ServerSession {
         &self,
         alloc: Global,
         scratch: &mut Scratch,
-        now: Moment,
-        text: &[u8],
-        line: &Line<'_>,
+        heard: &HeardLine<'_>,
     ) -> Result<(MessageOutcome, Vec<UpEffect>), NoMemory>
         ensures { IfOk result (λ r. record { session = after r.0 self.now; effects = r.1.items }
-            ≡ spec.say_command self.now now text.now line.now (command_of line.now.command)) }
+            ≡ spec.say_command self.now heard.now.at heard.now.bytes.now heard.now.line.now
+            (command_of heard.now.line.now.command)) }
     {
-        let tags = self.sent_tags(line.tags());
-        match command_of(line.command()) {
-            ServerCommand::Privmsg => {
-                let parameters = line.parameters();
-                self.say_words(alloc, scratch, now, text, tags, Kind::Privmsg, parameters)
-            }
-            ServerCommand::Notice => {
-                let parameters = line.parameters();
-                self.say_words(alloc, scratch, now, text, tags, Kind::Notice, parameters)
-            }
-            ServerCommand::Tagmsg => self.say_tagmsg(alloc, scratch, text, line.tags()),
+        match command_of(heard.line.command()) {
+            ServerCommand::Privmsg => self.say_words(alloc, scratch, Kind::Privmsg, heard),
+            ServerCommand::Notice => self.say_words(alloc, scratch, Kind::Notice, heard),
+            ServerCommand::Tagmsg => self.say_tagmsg(alloc, scratch, heard),
             ServerCommand::Cap
             | ServerCommand::Welcome
             | ServerCommand::Greeting
@@ -258,7 +248,7 @@ impl ServerSession {
             | ServerCommand::Kick
             | ServerCommand::Error
             | ServerCommand::Redact
-            | ServerCommand::Other => self.send_only(alloc, scratch, text),
+            | ServerCommand::Other => self.send_only(alloc, scratch, heard.bytes),
         }
     }
 
@@ -275,7 +265,14 @@ impl ServerSession {
     {
         match read_line(text, TagLimit::Client) {
             Err(_) => self.send_only(alloc, scratch, text),
-            Ok(line) => self.say_command(alloc, scratch, now, text, &line),
+            Ok(line) => {
+                let heard = HeardLine {
+                    line: &line,
+                    bytes: text,
+                    at: now,
+                };
+                self.say_command(alloc, scratch, &heard)
+            }
         }
     }
 }

@@ -10,6 +10,7 @@ ghost use Rattle.upstream_session.specs.Step as steps;
 use crate::connection::{Home, ServerSession};
 use crate::effect::UpEffect;
 use crate::effects::{push, send};
+use crate::heard::HeardLine;
 use crate::refusal::Refusal;
 use crate::sayings::without_ending;
 use crate::scratch::Scratch;
@@ -17,7 +18,7 @@ use byte_text::{NoMemory, Text};
 use chat_change::Moment;
 use cluster_directory::{Entry, SessionConfig};
 use irc_caps::CapSet;
-use irc_line::{Line, TagLimit, read_line};
+use irc_line::{TagLimit, read_line};
 use irc_reply::to_server::{ls_line, nick_line, user_line};
 use std::alloc::Global;
 use std::marker::Model;
@@ -148,30 +149,30 @@ impl Upstream {
         }
         match read_line(bytes, TagLimit::Server) {
             Err(_) => Ok(Vec::new(alloc)),
-            Ok(line) => self.hear(alloc, bytes, now, &line),
+            Ok(line) => {
+                let heard = HeardLine {
+                    line: &line,
+                    bytes,
+                    at: now,
+                };
+                self.hear(alloc, &heard)
+            }
         }
     }
 
     // What a line of the server that was read does.
-    fn hear(
-        &mut self,
-        alloc: Global,
-        bytes: &[u8],
-        now: Moment,
-        line: &Line<'_>,
-    ) -> Result<Vec<UpEffect>, NoMemory>
+    fn hear(&mut self, alloc: Global, heard: &HeardLine<'_>) -> Result<Vec<UpEffect>, NoMemory>
         ensures step { IfOk result (λ list.
             record { session = self.new.connection; effects = list.items }
-            ≡ serve self.old.connection now bytes.now line.now (command_of line.now.command)) }
+            ≡ serve self.old.connection heard.now.at heard.now.bytes.now heard.now.line.now
+            (command_of heard.now.line.now.command)) }
         ensures refusal { IfOk result (λ _. self.new.refusal
-            ≡ after_line self.old.connection.entry.is_up self.old.refusal line.now) }
+            ≡ after_line self.old.connection.entry.is_up self.old.refusal heard.now.line.now) }
         ensures err { OnErr result (self.new ≡ self.old) }
     {
         let is_up = self.connection.entry.is_up();
-        let effects = self
-            .connection
-            .serve(alloc, &mut self.scratch, now, bytes, line)?;
-        self.refusal.hear(is_up, line);
+        let effects = self.connection.serve(alloc, &mut self.scratch, heard)?;
+        self.refusal.hear(is_up, heard.line);
         Ok(effects)
     }
 

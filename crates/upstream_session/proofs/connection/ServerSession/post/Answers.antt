@@ -9,7 +9,7 @@ use Rattle.upstream_session.proofs.connection.ServerSession.post.Goals as goal
 -- a message that can be kept is of a conversation that has a buffer
 pub buffer_for-requires : goal.buffer_for-requires
 buffer_for-requires c =
-    let m : Message = value_of c.args.message in
+    let m : Message = value_of c.args.tagged.now.message in
     subst (λ talk. has_buffer c.args.self.now.home talk ≡ true) (sym c.conversation-talk.ensures)
     (and_parts (has_buffer c.args.self.now.home (conversation c.args.self.now m.source m.target)) (is_message m) c.requires).0
 
@@ -20,6 +20,6 @@ no_fault (Some fault) h = absurd (cc)
 -- and has no fault
 pub lawful_record-requires-clause-message : goal.lawful_record-requires-clause-message
 lawful_record-requires-clause-message c =
-    let m : Message = value_of c.args.message in
+    let m : Message = value_of c.args.tagged.now.message in
     no_fault (record_fault m)
     (and_parts (has_buffer c.args.self.now.home (conversation c.args.self.now m.source m.target)) (is_message m) c.requires).1

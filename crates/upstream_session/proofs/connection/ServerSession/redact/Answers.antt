@@ -2,11 +2,11 @@ use Rattle.std.proofs.Common.{arith}
 use Rattle.std.proofs.lemmas.Grind.{common_steps}
 use Rattle.upstream_session.proofs.connection.ServerSession.redact.Goals as goal
 
-pub bounds-parameters-0 : goal.bounds-parameters-0
-bounds-parameters-0 c = omega arith
+pub bounds-target-0 : goal.bounds-target-0
+bounds-target-0 c = omega arith
 
-pub bounds-parameters-1 : goal.bounds-parameters-1
-bounds-parameters-1 c = omega arith
+pub bounds-id-1 : goal.bounds-id-1
+bounds-id-1 c = omega arith
 
 pub slice_bounds-relay_redaction-end : goal.slice_bounds-relay_redaction-end
 slice_bounds-relay_redaction-end c = omega arith

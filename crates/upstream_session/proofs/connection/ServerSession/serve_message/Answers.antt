@@ -1,4 +1,4 @@
-use Rattle.std.proofs.Common.{◌≡◌, ◌<◌, ◌∙◌, ℕ, List, [], ◌∷◌, length, map, refl, sym, ap, arith}
+use Rattle.std.proofs.Common.{◌≡◌, ◌<◌, ◌∙◌, ℕ, List, [], ◌∷◌, length, refl, sym, ap, arith}
 use Rattle.std.proofs.lemmas.List.{length-map}
 use Rattle.irc_line.specs.Line.{Reading}
 use Rattle.chat_change.specs.declared.message.Kind.{Kind}
@@ -15,6 +15,8 @@ too_few u now kind line bytes (a ∷ b ∷ more) h = absurd (omega arith)
 
 pub returns-in_ok-list-in_default : goal.returns-in_ok-list-in_default
 returns-in_ok-list-in_default c =
-    let n = length-map c.args.parameters.now (λ p. p.now) in
-    let e = too_few c.args.self.now c.args.now c.args.kind c.args.line.now c.args.bytes.now (map (λ p. p.now) c.args.parameters.now) (omega (arith, n)) in
-    ap (λ l. stays c.args.self.now l) c.in_ok-list-in_default.ensures ∙ sym e
+    let heard = c.args.heard.now in
+    let n = length-map c.parameters.result.now (λ p. p.now) in
+    let l = ap length c.parameters.ensures in
+    let e = too_few c.args.self.now heard.at c.args.kind heard.line.now heard.bytes.now heard.line.now.parameters (omega (arith, n, l)) in
+    ap (λ effects. stays c.args.self.now effects) c.in_ok-list-in_default.ensures ∙ sym e

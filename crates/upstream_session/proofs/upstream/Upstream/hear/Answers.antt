@@ -9,5 +9,5 @@ use Rattle.upstream_session.proofs.upstream.Upstream.hear.Goals as goal
 pub returns-clause-step : goal.returns-clause-step
 returns-clause-step c =
     subst (λ (s : Session). ◌≡◌ {A = ServerStep} record { session = c.serve.new.self; effects = c.in_ok-effects.effects.items }
-    (serve s.connection c.args.now c.args.bytes.now c.args.line.now (command_of c.args.line.now.command)))
+    (serve s.connection c.args.heard.now.at c.args.heard.now.bytes.now c.args.heard.now.line.now (command_of c.args.heard.now.line.now.command)))
     c.self.view_is c.in_ok-effects.ensures.ok
