@@ -94,61 +94,68 @@ fn given_of<'a>(parameters: &[&'a [u8]]) -> &'a [u8]
     }
 }
 
-/// Answers a query of a session that has buffers.
-fn answer_in_scope<W: Write>(
-    alloc: Global,
-    state: &State,
-    facts: &Facts,
-    scope: &Scope<'_>,
-    parameters: &[&[u8]],
-    query: &Query<'_>,
-    writer: &mut W,
-) -> Result<Answered, AnswerFault>
-    ensures text { WritesAnswerFrom W.contents writer.old writer.new result state.now.history
-        (λ changes. spec.page_or_unknown facts.now (map (λ p. p.now) parameters.now)
-        (page changes scope.now query.now)) }
-    ensures memory { IsUnwritten result writer.old writer.new }
-{
-    match page(alloc, state, scope, query) {
-        Ok(page) => {
-            let answered = write_answer(alloc, facts, given_of(parameters), &page, writer);
-            drop(page);
-            answered
-        }
-        Err(PageFault::UnknownMessage) => refuse_selector(
-            alloc,
-            facts,
-            word_of(parameters),
-            given_of(parameters),
-            writer,
-        ),
-        Err(PageFault::NoMemory) => Err(AnswerFault::NoMemory),
-    }
-}
-
 ghost use Rattle.chat_query.specs.Page.{page};
 
-/// Answers a query.
-fn answer_query<W: Write>(
+/// A question of a session, and what answers it.
+#[derive(Clone, Copy)]
+struct Question<'a> {
     alloc: Global,
-    state: &State,
-    facts: &Facts,
-    parameters: &[&[u8]],
-    query: &Query<'_>,
-    writer: &mut W,
-) -> Result<Answered, AnswerFault>
-    ensures text { WritesAnswerFrom W.contents writer.old writer.new result state.now.history
-        (λ changes. spec.query_answer changes facts.now (map (λ p. p.now) parameters.now)
-        query.now) }
-    ensures memory { IsUnwritten result writer.old writer.new }
-{
-    match Scope::new(
-        facts.account.as_bytes(),
-        facts.network.as_bytes(),
-        facts.maximum as usize,
-    ) {
-        Some(scope) => answer_in_scope(alloc, state, facts, &scope, parameters, query, writer),
-        None => refuse_query(alloc, facts, parameters, QueryFault::InvalidTarget, writer),
+    state: &'a State,
+    facts: &'a Facts,
+    parameters: &'a [&'a [u8]],
+}
+
+impl Question<'_> {
+    /// Answers a query of a session that has buffers.
+    fn answer_in_scope<W: Write>(
+        &self,
+        scope: &Scope<'_>,
+        query: &Query<'_>,
+        writer: &mut W,
+    ) -> Result<Answered, AnswerFault>
+        ensures text { WritesAnswerFrom W.contents writer.old writer.new result
+            self.now.state.now.history (λ changes. spec.page_or_unknown self.now.facts.now
+            (map (λ p. p.now) self.now.parameters.now) (page changes scope.now query.now)) }
+        ensures memory { IsUnwritten result writer.old writer.new }
+    {
+        let given = given_of(self.parameters);
+        match page(self.alloc, self.state, scope, query) {
+            Ok(page) => {
+                let answered = write_answer(self.alloc, self.facts, given, &page, writer);
+                drop(page);
+                answered
+            }
+            Err(PageFault::UnknownMessage) => {
+                let word = word_of(self.parameters);
+                refuse_selector(self.alloc, self.facts, word, given, writer)
+            }
+            Err(PageFault::NoMemory) => Err(AnswerFault::NoMemory),
+        }
+    }
+
+    /// Answers a query.
+    fn answer_query<W: Write>(
+        &self,
+        query: &Query<'_>,
+        writer: &mut W,
+    ) -> Result<Answered, AnswerFault>
+        ensures text { WritesAnswerFrom W.contents writer.old writer.new result
+            self.now.state.now.history (λ changes. spec.query_answer changes self.now.facts.now
+            (map (λ p. p.now) self.now.parameters.now) query.now) }
+        ensures memory { IsUnwritten result writer.old writer.new }
+    {
+        let facts = self.facts;
+        match Scope::new(
+            facts.account.as_bytes(),
+            facts.network.as_bytes(),
+            facts.maximum as usize,
+        ) {
+            Some(scope) => self.answer_in_scope(&scope, query, writer),
+            None => {
+                let fault = QueryFault::InvalidTarget;
+                refuse_query(self.alloc, facts, self.parameters, fault, writer)
+            }
+        }
     }
 }
 
@@ -167,7 +174,13 @@ fn answer_line<W: Write>(
 {
     match read_query(line) {
         Ok(query) => {
-            let answered = answer_query(alloc, state, facts, line.parameters(), &query, writer);
+            let asked = Question {
+                alloc,
+                state,
+                facts,
+                parameters: line.parameters(),
+            };
+            let answered = asked.answer_query(&query, writer);
             drop(query);
             answered
         }

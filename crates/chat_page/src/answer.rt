@@ -156,18 +156,6 @@ fn between<'a>(
     or_no_memory(found)
 }
 
-/// The buffer of a scope and a target.
-fn buffer_of(alloc: Global, scope: &Scope<'_>, target: &Target<'_>) -> Result<Buffer, PageFault>
-    ensures ok { IfOk result (λ buffer. buffer ≡ spec.buffer_of scope.now target.now) }
-    ensures err { IfErr result (λ fault. fault ≡ PageFault.NoMemory) }
-{
-    match Buffer::new(alloc, scope.account(), scope.network(), target.given()) {
-        Ok(buffer) => Ok(buffer),
-        // Names and targets are lawful by their types.
-        Err(_) => Err(PageFault::NoMemory),
-    }
-}
-
 /// The page of those records, if there are any.
 fn page_of<'a>(found: Result<Vec<&'a Record>, PageFault>) -> Result<Page<'a>, PageFault>
     ensures { (wanted : Option (List Record)) → AreRecords wanted found.entry → IsAnswerIfMemory
@@ -179,176 +167,147 @@ fn page_of<'a>(found: Result<Vec<&'a Record>, PageFault>) -> Result<Page<'a>, Pa
     }
 }
 
-/// A page of one selector.
-fn selected_page<'a>(
+/// The state that is asked, and who asks it.
+#[derive(Clone, Copy)]
+struct Asked<'a, 'b> {
     alloc: Global,
     state: &'a State,
-    scope: &Scope<'_>,
-    target: &Target<'_>,
-    selector: &Selector<'_>,
-    side: SelectorSide,
-    limit: usize,
-) -> Result<Page<'a>, PageFault>
-    ensures { (changes : List Change) → state.now.history ≡ norm changes
-        → IsAnswerIfMemory (option_map spec.of_records (side_of (norm changes)
-        (spec.buffer_of scope.now target.now) selector.now side
-        (min limit scope.now.maximum))) result }
-{
-    let buffer = buffer_of(alloc, scope, target)?;
-    let n = limit.min(scope.maximum());
-    page_of(selected(alloc, state, &buffer, selector, side, n))
+    scope: &'b Scope<'b>,
 }
 
-/// A page between two selectors.
-fn between_page<'a>(
-    alloc: Global,
-    state: &'a State,
-    scope: &Scope<'_>,
-    target: &Target<'_>,
-    one: &Selector<'_>,
-    other: &Selector<'_>,
-    limit: usize,
-) -> Result<Page<'a>, PageFault>
-    ensures { (changes : List Change) → state.now.history ≡ norm changes
-        → IsAnswerIfMemory (option_map spec.of_records (between_of (norm changes)
-        (spec.buffer_of scope.now target.now) one.now other.now
-        (min limit scope.now.maximum))) result }
-{
-    let buffer = buffer_of(alloc, scope, target)?;
-    let n = limit.min(scope.maximum());
-    page_of(between(alloc, state, &buffer, one, other, n))
-}
-
-/// The page of the latest records.
-fn latest_page<'a>(
-    alloc: Global,
-    state: &'a State,
-    scope: &Scope<'_>,
-    target: &Target<'_>,
-    limit: usize,
-) -> Result<Page<'a>, PageFault>
-    ensures { IsAnswerIfMemory (Some (spec.of_records (spec.last (min limit scope.now.maximum)
-        (records_in state.now.history (spec.buffer_of scope.now target.now))))) result }
-{
-    let buffer = buffer_of(alloc, scope, target)?;
-    // Without it the prover doesn't find the types that a cut may hold.
-    let _held: (Option<Moment>, Option<&Spot>) = (None, None);
-    let n = limit.min(scope.maximum());
-    match last_between(alloc, state, &buffer, &Cut::Bottom, &Cut::Top, n) {
-        Ok(records) => Ok(Page::Records(records)),
-        Err(_) => Err(PageFault::NoMemory),
+impl<'a, 'b> Asked<'a, 'b> {
+    /// The buffer of a target.
+    fn buffer(&self, target: &Target<'_>) -> Result<Buffer, PageFault>
+        ensures ok { IfOk result (λ buffer. buffer
+            ≡ spec.buffer_of self.now.scope.now target.now) }
+        ensures err { IfErr result (λ fault. fault ≡ PageFault.NoMemory) }
+    {
+        let scope = self.scope;
+        match Buffer::new(self.alloc, scope.account(), scope.network(), target.given()) {
+            Ok(buffer) => Ok(buffer),
+            // Names and targets are lawful by their types.
+            Err(_) => Err(PageFault::NoMemory),
+        }
     }
-}
 
-/// The page of LATEST.
-fn latest_or_after<'a>(
-    alloc: Global,
-    state: &'a State,
-    scope: &Scope<'_>,
-    target: &Target<'_>,
-    after: &Option<Selector<'_>>,
-    limit: usize,
-) -> Result<Page<'a>, PageFault>
-    ensures { (changes : List Change) → state.now.history ≡ norm changes
-        → IsAnswerIfMemory (spec.page changes scope.now (Query.Latest target.now after.now limit)) result }
-{
-    match after {
-        None => latest_page(alloc, state, scope, target, limit),
-        Some(selector) => selected_page(
-            alloc,
-            state,
-            scope,
-            target,
-            selector,
-            SelectorSide::LatestAfter,
-            limit,
-        ),
+    /// A page of one selector.
+    fn selected_page(
+        &self,
+        target: &Target<'_>,
+        selector: &Selector<'_>,
+        side: SelectorSide,
+        limit: usize,
+    ) -> Result<Page<'a>, PageFault>
+        ensures { (changes : List Change) → self.now.state.now.history ≡ norm changes
+            → IsAnswerIfMemory (option_map spec.of_records (side_of (norm changes)
+            (spec.buffer_of self.now.scope.now target.now) selector.now side
+            (min limit self.now.scope.now.maximum))) result }
+    {
+        let buffer = self.buffer(target)?;
+        let n = limit.min(self.scope.maximum());
+        page_of(selected(self.alloc, self.state, &buffer, selector, side, n))
     }
-}
 
-/// The page of a list of buffers.
-fn targets_page<'a>(
-    alloc: Global,
-    state: &'a State,
-    scope: &Scope<'_>,
-    one: Moment,
-    other: Moment,
-    limit: usize,
-) -> Result<Page<'a>, PageFault>
-    ensures { IsAnswerIfMemory (Some (spec.of_buffers (spec.targets_cut
-        (min limit scope.now.maximum) one other
-        (spec.buffers_in state.now.history scope.now)))) result }
-{
-    let n = limit.min(scope.maximum());
-    match listed_between(alloc, state, scope, one, other, n) {
-        Ok(buffers) => Ok(Page::Buffers(buffers)),
-        Err(_) => Err(PageFault::NoMemory),
+    /// A page between two selectors.
+    fn between_page(
+        &self,
+        target: &Target<'_>,
+        one: &Selector<'_>,
+        other: &Selector<'_>,
+        limit: usize,
+    ) -> Result<Page<'a>, PageFault>
+        ensures { (changes : List Change) → self.now.state.now.history ≡ norm changes
+            → IsAnswerIfMemory (option_map spec.of_records (between_of (norm changes)
+            (spec.buffer_of self.now.scope.now target.now) one.now other.now
+            (min limit self.now.scope.now.maximum))) result }
+    {
+        let buffer = self.buffer(target)?;
+        let n = limit.min(self.scope.maximum());
+        page_of(between(self.alloc, self.state, &buffer, one, other, n))
     }
-}
 
-/// The page of a query. Want of memory is answered wherever some was refused.
-fn page_if_memory<'a>(
-    alloc: Global,
-    state: &'a State,
-    scope: &Scope<'_>,
-    query: &Query<'_>,
-) -> Result<Page<'a>, PageFault>
-    ensures { (changes : List Change) → state.now.history ≡ norm changes
-        → IsAnswerIfMemory (spec.page changes scope.now query.now) result }
-{
-    match query {
-        Query::Latest {
-            target,
-            after,
-            limit,
-        } => latest_or_after(alloc, state, scope, target, after, *limit),
-        Query::Before {
-            target,
-            selector,
-            limit,
-        } => selected_page(
-            alloc,
-            state,
-            scope,
-            target,
-            selector,
-            SelectorSide::Before,
-            *limit,
-        ),
-        Query::After {
-            target,
-            selector,
-            limit,
-        } => selected_page(
-            alloc,
-            state,
-            scope,
-            target,
-            selector,
-            SelectorSide::After,
-            *limit,
-        ),
-        Query::Around {
-            target,
-            selector,
-            limit,
-        } => selected_page(
-            alloc,
-            state,
-            scope,
-            target,
-            selector,
-            SelectorSide::Around,
-            *limit,
-        ),
-        Query::Between {
-            target,
-            one,
-            other,
-            limit,
-        } => between_page(alloc, state, scope, target, one, other, *limit),
-        Query::Targets { one, other, limit } => {
-            targets_page(alloc, state, scope, *one, *other, *limit)
+    /// The page of the latest records.
+    fn latest_page(&self, target: &Target<'_>, limit: usize) -> Result<Page<'a>, PageFault>
+        ensures { IsAnswerIfMemory (Some (spec.of_records (spec.last
+            (min limit self.now.scope.now.maximum)
+            (records_in self.now.state.now.history
+            (spec.buffer_of self.now.scope.now target.now))))) result }
+    {
+        let buffer = self.buffer(target)?;
+        // Without it the prover doesn't find the types that a cut may hold.
+        let _held: (Option<Moment>, Option<&Spot>) = (None, None);
+        let n = limit.min(self.scope.maximum());
+        match last_between(self.alloc, self.state, &buffer, &Cut::Bottom, &Cut::Top, n) {
+            Ok(records) => Ok(Page::Records(records)),
+            Err(_) => Err(PageFault::NoMemory),
+        }
+    }
+
+    /// The page of LATEST.
+    fn latest_or_after(
+        &self,
+        target: &Target<'_>,
+        after: &Option<Selector<'_>>,
+        limit: usize,
+    ) -> Result<Page<'a>, PageFault>
+        ensures { (changes : List Change) → self.now.state.now.history ≡ norm changes
+            → IsAnswerIfMemory (spec.page changes self.now.scope.now
+            (Query.Latest target.now after.now limit)) result }
+    {
+        match after {
+            None => self.latest_page(target, limit),
+            Some(selector) => {
+                self.selected_page(target, selector, SelectorSide::LatestAfter, limit)
+            }
+        }
+    }
+
+    /// The page of a list of buffers.
+    fn targets_page(&self, one: Moment, other: Moment, limit: usize) -> Result<Page<'a>, PageFault>
+        ensures { IsAnswerIfMemory (Some (spec.of_buffers (spec.targets_cut
+            (min limit self.now.scope.now.maximum) one other
+            (spec.buffers_in self.now.state.now.history self.now.scope.now)))) result }
+    {
+        let n = limit.min(self.scope.maximum());
+        match listed_between(self.alloc, self.state, self.scope, one, other, n) {
+            Ok(buffers) => Ok(Page::Buffers(buffers)),
+            Err(_) => Err(PageFault::NoMemory),
+        }
+    }
+
+    /// The page of a query. Want of memory is answered wherever some was refused.
+    fn page_if_memory(&self, query: &Query<'_>) -> Result<Page<'a>, PageFault>
+        ensures { (changes : List Change) → self.now.state.now.history ≡ norm changes
+            → IsAnswerIfMemory (spec.page changes self.now.scope.now query.now) result }
+    {
+        match query {
+            Query::Latest {
+                target,
+                after,
+                limit,
+            } => self.latest_or_after(target, after, *limit),
+            Query::Before {
+                target,
+                selector,
+                limit,
+            } => self.selected_page(target, selector, SelectorSide::Before, *limit),
+            Query::After {
+                target,
+                selector,
+                limit,
+            } => self.selected_page(target, selector, SelectorSide::After, *limit),
+            Query::Around {
+                target,
+                selector,
+                limit,
+            } => self.selected_page(target, selector, SelectorSide::Around, *limit),
+            Query::Between {
+                target,
+                one,
+                other,
+                limit,
+            } => self.between_page(target, one, other, *limit),
+            Query::Targets { one, other, limit } => self.targets_page(*one, *other, *limit),
         }
     }
 }
@@ -381,7 +340,12 @@ pub fn page<'a>(
     ensures { (changes : List Change) → state.now.history ≡ norm changes
         → IsAnswer (spec.page changes scope.now query.now) result }
 {
-    match page_if_memory(alloc, state, scope, query) {
+    let asked = Asked {
+        alloc,
+        state,
+        scope,
+    };
+    match asked.page_if_memory(query) {
         Ok(page) => Ok(page),
         Err(PageFault::UnknownMessage) => Err(PageFault::UnknownMessage),
         Err(PageFault::NoMemory) => Err(refusal_of(state, scope, query)),

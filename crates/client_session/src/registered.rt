@@ -28,6 +28,19 @@ use irc_reply::to_server::{nick_line, passed_line, tagged_line};
 use std::alloc::Global;
 use std::mem;
 
+/// A line that a registered session serves.
+#[derive(Clone, Copy)]
+pub(crate) struct ServedLine<'a> {
+    /// The session's network, where the directory has it.
+    pub(crate) entry: Option<&'a Entry>,
+    pub(crate) command: ClientCommand,
+    pub(crate) line: &'a Line<'a>,
+    /// The line as it came.
+    pub(crate) bytes: &'a [u8],
+    /// Whether the message is shown that a REDACT names.
+    pub(crate) shown: bool,
+}
+
 fn is_up(entry: Option<&Entry>) -> bool
     ensures { result ≡ spec.is_up (option_copied entry.entry) }
 {
@@ -155,81 +168,6 @@ fn chathistory(alloc: Global, facts: &Facts, bytes: &[u8]) -> Result<Vec<Effect>
     }
 }
 
-/// PRIVMSG, NOTICE or TAGMSG, which goes to the network's server with its client-only tags.
-fn pass_message_on(
-    alloc: Global,
-    scratch: &mut SessionScratch,
-    entry: Option<&Entry>,
-    facts: &Facts,
-    bytes: &[u8],
-    tags: Option<&[u8]>,
-) -> Result<Vec<Effect>, NoMemory>
-    ensures { IfOk result (λ list. list.items ≡ spec.upstream (option_copied entry.entry)
-        facts.now (tagged_line (option_copied tags.entry) bytes.now)) }
-{
-    if is_up(entry) {
-        let line = tagged_line(scratch.text_room(alloc), tags, bytes)?;
-        scratch.one(alloc, Effect::Upstream(line))
-    } else {
-        not_up(alloc, facts)
-    }
-}
-
-/// Any other line, which goes to the network's server without its tags.
-fn pass_on(
-    alloc: Global,
-    scratch: &mut SessionScratch,
-    entry: Option<&Entry>,
-    facts: &Facts,
-    bytes: &[u8],
-) -> Result<Vec<Effect>, NoMemory>
-    ensures { IfOk result (λ list. list.items ≡ spec.upstream (option_copied entry.entry)
-        facts.now (passed_line bytes.now)) }
-{
-    if is_up(entry) {
-        let line = passed_line(scratch.text_room(alloc), bytes)?;
-        scratch.one(alloc, Effect::Upstream(line))
-    } else {
-        not_up(alloc, facts)
-    }
-}
-
-ghost use Rattle.irc_reply.specs.ToServer.{passed_line, tagged_line};
-
-/// What a command does that leaves the session as it is.
-fn effects(
-    alloc: Global,
-    scratch: &mut SessionScratch,
-    entry: Option<&Entry>,
-    facts: &Facts,
-    shown: bool,
-    bytes: &[u8],
-    command: ClientCommand,
-    line: &Line<'_>,
-) -> Result<Vec<Effect>, NoMemory>
-    ensures { IfOk result (λ list. list.items ≡ spec.effects (option_copied entry.entry)
-        facts.now shown bytes.now command line.now) }
-{
-    let parameters = line.parameters();
-    match command {
-        ClientCommand::Cap | ClientCommand::Quit | ClientCommand::Pong => Ok(Vec::new(alloc)),
-        ClientCommand::Pass => pass(alloc, facts, parameters),
-        ClientCommand::User => user(alloc, facts, parameters),
-        ClientCommand::Ping => {
-            let cluster = facts.cluster.as_bytes();
-            ping(alloc, cluster, facts.nick.as_bytes(), parameters)
-        }
-        ClientCommand::Nick => nick(alloc, entry, facts, parameters),
-        ClientCommand::Chathistory => chathistory(alloc, facts, bytes),
-        ClientCommand::Markread => markread(alloc, facts, bytes, parameters),
-        ClientCommand::Redact => redact(alloc, entry, facts, shown, parameters),
-        ClientCommand::Message => {
-            pass_message_on(alloc, scratch, entry, facts, bytes, line.tags())
-        }
-        ClientCommand::Other => pass_on(alloc, scratch, entry, facts, bytes),
-    }
-}
-
 /// CAP (IRCv3 capability negotiation).
 fn cap(alloc: Global, facts: &mut Facts, parameters: &[&[u8]]) -> Result<Vec<Effect>, NoMemory>
     ensures ok { IfOk result (λ list. spec.stays facts.new list.items
@@ -245,46 +183,6 @@ fn cap(alloc: Global, facts: &mut Facts, parameters: &[&[u8]]) -> Result<Vec<Eff
     };
     facts.caps = negotiation.caps();
     Ok(list)
-}
-
-fn serve_named(
-    alloc: Global,
-    scratch: &mut SessionScratch,
-    entry: Option<&Entry>,
-    facts: &mut Facts,
-    shown: bool,
-    bytes: &[u8],
-    command: ClientCommand,
-    line: &Line<'_>,
-) -> Result<(Continuation, Vec<Effect>), NoMemory>
-    ensures ok { IfOk result (λ r. record { session = stage_of r.0 facts.new; effects = r.1.items }
-        ≡ spec.after_registration (option_copied entry.entry) facts.old shown bytes.now command
-        line.now) }
-    ensures err { OnErr result (facts.new ≡ facts.old) }
-{
-    match command {
-        ClientCommand::Cap => {
-            let list = cap(alloc, facts, line.parameters())?;
-            Ok((Continuation::Stays, list))
-        }
-        ClientCommand::Quit => {
-            let list = closing(alloc)?;
-            Ok((Continuation::Closes, list))
-        }
-        ClientCommand::Pass
-        | ClientCommand::User
-        | ClientCommand::Ping
-        | ClientCommand::Pong
-        | ClientCommand::Nick
-        | ClientCommand::Chathistory
-        | ClientCommand::Markread
-        | ClientCommand::Redact
-        | ClientCommand::Message
-        | ClientCommand::Other => {
-            let list = effects(alloc, scratch, entry, facts, shown, bytes, command, line)?;
-            Ok((Continuation::Stays, list))
-        }
-    }
 }
 
 fn changed_nick(
@@ -318,33 +216,136 @@ fn exchange_nick(facts: &mut Facts, nick: Option<Text>) -> Option<Text>
     }
 }
 
-/// What a command does, under the network's present nick. For want of memory nothing changes.
-pub(crate) fn serve(
-    alloc: Global,
-    scratch: &mut SessionScratch,
-    entry: Option<&Entry>,
-    facts: &mut Facts,
-    shown: bool,
-    bytes: &[u8],
-    command: ClientCommand,
-    line: &Line<'_>,
-) -> Result<(Continuation, Vec<Effect>), NoMemory>
-    ensures ok { IfOk result (λ r. record { session = stage_of r.0 facts.new; effects = r.1.items }
-        ≡ spec.after_registration (option_copied entry.entry)
-        (spec.with_nick_of (option_copied entry.entry) facts.old) shown bytes.now command
-        line.now) }
-    ensures err { OnErr result (facts.new ≡ facts.old) }
-{
-    let nick = changed_nick(alloc, entry, facts)?;
-    let former = exchange_nick(facts, nick);
-    match serve_named(alloc, scratch, entry, facts, shown, bytes, command, line) {
-        Ok(turn) => {
-            drop(former);
-            Ok(turn)
+ghost use Rattle.irc_reply.specs.ToServer.{passed_line, tagged_line};
+
+impl ServedLine<'_> {
+    // A message goes to the network's server with its client-only tags.
+    fn pass_message_on(
+        &self,
+        alloc: Global,
+        scratch: &mut SessionScratch,
+        facts: &Facts,
+    ) -> Result<Vec<Effect>, NoMemory>
+        ensures { IfOk result (λ list. list.items ≡ spec.upstream (option_copied self.now.entry)
+            facts.now (tagged_line self.now.line.now.tags self.now.bytes.now)) }
+    {
+        if is_up(self.entry) {
+            let line = tagged_line(scratch.text_room(alloc), self.line.tags(), self.bytes)?;
+            scratch.one(alloc, Effect::Upstream(line))
+        } else {
+            not_up(alloc, facts)
         }
-        Err(fault) => {
-            drop(exchange_nick(facts, former));
-            Err(fault)
+    }
+
+    // Any other line goes to the network's server without its tags.
+    fn pass_on(
+        &self,
+        alloc: Global,
+        scratch: &mut SessionScratch,
+        facts: &Facts,
+    ) -> Result<Vec<Effect>, NoMemory>
+        ensures { IfOk result (λ list. list.items ≡ spec.upstream (option_copied self.now.entry)
+            facts.now (passed_line self.now.bytes.now)) }
+    {
+        if is_up(self.entry) {
+            let line = passed_line(scratch.text_room(alloc), self.bytes)?;
+            scratch.one(alloc, Effect::Upstream(line))
+        } else {
+            not_up(alloc, facts)
+        }
+    }
+
+    // What a command does that leaves the session as it is.
+    fn effects(
+        &self,
+        alloc: Global,
+        scratch: &mut SessionScratch,
+        facts: &Facts,
+    ) -> Result<Vec<Effect>, NoMemory>
+        ensures { IfOk result (λ list. list.items ≡ spec.effects (option_copied self.now.entry)
+            facts.now self.now.shown self.now.bytes.now self.now.command self.now.line.now) }
+    {
+        let parameters = self.line.parameters();
+        match self.command {
+            ClientCommand::Cap | ClientCommand::Quit | ClientCommand::Pong => Ok(Vec::new(alloc)),
+            ClientCommand::Pass => pass(alloc, facts, parameters),
+            ClientCommand::User => user(alloc, facts, parameters),
+            ClientCommand::Ping => {
+                let cluster = facts.cluster.as_bytes();
+                ping(alloc, cluster, facts.nick.as_bytes(), parameters)
+            }
+            ClientCommand::Nick => nick(alloc, self.entry, facts, parameters),
+            ClientCommand::Chathistory => chathistory(alloc, facts, self.bytes),
+            ClientCommand::Markread => markread(alloc, facts, self.bytes, parameters),
+            ClientCommand::Redact => redact(alloc, facts, self),
+            ClientCommand::Message => self.pass_message_on(alloc, scratch, facts),
+            ClientCommand::Other => self.pass_on(alloc, scratch, facts),
+        }
+    }
+
+    // What a command does, under the nick that the session knows.
+    fn serve_named(
+        &self,
+        alloc: Global,
+        scratch: &mut SessionScratch,
+        facts: &mut Facts,
+    ) -> Result<(Continuation, Vec<Effect>), NoMemory>
+        ensures ok { IfOk result (λ r.
+            record { session = stage_of r.0 facts.new; effects = r.1.items }
+            ≡ spec.after_registration (option_copied self.now.entry) facts.old self.now.shown
+            self.now.bytes.now self.now.command self.now.line.now) }
+        ensures err { OnErr result (facts.new ≡ facts.old) }
+    {
+        match self.command {
+            ClientCommand::Cap => {
+                let list = cap(alloc, facts, self.line.parameters())?;
+                Ok((Continuation::Stays, list))
+            }
+            ClientCommand::Quit => {
+                let list = closing(alloc)?;
+                Ok((Continuation::Closes, list))
+            }
+            ClientCommand::Pass
+            | ClientCommand::User
+            | ClientCommand::Ping
+            | ClientCommand::Pong
+            | ClientCommand::Nick
+            | ClientCommand::Chathistory
+            | ClientCommand::Markread
+            | ClientCommand::Redact
+            | ClientCommand::Message
+            | ClientCommand::Other => {
+                let list = self.effects(alloc, scratch, facts)?;
+                Ok((Continuation::Stays, list))
+            }
+        }
+    }
+
+    /// What its command does, under the network's present nick. For want of memory nothing changes.
+    pub(crate) fn serve(
+        &self,
+        alloc: Global,
+        scratch: &mut SessionScratch,
+        facts: &mut Facts,
+    ) -> Result<(Continuation, Vec<Effect>), NoMemory>
+        ensures ok { IfOk result (λ r.
+            record { session = stage_of r.0 facts.new; effects = r.1.items }
+            ≡ spec.after_registration (option_copied self.now.entry)
+            (spec.with_nick_of (option_copied self.now.entry) facts.old) self.now.shown
+            self.now.bytes.now self.now.command self.now.line.now) }
+        ensures err { OnErr result (facts.new ≡ facts.old) }
+    {
+        let nick = changed_nick(alloc, self.entry, facts)?;
+        let former = exchange_nick(facts, nick);
+        match self.serve_named(alloc, scratch, facts) {
+            Ok(turn) => {
+                drop(former);
+                Ok(turn)
+            }
+            Err(fault) => {
+                drop(exchange_nick(facts, former));
+                Err(fault)
+            }
         }
     }
 }

@@ -8,7 +8,7 @@ ghost use Rattle.client_session.specs.Naming.{user_after};
 use crate::command::command_of;
 use crate::effect::Effect;
 use crate::lookup::{look, sought};
-use crate::registered;
+use crate::registered::{self, ServedLine};
 use crate::scratch::SessionScratch;
 use crate::stage::{Continuation, Stage, Waiting};
 use byte_text::{NoMemory, Text};
@@ -151,16 +151,14 @@ impl Session {
             }
             Stage::Registered(facts) => {
                 let entry = directory.entry(facts.account.as_bytes(), facts.network.as_bytes());
-                let (continuation, list) = registered::serve(
-                    alloc,
-                    &mut self.scratch,
+                let served = ServedLine {
                     entry,
-                    facts,
-                    shown,
-                    bytes,
                     command,
                     line,
-                )?;
+                    bytes,
+                    shown,
+                };
+                let (continuation, list) = served.serve(alloc, &mut self.scratch, facts)?;
                 match continuation {
                     Continuation::Stays => {}
                     Continuation::Closes => self.enter(Stage::Closed),

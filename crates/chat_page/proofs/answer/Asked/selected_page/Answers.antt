@@ -1,4 +1,4 @@
-use Rattle.chat_page.proofs.answer.selected_page.Goals as goal
+use Rattle.chat_page.proofs.answer.Asked.selected_page.Goals as goal
 
 pub returns : goal.returns
 returns c changes h =

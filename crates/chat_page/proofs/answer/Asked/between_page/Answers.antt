@@ -1,4 +1,4 @@
-use Rattle.chat_page.proofs.answer.between_page.Goals as goal
+use Rattle.chat_page.proofs.answer.Asked.between_page.Goals as goal
 
 pub returns : goal.returns
 returns c changes h =
