@@ -8,6 +8,7 @@ mod HeldLemmas
 mod SettleLemmas
 mod FloorLemmas
 mod LookupLemmas
+mod NewPostLemmas
 mod FindingLemmas
 mod KeptLemmas
 mod CursorLemmas

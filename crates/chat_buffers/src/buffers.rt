@@ -1,6 +1,6 @@
 //! The numbered pieces of many buffers.
 
-ghost use Rattle.std.specs.Prelude.{◌≡◌, IfOk, OnOk, OnErr, Some, None, IfSome};
+ghost use Rattle.std.specs.Prelude.{◌≡◌, ◌≤◌, Ok, true, false, IfOk, OnOk, OnErr, Some, None, IfSome};
 ghost use Rattle.std.specs.FinMap as map;
 ghost use Rattle.chat_change.specs.Key as key;
 ghost use Rattle.chat_change.specs.Key.{key_of, key_extent, value_of};
@@ -180,6 +180,33 @@ impl Buffers {
             }
             change => self.enter_in_buffer(number, change),
         }
+    }
+
+    /// Puts a post under its key that is new in a buffer of which something is held: nothing is held of its message, and it doesn't
+    /// stand below the floor in force. That takes one search for the buffer. The answer is whether it is such a post. Where it isn't,
+    /// and where there is no memory, nothing has changed.
+    pub fn enter_new(&mut self, number: u64, post: &Record) -> Result<bool, AllocError>
+        ensures new { result ≡ Ok true →
+            spec.change_at self.old (key_of (value.Post post.now)) ≡ None }
+        ensures above { result ≡ Ok true →
+            spec.floor_in self.old (extents.OfBuffer post.now.buffer) ≤ post.now.at }
+        ensures entered { result ≡ Ok true →
+            IsEntered self.old number (value.Post post.now) self.new }
+        ensures other { result ≡ Ok false → self.new ≡ self.old }
+        ensures refused { OnErr result (self.new ≡ self.old) }
+    {
+        let around = floor_ms(&self.own_floor(Extent::Account(post.buffer().owner())));
+        let Some(held) = self.held.get_mut(post.buffer()) else {
+            return Ok(false);
+        };
+        if post.at().ms() < around.max(floor_ms(&held.floor)) {
+            return Ok(false);
+        }
+        if held.messages.held_message(post.id()).is_some() {
+            return Ok(false);
+        }
+        held.messages.post(post.try_clone()?, number)?;
+        Ok(true)
     }
 
     // Puts a piece of a buffer under its key.

@@ -5,6 +5,7 @@ mod AccountSweepLemmas
 mod WalkLemmas
 mod StateLemmas
 mod FitsLemmas
+mod NewPostLemmas
 mod TakeLemmas
 mod LookupLemmas
 mod MergeLemmas

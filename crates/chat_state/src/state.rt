@@ -1,16 +1,17 @@
 //! A state: the pieces of a history, each with its number.
 
-ghost use Rattle.std.specs.Prelude.{◌≡◌, ◌≢◌, ◌↔◌, ◌∷◌, [], ◌+◌, false, IsTrue, IfOk, OnOk, OnErr, IfErr, if◌then◌else◌, take};
+ghost use Rattle.std.specs.Prelude.{◌≡◌, ◌≢◌, ◌↔◌, ◌∷◌, [], ◌+◌, Ok, true, false, IsTrue, IfOk, OnOk, OnErr, IfErr, if◌then◌else◌, take};
 ghost use Rattle.chat_history.specs.Deltas.{all_changes};
 ghost use Rattle.chat_state.specs.Run.{IsStoppedRun};
 ghost use Rattle.chat_history.specs.StateValue as spec;
 ghost use Rattle.chat_change.specs.ChangeRef.{change_of};
+ghost use Rattle.chat_change.specs.declared.change.Change.TheVariants.{Post};
 ghost use Rattle.chat_state.specs.declared.faults.StateFault.TheVariants as fault;
 
 use crate::faults::{StateFault, TakeFault};
 use crate::store::{Store, form_of, piece_in};
 use byte_text::NoMemory;
-use chat_change::{Change, ChangeRef, Extent};
+use chat_change::{Change, ChangeRef, Extent, Record};
 use std::alloc::Global;
 use std::marker::Model;
 
@@ -97,6 +98,29 @@ impl State {
             IsPastTheLast self.old (change_of change.now) }
         ensures err { OnErr result (self.new ≡ self.old) }
     {
+        let ChangeRef::Post(post) = change else {
+            return self.absorb_by_form(change);
+        };
+        if self.absorb_new(post)? {
+            return Ok(true);
+        }
+        self.absorb_by_form(change)
+    }
+
+    // Takes a change by the form in which it counts.
+    fn absorb_by_form(&mut self, change: &ChangeRef<'_>) -> Result<bool, StateFault>
+        ensures ok { OnOk result (self.new.history
+            ≡ history_with self.old (change_of change.now ∷ [])) }
+        ensures changed { IfOk result (λ b. IsTrue b ↔ (self.new.history ≢ self.old.history)) }
+        ensures front { IfOk result (λ b. self.new.front ≡
+            (if b then self.old.front + 1 else self.old.front)) }
+        ensures numbers { IfOk result (λ b.
+            AreNumbersWith b self.old (change_of change.now) self.new) }
+        ensures held { OnOk result (HasTaken self.old (change_of change.now ∷ []) self.new) }
+        ensures exhausted { (result ≡ Err fault.Exhausted) ↔
+            IsPastTheLast self.old (change_of change.now) }
+        ensures err { OnErr result (self.new ≡ self.old) }
+    {
         let Some(form) = form_of(&self.store, change) else {
             return Ok(false);
         };
@@ -111,6 +135,34 @@ impl State {
         }
         self.front = number;
         Ok(true)
+    }
+
+    // Takes a post that is new in a buffer of which something is held, as most are. The answer is whether it is such a post, and there
+    // is a number for it. Else, and where there is no memory, the state stays as it was.
+    fn absorb_new(&mut self, post: &Record) -> Result<bool, StateFault>
+        ensures history { result ≡ Ok true →
+            self.new.history ≡ history_with self.old (Post post.now ∷ []) }
+        ensures changed { result ≡ Ok true → self.new.history ≢ self.old.history }
+        ensures front { result ≡ Ok true → self.new.front ≡ self.old.front + 1 }
+        ensures numbers { result ≡ Ok true →
+            AreNumbersWith true self.old (Post post.now) self.new }
+        ensures held { result ≡ Ok true → HasTaken self.old (Post post.now ∷ []) self.new }
+        ensures last { self.old.front ≡ spec.greatest_number → result ≡ Ok false }
+        ensures other { result ≡ Ok false → self.new ≡ self.old }
+        ensures refused { OnErr result (self.new ≡ self.old) }
+        ensures no_memory { IfErr result (λ e. e ≡ fault.NoMemory) }
+    {
+        let Some(number) = self.front.checked_add(1) else {
+            return Ok(false);
+        };
+        match self.store.place_new(number, post) {
+            Ok(true) => {
+                self.front = number;
+                Ok(true)
+            }
+            Ok(false) => Ok(false),
+            Err(_) => Err(StateFault::NoMemory),
+        }
     }
 
     /// Whether the change would change the history.

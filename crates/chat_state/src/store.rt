@@ -6,12 +6,13 @@
 //! floor is set for an account or for a buffer, and the greater of the two is in force in a buffer ([`Store::floor_ms`]).
 //! How a change counts is [`form_of`], in the words of `chat_history`. Read [`Store::place`] first.
 
-ghost use Rattle.std.specs.Prelude.{◌≡◌, ◌≤◌, IsTrue, IfOk, false};
+ghost use Rattle.std.specs.Prelude.{◌≡◌, ◌≤◌, IsTrue, IfOk, Ok, OnErr, Some, true, false};
 ghost use Rattle.std.specs.FinMap as map;
 ghost use Rattle.chat_change.specs.Extent.{OfAccount, OfBuffer};
 ghost use Rattle.chat_change.specs.declared.change.Change.TheVariants as value;
 ghost use Rattle.chat_buffers.specs.Store as spec;
 ghost use Rattle.chat_buffers.specs.Entering.{FitsStore, IsEntered, IsSwept, IsSweptOf, AreBuffersOf};
+ghost use Rattle.chat_state.specs.Form.{form};
 ghost use Rattle.chat_state.specs.Sweeping.{TakesSome, IsFloorSwept};
 
 mod form;
@@ -23,13 +24,13 @@ mod piece_name;
 mod walk;
 
 use chat_buffers::Buffers;
-use chat_change::{Account, Buffer, Change, Moment};
+use chat_change::{Account, Buffer, Change, Moment, Record};
 pub(crate) use form::{form_of, piece_in};
 use from_floor::FromBufferFloor;
 use number::Number;
 use ordered_maps::PackedMap;
 pub use piece::Piece;
-use piece_name::{PieceName, name_of};
+use piece_name::{PieceName, name_of, name_of_post};
 use std::alloc::{AllocError, Global};
 use std::marker::Model;
 
@@ -89,6 +90,33 @@ impl Store {
                 Change::Redact { buffer, id, at },
             ),
             Change::Mark { buffer, at } => self.enter(number, Change::Mark { buffer, at }),
+        }
+    }
+
+    /// Puts a post under its key that is new in a buffer of which something is held ([`Buffers::enter_new`]). The answer is whether it
+    /// is such a post. Where it isn't, and where there is no memory, nothing has changed.
+    pub(crate) fn place_new(&mut self, number: u64, post: &Record) -> Result<bool, AllocError>
+        requires fresh { spec.IsFresh self.old number }
+        ensures counts { result ≡ Ok true →
+            form self.old (value.Post post.now) ≡ Some (value.Post post.now) }
+        ensures placed { result ≡ Ok true →
+            spec.Places self.old number (value.Post post.now) self.new }
+        ensures other { result ≡ Ok false → self.new ≡ self.old }
+        ensures refused { OnErr result (self.new ≡ self.old) }
+    {
+        if !self.index.put(Number::of(number), name_of_post(post)?) {
+            return Err(AllocError);
+        }
+        match self.buffers.enter_new(number, post) {
+            Ok(true) => Ok(true),
+            Ok(false) => {
+                self.index.take_out(&Number::of(number));
+                Ok(false)
+            }
+            Err(_) => {
+                self.index.take_out(&Number::of(number));
+                Err(AllocError)
+            }
         }
     }
 

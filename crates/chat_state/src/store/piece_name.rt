@@ -4,6 +4,7 @@ ghost use Rattle.std.specs.Prelude.{◌≡◌, IfOk};
 ghost use Rattle.std.specs.Map.Iter.{deref};
 ghost use Rattle.std.specs.Option.{option_map};
 ghost use Rattle.chat_change.specs.Key.{value_of};
+ghost use Rattle.chat_change.specs.declared.change.Change.TheVariants.{Post};
 ghost use Rattle.chat_state.specs.PieceName as spec;
 
 use chat_change::{Account, Buffer, Change, Extent, Key, MsgId, Record};
@@ -95,6 +96,14 @@ fn message_name(alloc: Global, buffer: &Buffer, id: &MsgId) -> Result<Arc<Messag
     let id = id.try_clone()?;
     let name = Arc::new(alloc, MessageName { buffer, id })?;
     Ok(name)
+}
+
+/// What the piece of a post is known by. It shares the post's memory, and takes none.
+pub(crate) fn name_of_post(post: &Record) -> Result<PieceName, AllocError>
+    ensures { IfOk result (λ p. p ≡ spec.name_of (Post post.now)) }
+{
+    let subject = Subject::Posted(post.try_clone()?);
+    Ok(PieceName { subject })
 }
 
 /// What the piece of a change is known by. It shares the change's memory, and takes none but for a redaction and for the
