@@ -1,11 +1,11 @@
 //! Leaving out what brings nothing new.
-ghost use Rattle.std.specs.Prelude.{◌≡◌, ◌≤◌, ◌++◌, ℕ, List, IfOk, OnOk, length};
+ghost use Rattle.std.specs.Prelude.{◌≡◌, ◌≤◌, ◌++◌, ℕ, List, IfOk, OnOk, length, Contains};
 ghost use Rattle.block_file.specs.Device.{LeavesOnly};
 ghost use Rattle.chat_change.specs.declared.change.Change.{Change as Piece};
 ghost use Rattle.chat_history.specs.StateValue.{state_after};
 ghost use Rattle.history_file.specs.Changes.{Past, IsKept};
 ghost use Rattle.keeper.specs.Fresh.{IsAdded};
-ghost use Rattle.keeper.specs.Keeper.{Says, Covers, IsCovering};
+ghost use Rattle.keeper.specs.Keeper.{Says, Covers, IsCovering, HasNoOthers, IsWithoutOthers};
 
 use chat_change::{Change, ChangeRef, Extent};
 use chat_state::State;
@@ -36,6 +36,8 @@ pub(crate) fn fresh(
         → state.now ≡ state_after start list
         → Says (list ++ fresh.items) changes.now) }
     ensures few { IfOk result (λ fresh. length fresh.items ≤ length changes.now) }
+    ensures among { IfOk result (λ fresh. (c : Piece) → Contains fresh.items c
+        → Contains changes.now c) }
 {
     let mut found = Vec::new(alloc);
     let mut rest = changes;
@@ -63,6 +65,14 @@ pub(crate) fn append_fresh<D: Device>(
     ensures any_moment { (said : List Piece) (n : ℕ) → IsCovering D.seen D.may_leave file.old said n
         → LeavesOnly D.moment D.left_since file.old.journal.device file.new.journal.device (Covers
         said n) }
+    // It adds nothing but these changes.
+    ensures given { OnOk result ((given : List Piece)
+        → IsWithoutOthers D.seen D.may_leave file.old given
+        → IsWithoutOthers D.seen D.may_leave file.new (given ++ changes.now)) }
+    ensures any_moment_given { (given : List Piece)
+        → IsWithoutOthers D.seen D.may_leave file.old given
+        → LeavesOnly D.moment D.left_since file.old.journal.device file.new.journal.device
+        (HasNoOthers (given ++ changes.now)) }
 {
     let found = fresh(alloc, state, changes)?;
     let new: &[Change] = &found;

@@ -6,7 +6,7 @@ ghost use Rattle.chat_history.specs.Numbering.{delta};
 ghost use Rattle.history_file.specs.Changes.{IsKept};
 ghost use Rattle.history_file.specs.Lives.{most};
 ghost use Rattle.keeper.specs.Found.{IsFound, capped};
-ghost use Rattle.keeper.specs.Keeper.{Says, Covers, IsCovering, HasTaken, ArePieces, only};
+ghost use Rattle.keeper.specs.Keeper.{Says, Covers, IsCovering, HasTaken, ArePieces, only, HasNoOthers, IsWithoutOthers, WasGiven};
 ghost use Rattle.chat_change.specs.Words.{is_name};
 
 use crate::Found;
@@ -106,6 +106,14 @@ impl<D: Device> Keeper<D> {
             → LeavesOnly D.moment D.left_since self.old.file.journal.device
             self.new.file.journal.device (Covers said n) }
 
+        // Nothing comes to it.
+        ensures given { (given : List Piece) → WasGiven D.seen D.may_leave self.old given
+            → WasGiven D.seen D.may_leave self.new given }
+        ensures any_moment_given { (given : List Piece)
+            → IsWithoutOthers D.seen D.may_leave self.old.file given
+            → LeavesOnly D.moment D.left_since self.old.file.journal.device
+            self.new.file.journal.device (HasNoOthers given) }
+
         // It doesn't give up by itself.
         ensures failed { IsErrOf result FileFault.Failed
             → D.faults self.old.file.journal.device < D.faults self.new.file.journal.device }
@@ -144,6 +152,14 @@ impl<D: Device> Keeper<D> {
             → HasTaken D.seen D.may_leave self.old start list
             → LeavesOnly D.moment D.left_since self.old.file.journal.device
             self.new.file.journal.device (Covers list self.old.life) }
+
+        // Nothing comes to it.
+        ensures given { (given : List Piece) → WasGiven D.seen D.may_leave self.old given
+            → WasGiven D.seen D.may_leave self.new given }
+        ensures any_moment_given { (given : List Piece)
+            → WasGiven D.seen D.may_leave self.old given
+            → LeavesOnly D.moment D.left_since self.old.file.journal.device
+            self.new.file.journal.device (HasNoOthers given) }
 
         ensures pieces { IfOk result (λ count. (start : ℕ) (list : List Piece)
             → HasTaken D.seen D.may_leave self.old start list
@@ -209,6 +225,14 @@ impl<D: Device> Taker for Keeper<D> {
             → IsCovering D.seen D.may_leave self.old.file said n
             → LeavesOnly D.moment D.left_since self.old.file.journal.device
             self.new.file.journal.device (Covers said n) }
+
+        // And one that has nothing else than what it had, and these changes.
+        ensures given { (given : List Piece) → WasGiven D.seen D.may_leave self.old given
+            → WasGiven D.seen D.may_leave self.new (given ++ changes.now) }
+        ensures any_moment_given { (given : List Piece)
+            → IsWithoutOthers D.seen D.may_leave self.old.file given
+            → LeavesOnly D.moment D.left_since self.old.file.journal.device
+            self.new.file.journal.device (HasNoOthers (given ++ changes.now)) }
     {
         if !self.is_open || changes.len() > MOST_CHANGES {
             return Err(NotTaken);
@@ -265,6 +289,16 @@ pub fn open<D: Device>(device: D, found: Found) -> Result<Keeper<D>, (FileFault,
     ensures any_moment_err { IfErr result (λ e. (said : List Piece) (n : ℕ)
         → Covers said n (D.seen device)
         → LeavesOnly D.moment D.left_since device e.1 (Covers said n)) }
+
+    // Nothing comes to it.
+    ensures given { IfOk result (λ k. (given : List Piece) → HasNoOthers given (D.seen device)
+        → WasGiven D.seen D.may_leave k given) }
+    ensures any_moment_given { IfOk result (λ k. (given : List Piece)
+        → HasNoOthers given (D.seen device)
+        → LeavesOnly D.moment D.left_since device k.file.journal.device (HasNoOthers given)) }
+    ensures any_moment_given_err { IfErr result (λ e. (given : List Piece)
+        → HasNoOthers given (D.seen device)
+        → LeavesOnly D.moment D.left_since device e.1 (HasNoOthers given)) }
 
     // It doesn't give up by itself.
     ensures failed { IfErr result (λ e. e.0 ≡ FileFault.Failed → D.faults device < D.faults e.1) }

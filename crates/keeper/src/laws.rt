@@ -3,14 +3,21 @@ ghost use Rattle.std.specs.Prelude.{◌++◌, ℕ, List, Contains};
 ghost use Rattle.chat_change.specs.declared.change.Change.{Change};
 ghost use Rattle.chat_history.specs.History.{Includes};
 ghost use Rattle.history_file.specs.Changes.{Past, HasPast};
-ghost use Rattle.keeper.specs.Keeper.{Says, Covers};
-ghost use Rattle.keeper.specs.Lives.{Life, AreLives, AreRising, last_left, last_number, all_acknowledged};
+ghost use Rattle.keeper.specs.Keeper.{Says, Covers, HasNoOthers};
+ghost use Rattle.keeper.specs.Lives.{Life, AreLives, AreRising, last_left, last_number, all_acknowledged, all_given};
 
 /// After any lives, the file says all that any of them acknowledged.
 pub fn nothing_acknowledged_is_lost()
     ensures { (first : List ℕ) (lives : List Life) (said : List Change) (n : ℕ)
         → Covers said n first → AreLives first lives
         → Covers (said ++ all_acknowledged lives) (last_number n lives) (last_left first lives) }
+{}
+
+/// After any lives, the file stands for nothing but what stems from what it stood for first, and from what came in these lives.
+pub fn nothing_else_is_kept()
+    ensures { (first : List ℕ) (lives : List Life) (given : List Change)
+        → HasNoOthers given first → AreLives first lives
+        → HasNoOthers (given ++ all_given lives) (last_left first lives) }
 {}
 
 /// The number of each life is above those of all before it.

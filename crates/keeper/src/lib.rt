@@ -10,7 +10,7 @@ mod living;
 mod reading;
 
 pub use found::{Count, Found, Unread, is_removal};
-pub use history_file::{Device, FileFault, Source};
+pub use history_file::{ByteSource, Device, FileFault};
 pub use keeper::{Keeper, open};
 pub use living::{live, take_packets};
 pub use reading::read;

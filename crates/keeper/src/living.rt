@@ -4,7 +4,7 @@ ghost use Rattle.block_file.specs.Device.{Only};
 ghost use Rattle.chat_change.specs.Words.{is_name};
 ghost use Rattle.chat_change.specs.declared.change.Change.{Change as Piece};
 ghost use Rattle.keeper.specs.Found.{IsFound};
-ghost use Rattle.keeper.specs.Keeper.{HasTaken};
+ghost use Rattle.keeper.specs.Keeper.{HasTaken, WasGiven};
 ghost use Rattle.keeper.specs.Lives.{IsLife, changes_of};
 
 use crate::{Found, Keeper, open};
@@ -23,6 +23,8 @@ pub fn take_packets<D: Device>(
         → HasTaken D.seen D.may_leave keeper.old start list
         → (more : List Piece) × HasTaken D.seen D.may_leave keeper.new start
         (list ++ changes_of (take result packets.now) ++ more) }
+    ensures given { (given : List Piece) → WasGiven D.seen D.may_leave keeper.old given
+        → WasGiven D.seen D.may_leave keeper.new (given ++ changes_of packets.now) }
     ensures life { keeper.new.life ≡ keeper.old.life }
 {
     let mut count = 0;
@@ -56,6 +58,7 @@ pub fn live<D: Device + Drop>(
     ensures life { IfOk result (λ r. (c : List ℕ) → D.may_leave r.0.file.journal.device c
         → IsLife (D.seen device) (record {
           number = r.1;
+          given = changes_of packets.now;
           acknowledged = changes_of (take r.2 packets.now);
           left = c;
         })) }

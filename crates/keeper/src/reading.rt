@@ -5,12 +5,12 @@ ghost use Rattle.keeper.specs.Found.{IsFound, HasNoEntryAt};
 
 use crate::{Count, Found, Unread};
 use chat_state::State;
-use history_file::{FileFault, PastReader, Source};
+use history_file::{ByteSource, FileFault, PastReader};
 use std::alloc::Global;
 
 /// Reads a file to its end, and takes all its changes into an empty state whose first piece gets the number after `front`. No
 /// more is kept meanwhile than the state and a block. An `Err` hands the source back.
-pub fn read<S: Source + Drop>(
+pub fn read<S: ByteSource + Drop>(
     alloc: Global,
     source: S,
     front: u64,
@@ -60,7 +60,7 @@ pub fn read<S: Source + Drop>(
 }
 
 // The source of a reader.
-fn source_of<S: Source + Drop>(reader: PastReader<S>) -> S
+fn source_of<S: ByteSource + Drop>(reader: PastReader<S>) -> S
     ensures { result ≡ reader.blocks.source }
 {
     let PastReader {

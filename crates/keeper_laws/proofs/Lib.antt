@@ -1,3 +1,5 @@
 mod MadeLemmas
-mod RestartLemmas
 mod OtherLemmas
+mod RestartLemmas
+mod SentLemmas
+mod StemLemmas

@@ -45,7 +45,7 @@ pub above : (x : Node) (life : Life) (found said : List Change) → IsReturn x l
     → AllByRecursion (λ i. i < life.number) (lives_of x)
 above x life found said is = all_below is.known life.number (lives_of x) (is.begins.above said is.known is.covers) is.lived
 
-ends : (w : World) (name : List ℕ) (i : ℕ) (version : Version) (found : List Change)
+pub ends : (w : World) (name : List ℕ) (i : ℕ) (version : Version) (found : List Change)
     → run (restart_with name i version found) w ≡ filled (started w name i version) name found
 ends w name i version found =
     let v = started w name i version in
@@ -62,7 +62,7 @@ is_reached w r name version life found said is =
     reached_then w (run events w) r (record { events = events; differ = (fresh, (tt, (tt, tt))); ends = refl })
 
 -- the node then
-there : (w : World) (name : List ℕ) (i : ℕ) (version : Version) (found : List Change)
+pub there : (w : World) (name : List ℕ) (i : ℕ) (version : Version) (found : List Change)
     → (run (restart_with name i version found) w).nodes name ≡ with_taken (new_node i (lives_of (w.nodes name)) version) found
 there w name i version found =
     let v = started w name i version in

@@ -4,7 +4,8 @@ use Rattle.chat_change.specs.declared.change.Change.{Change}
 use Rattle.history_file.proofs.CallerLemmas.{leaves_too}
 use Rattle.history_file.specs.Changes.{IsKept}
 use Rattle.keeper.specs.Found.{capped}
-use Rattle.keeper.specs.Keeper.{KeeperValue, HasTaken, Covers, IsCovering, ArePieces, only}
+use Rattle.keeper.specs.Keeper.{KeeperValue, HasTaken, Covers, IsCovering, ArePieces, only, HasNoOthers, WasGiven}
+use Rattle.keeper.proofs.StemLemmas.{given_at_rest, kept_without, no_others_either, pieces_stem}
 use Rattle.keeper.proofs.TakenLemmas.{covering_left, kept_on, pieces_say, either, leaves_on}
 use Rattle.keeper.proofs.keeper.Keeper.compact.Goals as goal
 
@@ -90,4 +91,72 @@ returns-in-Err-clause-taken g c = λ start list h.
       state = own.state;
       left = λ f now. second.each f (g.met.D.Device.counts_now c.end_copy.new.self.journal.device _ f second.later now);
       covering = λ o. absurd (cc o);
+    }
+
+pub returns-in_err-count-clause-given : goal.returns-in_err-count-clause-given
+returns-in_err-count-clause-given g c = λ given w.
+    let is_open = subst (λ (v : KeeperValue g.row.D.Denot). v.is_open ≡ true) (sym c.self.view_is) c.requires.open in
+    let own = subst (λ v. WasGiven g.D.Device.seen g.D.Device.may_leave v given) (sym c.self.view_is) w in
+    given_at_rest g.D.Device.seen g.D.Device.may_leave _ given own.start own.list own.state own.stem
+    (kept_without g.D.Device.seen g.D.Device.may_leave c.self.inside.file c.copy_pieces.new.file given c.copy_pieces.ensures.kept (own.resting is_open))
+
+pub returns-in_err-count-clause-any_moment_given : goal.returns-in_err-count-clause-any_moment_given
+returns-in_err-count-clause-any_moment_given g c =
+    let is_open = subst (λ (v : KeeperValue g.row.D.Denot). v.is_open ≡ true) (sym c.self.view_is) c.requires.open in
+    subst (λ (v : KeeperValue g.row.D.Denot). (given : List Change) → WasGiven g.D.Device.seen g.D.Device.may_leave v given → LeavesOnly g.D.Device.moment g.D.Device.left_since v.file.journal.device c.copy_pieces.new.file.journal.device (HasNoOthers given)) c.self.view_is
+    (λ given own.
+    let is = own.resting is_open in
+    leaves_too g.D.Device.moment g.D.Device.left_since c.self.inside.file.journal.device c.copy_pieces.new.file.journal.device _ (HasNoOthers given) (λ f has. record { past = is.past; has = has; stem = is.stem }) (c.copy_pieces.ensures.any_moment is.past is.kept))
+
+pub returns-in-Ok-clause-given : goal.returns-in-Ok-clause-given
+returns-in-Ok-clause-given g c = λ given w.
+    let own = subst (λ v. WasGiven g.D.Device.seen g.D.Device.may_leave v given) (sym c.self.view_is) w in
+    let p = c.in_ok-count.ensures.copied own.start own.list own.state in
+    given_at_rest g.D.Device.seen g.D.Device.may_leave _ given own.start own.list own.state own.stem (record {
+      past = only p.0 c.self.inside.life;
+      kept = c.in-Ok.ensures.replaced (only p.0 c.self.inside.life) p.1;
+      stem = pieces_stem given own.list p.0 own.stem p.2;
+    })
+
+pub returns-in-Ok-clause-any_moment_given : goal.returns-in-Ok-clause-any_moment_given
+returns-in-Ok-clause-any_moment_given g c =
+    let is_open = subst (λ (v : KeeperValue g.row.D.Denot). v.is_open ≡ true) (sym c.self.view_is) c.requires.open in
+    subst (λ (v : KeeperValue g.row.D.Denot). (given : List Change) → WasGiven g.D.Device.seen g.D.Device.may_leave v given → LeavesOnly g.D.Device.moment g.D.Device.left_since v.file.journal.device c.end_copy.new.self.journal.device (HasNoOthers given)) c.self.view_is
+    (λ given own.
+    let is = own.resting is_open in
+    let p = c.in_ok-count.ensures.copied own.start own.list own.state in
+    let after = only p.0 c.self.inside.life in
+    let first = leaves_too g.D.Device.moment g.D.Device.left_since c.self.inside.file.journal.device c.copy_pieces.new.file.journal.device _ (HasNoOthers given) (λ f has. record { past = is.past; has = has; stem = is.stem }) (c.copy_pieces.ensures.any_moment is.past is.kept) in
+    let second = leaves_too g.D.Device.moment g.D.Device.left_since c.copy_pieces.new.file.journal.device c.end_copy.new.self.journal.device _ (HasNoOthers given) (no_others_either given is.past after is.stem (pieces_stem given own.list p.0 own.stem p.2))
+    (c.end_copy.ensures.any_moment is.past after (c.copy_pieces.ensures.kept is.past is.kept) p.1) in
+    leaves_on g.D.Device.moment g.D.Device.left_since c.self.inside.file.journal.device c.copy_pieces.new.file.journal.device c.end_copy.new.self.journal.device (HasNoOthers given) first second)
+
+pub returns-in-Err-clause-any_moment_given : goal.returns-in-Err-clause-any_moment_given
+returns-in-Err-clause-any_moment_given g c =
+    let is_open = subst (λ (v : KeeperValue g.row.D.Denot). v.is_open ≡ true) (sym c.self.view_is) c.requires.open in
+    subst (λ (v : KeeperValue g.row.D.Denot). (given : List Change) → WasGiven g.D.Device.seen g.D.Device.may_leave v given → LeavesOnly g.D.Device.moment g.D.Device.left_since v.file.journal.device c.end_copy.new.self.journal.device (HasNoOthers given)) c.self.view_is
+    (λ given own.
+    let is = own.resting is_open in
+    let p = c.in_ok-count.ensures.copied own.start own.list own.state in
+    let after = only p.0 c.self.inside.life in
+    let first = leaves_too g.D.Device.moment g.D.Device.left_since c.self.inside.file.journal.device c.copy_pieces.new.file.journal.device _ (HasNoOthers given) (λ f has. record { past = is.past; has = has; stem = is.stem }) (c.copy_pieces.ensures.any_moment is.past is.kept) in
+    let second = leaves_too g.D.Device.moment g.D.Device.left_since c.copy_pieces.new.file.journal.device c.end_copy.new.self.journal.device _ (HasNoOthers given) (no_others_either given is.past after is.stem (pieces_stem given own.list p.0 own.stem p.2))
+    (c.end_copy.ensures.any_moment is.past after (c.copy_pieces.ensures.kept is.past is.kept) p.1) in
+    leaves_on g.D.Device.moment g.D.Device.left_since c.self.inside.file.journal.device c.copy_pieces.new.file.journal.device c.end_copy.new.self.journal.device (HasNoOthers given) first second)
+
+pub returns-in-Err-clause-given : goal.returns-in-Err-clause-given
+returns-in-Err-clause-given g c = λ given w.
+    let is_open = subst (λ (v : KeeperValue g.row.D.Denot). v.is_open ≡ true) (sym c.self.view_is) c.requires.open in
+    let own = subst (λ v. WasGiven g.D.Device.seen g.D.Device.may_leave v given) (sym c.self.view_is) w in
+    let is = own.resting is_open in
+    let p = c.in_ok-count.ensures.copied own.start own.list own.state in
+    let after = only p.0 c.self.inside.life in
+    let leaves = c.end_copy.ensures.any_moment is.past after (c.copy_pieces.ensures.kept is.past is.kept) p.1 in
+    record {
+      start = own.start;
+      list = own.list;
+      state = own.state;
+      stem = own.stem;
+      left = λ f now. no_others_either given is.past after is.stem (pieces_stem given own.list p.0 own.stem p.2) f (leaves.each f (g.met.D.Device.counts_now c.end_copy.new.self.journal.device _ f leaves.later now));
+      resting = λ o. absurd (cc o);
     }
