@@ -12,8 +12,8 @@ use Rattle.network_log.specs.Truth.{IsReached, IsSkipped, IsTrueOfHost, Leads, M
 use Rattle.network_log.specs.declared.origin.Origin.TheVariants.{NetworkDialed}
 use Rattle.network_laws.specs.Heard.{ServerIsHeardOverItsConnection}
 use Rattle.network_server.specs.ServerEvents.{Becomes}
-use Rattle.network_server.specs.declared.server.Hearing.{Hearing}
-use Rattle.network_server.specs.declared.server.Hearing.TheVariants as hearing
+use Rattle.network_server.specs.declared.server.ServerHearing.{ServerHearing}
+use Rattle.network_server.specs.declared.server.ServerHearing.TheVariants as hearing
 use Rattle.network_server.specs.declared.server.HearFault.{HearFault}
 use Rattle.network_server.specs.declared.server.HearFault.TheVariants as fault
 use Rattle.hosted_network.specs.Turns.{events_of}
@@ -59,7 +59,7 @@ gets {facts} {w} bytes is at e came =
 
 -- ---- a line is heard, left out, or lost with all that came before
 
-hears-true : {facts : NodeFacts} {now new : NetworkState} (moment : ℕ) (result : Result Hearing HearFault)
+hears-true : {facts : NodeFacts} {now new : NetworkState} (moment : ℕ) (result : Result ServerHearing HearFault)
     → (result ≡ Ok hearing.LeftOut → IsSkipped now.server) → new ≡ run facts (events_of moment result) now → facts.clock moment
     → Leads facts now new
 hears-true moment (Ok hearing.Line) may e clock = record { log = ServerSays moment ∷ []; is_true = (clock, tt); is_run = e }
@@ -70,7 +70,7 @@ hears-true moment (Err fault.Again) may e clock = stays e
 hears-true moment (Err fault.GivenUp) may e clock = stays e
 hears-true moment (Err fault.Lost) may e clock = record { log = ServerSays moment ∷ Loses ∷ []; is_true = (clock, (tt, tt)); is_run = e }
 
-pub hears : {facts : NodeFacts} {w now new : NetworkState} {before : Host} (moment : ℕ) (result : Result Hearing HearFault)
+pub hears : {facts : NodeFacts} {w now new : NetworkState} {before : Host} (moment : ℕ) (result : Result ServerHearing HearFault)
     → w ≡ now → w.server ≡ Some before
     → (result ≡ Ok hearing.LeftOut → MayBeSkipped (next_item before.received before.heard))
     → new ≡ run facts (events_of moment result) now → ∥ facts.clock moment ∥₁

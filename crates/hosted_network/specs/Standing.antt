@@ -3,7 +3,7 @@ use Rattle.std.specs.Prelude.{ℕ, ◌≡◌, List}
 use Rattle.cluster_directory.specs.Directory.{Directory, directory_with, entry_in}
 use Rattle.cluster_directory.specs.Entry.{Entry}
 use Rattle.cluster_directory.specs.declared.config.SessionConfig.{SessionConfig}
-use Rattle.hosted_network.specs.declared.standing.Standing.{Standing}
+use Rattle.hosted_network.specs.declared.standing.NetworkStanding.{NetworkStanding}
 
 -- it has the same entry of the network as the node's accounts, where the network stands so
 abbrev pub HasEntry : Directory → SessionConfig → Entry → Directory → Type 0
@@ -22,7 +22,7 @@ pub record StandsSo (accounts : Directory) (config : SessionConfig) (entry : Ent
   pub is_entry : HasEntry accounts config (record entry { channels = channels }) directory
 
 -- an entry says that a network stands so, but for its channels
-pub record IsAs (standing : Standing) (entry : Entry) : Type 0 where
+pub record IsAs (standing : NetworkStanding) (entry : Entry) : Type 0 where
   pub is_up : entry.is_up ≡ standing.is_up
   pub is_nick : entry.nick ≡ standing.nick.now
   pub is_redact : entry.takes_redact ≡ standing.takes_redact

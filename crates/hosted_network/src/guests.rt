@@ -1,6 +1,9 @@
 //! The clients of a network.
-ghost use Rattle.std.specs.Prelude.{◌≡◌, ◌≢◌, ◌<◌, ◌+◌, [], Some, slice_get, false, length};
+ghost use Rattle.std.specs.Prelude.{◌≡◌, ◌≢◌, ◌↔◌, ◌<◌, ◌+◌, [], Some, slice_get, slice_set, false, true, length};
+ghost use Rattle.network_log.specs.Guest.{Guest, fallen};
 ghost use Rattle.network_log.specs.Truth.{Leads};
+ghost use Rattle.hosted_network.specs.Parts.{those_there};
+ghost use Rattle.hosted_network.specs.declared.turns.ClientTurn.TheVariants as turn;
 ghost use Rattle.hosted_network.specs.declared.arriving.Entered.TheVariants as entered;
 
 use crate::arriving::Entered;
@@ -64,6 +67,8 @@ impl<'a, C: Connection, V: NetworkView> HostedNetwork<'a, C, V> {
         requires clock { ∥ C.facts.clock moment ∥₁ }
         ensures leads { ∥ Leads C.facts self.old.network self.new.network ∥₁ }
         ensures put { self.new.network.batch ≡ [] }
+        ensures gone { (g : Guest) → slice_get self.new.network.guests place ≡ Some g
+            → (result ≡ turn.Gone ↔ g.is_gone ≡ true) }
         ensures count { length self.new.network.guests ≡ length self.old.network.guests }
         ensures retry { self.new.retry ≡ self.old.retry }
     {
@@ -93,6 +98,10 @@ impl<'a, C: Connection, V: NetworkView> HostedNetwork<'a, C, V> {
     /// A client is gone from now on, for that reason unless it was gone before.
     pub fn client_falls(&mut self, place: usize, why: Fall)
         requires { place < length self.old.network.guests }
+        ensures falls { (g : Guest) → slice_get self.old.network.guests place ≡ Some g
+            → self.new.network ≡ record self.old.network {
+              guests = slice_set self.old.network.guests place (fallen g);
+            } }
         ensures leads { ∥ Leads C.facts self.old.network self.new.network ∥₁ }
         ensures count { length self.new.network.guests ≡ length self.old.network.guests }
         ensures retry { self.new.retry ≡ self.old.retry }
@@ -102,6 +111,9 @@ impl<'a, C: Connection, V: NetworkView> HostedNetwork<'a, C, V> {
 
     /// Who is gone leaves.
     pub fn clients_leave(&mut self)
+        ensures left { self.new.network ≡ record self.old.network {
+          guests = those_there self.old.network.guests;
+        } }
         ensures leads { ∥ Leads C.facts self.old.network self.new.network ∥₁ }
         ensures retry { self.new.retry ≡ self.old.retry }
     {

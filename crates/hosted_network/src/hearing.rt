@@ -3,7 +3,7 @@ ghost use Rattle.std.specs.Prelude.{◌≡◌, ◌<◌, length};
 ghost use Rattle.network_log.specs.Truth.{IsReached, Leads};
 
 use crate::parts::NetworkParts;
-use crate::standing::{Standing, nick_in, refresh};
+use crate::standing::{NetworkStanding, nick_in, refresh};
 use network_client::Fall;
 use network_laws::a_client_stays_in_its_network;
 use node_ports::{Connection, NetworkView, NodePass};
@@ -26,7 +26,7 @@ impl<'a, C: Connection, V: NetworkView> NetworkParts<'a, C, V> {
         let is_up = self.is_up();
         let takes_redact = self.takes_redact();
         let nick = nick_in(self.config, &self.server, &self.ended);
-        let standing = Standing {
+        let standing = NetworkStanding {
             is_up,
             nick,
             takes_redact,

@@ -6,6 +6,8 @@ ghost use Rattle.network_log.specs.Truth.{Leads};
 ghost use Rattle.network_server.specs.Waiting.{IsDue};
 ghost use Rattle.network_log.specs.declared.origin.Origin.TheVariants.{NetworkDialed};
 ghost use Rattle.network_server.specs.declared.retry.TheConstants.{RETRY};
+ghost use Rattle.hosted_network.specs.Parts.{host_of};
+ghost use Rattle.std.specs.Option.{option_copied};
 ghost use Rattle.hosted_network.specs.Turns.{has_ended};
 ghost use Rattle.hosted_network.specs.declared.network.NoHost.TheVariants as no_host;
 ghost use Rattle.hosted_network.specs.declared.network.ServerTurn.TheVariants as turn;
@@ -13,7 +15,7 @@ ghost use Rattle.hosted_network.specs.declared.network.ServerTurn.TheVariants as
 use crate::parts::NetworkParts;
 use crate::server_turns::{ServerEnd, Step, TurnTime};
 use cluster_directory::{Life, SessionConfig};
-use network_server::Retry;
+use network_server::{Retry, Server};
 use node_ports::{Accounts, Connection, Fresh, NetworkView, NodePass, Origin};
 use std::alloc::Global;
 use std::marker::Model;
@@ -23,6 +25,8 @@ use std::marker::Model;
 pub enum ServerTurn {
     /// There may be more to do at once.
     Again,
+    /// There may be more to do once there is memory.
+    Later,
     /// There is nothing more before the port tells something, or a deadline comes.
     Rest,
     /// The connection is closed, and is dialed again later.
@@ -141,14 +145,11 @@ impl<'a, C: Connection, V: NetworkView> HostedNetwork<'a, C, V> {
         self.parts.has_server()
     }
 
-    /// Whether a client's line is said to its server now: not too much is owed to it, or none is there.
-    pub fn server_takes_lines(&self) -> bool {
-        self.parts.server_takes_lines()
-    }
-
-    /// Whether its server can be sent something at once.
-    pub fn server_can_send(&self) -> bool {
-        self.parts.server_can_send()
+    /// Its server, if one is there.
+    pub fn server(&self) -> Option<&Server<C>>
+        ensures { host_of (option_copied result) ≡ self.now.network.server }
+    {
+        self.parts.server()
     }
 
     /// What the port tells of the server's connection: bytes may be there, or room for bytes.
@@ -240,7 +241,8 @@ impl<'a, C: Connection, V: NetworkView> HostedNetwork<'a, C, V> {
         }
         let now = time.now;
         match self.parts.server_turn(pass, chunk, time) {
-            Step::Again | Step::Later => ServerTurn::Again,
+            Step::Again => ServerTurn::Again,
+            Step::Later => ServerTurn::Later,
             Step::Rest => ServerTurn::Rest,
             Step::Over(end) => {
                 self.retry.put_off(now);

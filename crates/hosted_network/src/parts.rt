@@ -1,6 +1,8 @@
 //! The parts of a network.
 ghost use Rattle.std.specs.Prelude.{◌≡◌, ◌≢◌, ◌↔◌, IfOk, IsSome, None, [], IsTrue, length};
 ghost use Rattle.network_log.specs.NetworkState.{beginning};
+ghost use Rattle.hosted_network.specs.Parts.{host_of};
+ghost use Rattle.std.specs.Option.{option_copied};
 
 use crate::marks::ToldMarker;
 use byte_text::NoMemory;
@@ -148,20 +150,11 @@ impl<'a, C: Connection, V: NetworkView> NetworkParts<'a, C, V> {
         self.server.is_some()
     }
 
-    /// Whether a client's line is said to its server now: not too much is owed to it, or none is there.
-    pub(crate) fn server_takes_lines(&self) -> bool {
-        match &self.server {
-            Some(server) => server.has_credit(),
-            None => true,
-        }
-    }
-
-    /// Whether its server can be sent something at once.
-    pub(crate) fn server_can_send(&self) -> bool {
-        match &self.server {
-            Some(server) => server.can_send(),
-            None => false,
-        }
+    /// Its server, if one is there.
+    pub(crate) fn server(&self) -> Option<&Server<C>>
+        ensures { host_of (option_copied result) ≡ self.now.server }
+    {
+        self.server.as_ref()
     }
 
     /// Bytes may be there that its server sent, or room for bytes.

@@ -8,12 +8,12 @@ ghost use Rattle.hosted_network.specs.Turns.{events_of, is_over};
 use crate::parts::NetworkParts;
 use chat_change::Moment;
 use network_laws::a_server_is_heard_over_its_own_connection;
-use network_server::{HearFault, Hearing, Loss, Server, Site};
+use network_server::{HearFault, Server, ServerHearing, ServerLoss, Site};
 use node_ports::{Connection, Fresh, NetworkView, NodePass, ReceiveFault};
 
-/// So many lines of a server are taken in one turn: about as many as one read brings, so that what they come to is put, and written to
+/// So many lines of a server are taken in one turn: as many as one or two reads bring, so that what they come to is put, and written to
 /// each client, at once.
-const LINES: usize = 128;
+const LINES: usize = 256;
 
 /// When a turn is: what the clocks of the node read.
 #[derive(Clone, Copy)]
@@ -28,7 +28,7 @@ pub struct TurnTime {
 #[derive(Clone, Copy, Debug, PartialEq, Eq)]
 pub enum ServerEnd {
     /// The connection is lost, or the session is over.
-    Lost(Loss),
+    Lost(ServerLoss),
     /// There was no memory for what a line comes to, or the node didn't take all of it.
     NoMemory,
 }
@@ -38,7 +38,7 @@ pub enum ServerEnd {
 pub(crate) enum Step {
     /// There may be more to do.
     Again,
-    /// There may be more to do, and not in this turn.
+    /// There may be more to do once there is memory.
     Later,
     /// There is nothing more for now.
     Rest,
@@ -119,13 +119,13 @@ impl<'a, C: Connection, V: NetworkView> NetworkParts<'a, C, V> {
     }
 
     // Its session hears the server's next line.
-    fn server_hears(&mut self, moment: Moment) -> Result<Hearing, HearFault>
+    fn server_hears(&mut self, moment: Moment) -> Result<ServerHearing, HearFault>
         requires { ∥ C.facts.clock moment ∥₁ }
         ensures heard { self.new ≡ run C.facts (events_of moment result) self.old }
         ensures leads { ∥ Leads C.facts self.old self.new ∥₁ }
     {
         let Some(server) = &mut self.server else {
-            return Ok(Hearing::More);
+            return Ok(ServerHearing::More);
         };
         let heard = server.hear(self.alloc, moment, &mut self.batch);
         if heard == Err(HearFault::Lost) {
@@ -153,12 +153,12 @@ impl<'a, C: Connection, V: NetworkView> NetworkParts<'a, C, V> {
         ensures { ∥ Leads C.facts self.old self.new ∥₁ }
     {
         match self.server_hears(time.moment) {
-            Ok(Hearing::Line | Hearing::LeftOut) => Step::Again,
-            Ok(Hearing::Full) => {
+            Ok(ServerHearing::Line | ServerHearing::LeftOut) => Step::Again,
+            Ok(ServerHearing::Full) => {
                 self.make_room();
                 Step::Again
             }
-            Ok(Hearing::More) => match self.server_reads(chunk, time.now) {
+            Ok(ServerHearing::More) => match self.server_reads(chunk, time.now) {
                 Ok(()) => Step::Again,
                 // (the port tells only once that bytes are there)
                 Err(ReceiveFault::NoMemory) => Step::Later,

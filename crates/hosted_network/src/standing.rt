@@ -16,13 +16,13 @@ use upstream_session::Upstream;
 
 /// How a network stands, but for its channels.
 #[derive(Clone, Copy)]
-pub(crate) struct Standing<'s> {
+pub(crate) struct NetworkStanding<'s> {
     pub(crate) is_up: bool,
     pub(crate) nick: &'s [u8],
     pub(crate) takes_redact: bool,
 }
 
-impl Standing<'_> {
+impl NetworkStanding<'_> {
     // Whether the entry says so.
     fn is_entry(&self, entry: &Entry) -> bool
         ensures { result ≡ true → IsAs self.now entry.now }
@@ -63,7 +63,7 @@ pub(crate) fn nick_in<'s, C: Connection>(
 pub(crate) fn refresh(
     alloc: Global,
     config: &SessionConfig,
-    standing: &Standing<'_>,
+    standing: &NetworkStanding<'_>,
     directory: &mut Directory,
 ) -> Result<(), NoMemory>
     ensures so { OnOk result ((accounts : Accounts) (entry : State)

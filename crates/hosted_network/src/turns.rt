@@ -1,6 +1,8 @@
 //! The turns of a network's clients.
-ghost use Rattle.std.specs.Prelude.{◌≡◌, ◌<◌, [], length};
+ghost use Rattle.std.specs.Prelude.{◌≡◌, ◌≢◌, ◌↔◌, ◌<◌, [], Some, length, slice_get, true};
+ghost use Rattle.network_log.specs.Guest.{Guest};
 ghost use Rattle.network_log.specs.Truth.{IsReached, Leads};
+ghost use Rattle.hosted_network.specs.declared.turns.ClientTurn.TheVariants as turns;
 
 use crate::parts::NetworkParts;
 use chat_change::Moment;
@@ -90,7 +92,7 @@ impl<'a, C: Connection, V: NetworkView> NetworkParts<'a, C, V> {
     }
 
     // A client that has nothing left to do hears its next line, or more bytes are taken in. None where it goes on at once. Nothing is
-    // heard while an answer of its own waits for room.
+    // heard while an answer of its own waits for room. (Here and below nobody is told that it is gone: the turn's end says so.)
     fn client_listens<N: NodePass<Connection = C, View = V>>(
         &mut self,
         place: usize,
@@ -99,6 +101,7 @@ impl<'a, C: Connection, V: NetworkView> NetworkParts<'a, C, V> {
     ) -> Option<ClientTurn>
         requires place { place < length self.old.guests }
         requires reached { ∥ IsReached C.facts self.old ∥₁ }
+        ensures open { result ≢ Some turns.Gone }
         ensures leads { ∥ Leads C.facts self.old self.new ∥₁ }
         ensures count { length self.new.guests ≡ length self.old.guests }
     {
@@ -114,20 +117,20 @@ impl<'a, C: Connection, V: NetworkView> NetworkParts<'a, C, V> {
     // More bytes of a client are taken in. None where there were some.
     fn client_takes_in(&mut self, place: usize, tools: &mut Tools) -> Option<ClientTurn>
         requires { place < length self.old.guests }
+        ensures open { result ≢ Some turns.Gone }
         ensures leads { ∥ Leads C.facts self.old self.new ∥₁ }
         ensures count { length self.new.guests ≡ length self.old.guests }
     {
         match self.client_reads(place, tools.chunk.as_mut_slice(), &mut tools.feeders) {
             Filled::More => None,
-            Filled::Nothing => Some(ClientTurn::Rest),
-            Filled::NoMemory => Some(ClientTurn::Gone),
+            Filled::Nothing | Filled::NoMemory => Some(ClientTurn::Rest),
             Filled::Closed => {
                 let (owed, _) = self.clients[place].owed();
                 if owed > 0 {
                     return Some(ClientTurn::Ending);
                 }
                 self.client_falls(place, Fall::Closed);
-                Some(ClientTurn::Gone)
+                Some(ClientTurn::Rest)
             }
         }
     }
@@ -143,11 +146,12 @@ impl<'a, C: Connection, V: NetworkView> NetworkParts<'a, C, V> {
         requires place { place < length self.old.guests }
         requires clock { ∥ C.facts.clock moment ∥₁ }
         requires reached { ∥ IsReached C.facts self.old ∥₁ }
+        ensures open { result ≢ Some turns.Gone }
         ensures leads { ∥ Leads C.facts self.old self.new ∥₁ }
         ensures count { length self.new.guests ≡ length self.old.guests }
     {
         if self.clients[place].is_gone() {
-            return Some(ClientTurn::Gone);
+            return Some(ClientTurn::Rest);
         }
         match act_of(self.clients[place].next_effect()) {
             Act::Say => self.client_says(place),
@@ -182,6 +186,7 @@ impl<'a, C: Connection, V: NetworkView> NetworkParts<'a, C, V> {
         requires place { place < length self.old.guests }
         requires clock { ∥ C.facts.clock moment ∥₁ }
         requires reached { ∥ IsReached C.facts self.old ∥₁ }
+        ensures open { result ≢ turns.Gone }
         ensures leads { ∥ Leads C.facts self.old self.new ∥₁ }
         ensures count { length self.new.guests ≡ length self.old.guests }
     {
@@ -241,7 +246,10 @@ impl<'a, C: Connection, V: NetworkView> NetworkParts<'a, C, V> {
     // What a client's turn came to, once it took what it was owed. Where what waited for it has gone out, it goes on at once: nothing
     // else might tell that it can.
     fn turn_after(&self, place: usize, turn: ClientTurn, has_moved: bool) -> ClientTurn
-        requires { place < length self.now.guests }
+        requires place { place < length self.now.guests }
+        requires open { turn ≢ turns.Gone }
+        ensures { (g : Guest) → slice_get self.now.guests place ≡ Some g
+            → (result ≡ turns.Gone ↔ g.is_gone ≡ true) }
     {
         let client = &self.clients[place];
         if client.is_gone() {
@@ -269,6 +277,8 @@ impl<'a, C: Connection, V: NetworkView> NetworkParts<'a, C, V> {
         requires reached { ∥ IsReached C.facts self.old ∥₁ }
         ensures leads { ∥ Leads C.facts self.old self.new ∥₁ }
         ensures put { self.new.batch ≡ [] }
+        ensures gone { (g : Guest) → slice_get self.new.guests place ≡ Some g
+            → (result ≡ turns.Gone ↔ g.is_gone ≡ true) }
         ensures count { length self.new.guests ≡ length self.old.guests }
     {
         let turn = self.client_steps(place, pass, tools, moment);

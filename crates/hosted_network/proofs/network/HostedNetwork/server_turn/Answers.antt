@@ -9,3 +9,6 @@ invariant_of-self-in-Rest g c = reached_both c.self.invariant c.server_turn.ensu
 
 pub invariant_of-self-in-Over : goal.invariant_of-self-in-Over
 invariant_of-self-in-Over g c = reached_both c.self.invariant c.server_turn.ensures.leads
+
+pub invariant_of-self-in-Later : goal.invariant_of-self-in-Later
+invariant_of-self-in-Later g c = reached_both c.self.invariant c.server_turn.ensures.leads
