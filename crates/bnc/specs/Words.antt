@@ -1,6 +1,6 @@
 -- What the words behind the program's name ask for.
 use Rattle.std.specs.Prelude.{ℕ, List, [], ◌∷◌, codes, bytes_eq, Option, None, Some, if◌then◌else◌}
-use Rattle.bnc.specs.declared.words.Names as held
+use Rattle.bnc.specs.declared.words.ReplayNames as held
 use Rattle.bnc.specs.declared.words.Command as code
 use Rattle.bnc.specs.declared.words.Command.TheVariants as variant
 
@@ -27,7 +27,7 @@ spelled_command _ = None
 
 -- ---- what the code has for them
 
-abbrev pub names_of : held.Names → Names
+abbrev pub names_of : held.ReplayNames → Names
 names_of names =
     record { account = names.account.now; network = names.network.now; nick = names.nick.now }
 

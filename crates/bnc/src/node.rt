@@ -1,11 +1,11 @@
 //! The run of a node over sockets: its name, its floors, and its workers, each on a thread of its own. What is made before, and
 //! who takes connections in, is `node_intake`; what a worker does is `bnc_work`.
-ghost use Rattle.change_log.specs.Names.{IsNamed};
-ghost use Rattle.bnc_sockets.specs.Settings.{facts_of};
+ghost use Rattle.shared_node.specs.Names.{IsNamed};
+ghost use Rattle.bnc_work.specs.Site.{facts_of};
 ghost use Rattle.bnc_work.specs.Settings.{AreSettingsOf};
 
-use bnc_sockets::{Dialer, Site, ports_of};
-use bnc_work::{WorkEnd, WorkerConfig, work_all};
+use bnc_sockets::{Dialer, ports_of};
+use bnc_work::{NodeSite, WorkEnd, WorkerConfig, work_all};
 use node_intake::{Prepared, ServeFault, begin_node};
 use operator_log::Log;
 use shared_node::{Naming, Unnamed};
@@ -36,7 +36,7 @@ fn run_node<J, S, R, D>(
 ) -> Result<Vec<WorkEnd>, ServeFault>
 where
     J: Naming + Send + Sync,
-    S: Site + Send + Sync,
+    S: NodeSite + Send + Sync,
     R: Threads + Wait + Clock + AllocGlobal + Copy + Send + Sync + Drop + 'static,
     D: Dialer + Send,
     requires named { IsNamed J.book J.name J.parts name }

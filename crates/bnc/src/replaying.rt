@@ -5,14 +5,14 @@ ghost use Rattle.bnc.specs.Words.{names_of};
 ghost use Rattle.bnc.specs.Replaying.{names_fault, end_of_refusal, ReplaysLawful, Replays};
 
 use crate::ending::End;
-use crate::words::Names;
+use crate::words::ReplayNames;
 use bnc_server::replay;
 use chat_change::Buffer;
 use std::alloc::Global;
 use std::io::{BufWriter, Read, Write};
 
 /// Refuses names that no node can have.
-fn check_names(alloc: Global, names: Names<'_>) -> Result<(), End<'static>>
+fn check_names(alloc: Global, names: ReplayNames<'_>) -> Result<(), End<'static>>
     ensures lawful { OnOk result (names_fault (names_of names.entry) ≡ None) }
     ensures refused { IfErr result (λ end. end ≡ end_of_refusal (names_of names.entry)) }
 {
@@ -25,7 +25,7 @@ fn answer<In: Read, Out: Write + Drop>(
     alloc: Global,
     reader: &mut In,
     writer: &mut BufWriter<Out>,
-    names: Names<'_>,
+    names: ReplayNames<'_>,
 ) -> Result<(), End<'static>>
     requires names { names_fault (names_of names) ≡ None }
     requires empty { writer_buffer writer.old ≡ [] }
@@ -54,7 +54,7 @@ pub(crate) fn replay_script<In: Read, Out: Write + Drop>(
     alloc: Global,
     reader: &mut In,
     writer: &mut BufWriter<Out>,
-    names: Names<'_>,
+    names: ReplayNames<'_>,
 ) -> Result<(), End<'static>>
     requires empty { writer_buffer writer.old ≡ [] }
     ensures replays { Replays (In.remaining reader.old) (In.remaining reader.new)

@@ -4,7 +4,7 @@ ghost use Rattle.bnc.specs.Words.{spelled_command, serve_of, replay_of, names_of
 
 /// The three names behind the word `replay`.
 #[derive(Clone, Copy)]
-pub(crate) struct Names<'a> {
+pub(crate) struct ReplayNames<'a> {
     pub(crate) account: &'a [u8],
     pub(crate) network: &'a [u8],
     pub(crate) nick: &'a [u8],
@@ -14,7 +14,7 @@ pub(crate) struct Names<'a> {
 #[derive(Clone, Copy)]
 pub(crate) enum Command<'a> {
     /// Answer the script on standard input, for those names.
-    Replay(Names<'a>),
+    Replay(ReplayNames<'a>),
     /// Run a node by the configuration in that file.
     Serve(&'a str),
 }
@@ -29,7 +29,7 @@ fn serve_in<'a>(word: &str, path: &'a str) -> Option<Command<'a>>
     }
 }
 
-fn replay_in<'a>(word: &str, names: Names<'a>) -> Option<Command<'a>>
+fn replay_in<'a>(word: &str, names: ReplayNames<'a>) -> Option<Command<'a>>
     ensures { option_map value_of result ≡ replay_of word.now (names_of names.entry) }
 {
     if word.as_bytes() == b"replay".as_slice() {
@@ -46,7 +46,7 @@ pub(crate) fn command_in<'a>(words: &'a [String]) -> Option<Command<'a>>
     match words {
         [word, path] => serve_in(word.as_str(), path.as_str()),
         [word, account, network, nick] => {
-            let names = Names {
+            let names = ReplayNames {
                 account: account.as_bytes(),
                 network: network.as_bytes(),
                 nick: nick.as_bytes(),

@@ -2,11 +2,11 @@
 ghost use Rattle.std.specs.Prelude.{◌≡◌};
 
 use crate::departed::Departed;
-use crate::site::Site;
 use crate::stream::{receive_from, send_to};
+use bnc_work::NodeSite;
 use mio::net::TcpStream;
 use mio::{Interest, Registry, Token};
-use node_ports::{Connection, Fresh, Halt, Journal, Origin, Piece};
+use node_ports::{Connection, Fresh, FurtherBytes, Halt, Origin, Transcript};
 use shared_node::{Naming, Receipt};
 use std::io;
 use std::marker::PhantomData;
@@ -16,21 +16,21 @@ use worker_pass::{Witness, WorkerView};
 /// A connection over a socket, of a node that `S` says. It owns its socket, wherever it moves. As it is let go it is closed for
 /// sending, and the port that made it reads on from it for a second: the system resets a connection that is closed while bytes of
 /// the other end lie unread, and the other end may lose what was sent to it last.
-pub struct SocketConnection<S: Site> {
+pub struct SocketConnection<S: NodeSite> {
     stream: TcpStream,
     address: SocketAddr,
     origin: Origin,
     serial: u64,
     // Behind how many others it joined a network, if it did.
     joined: Option<u64>,
-    received: Journal,
-    sent: Journal,
+    received: Transcript,
+    sent: Transcript,
     // Where the socket goes in the end.
     departed: Departed,
     of: PhantomData<S>,
 }
 
-impl<S: Site> SocketConnection<S> {
+impl<S: NodeSite> SocketConnection<S> {
     // A connection over that stream, over which nothing went.
     pub(crate) fn over(
         stream: TcpStream,
@@ -46,8 +46,8 @@ impl<S: Site> SocketConnection<S> {
                 origin,
                 serial,
                 joined: None,
-                received: Journal::new(),
-                sent: Journal::new(),
+                received: Transcript::new(),
+                sent: Transcript::new(),
                 departed,
                 of: PhantomData,
             },
@@ -78,7 +78,7 @@ impl<S: Site> SocketConnection<S> {
     }
 }
 
-impl<S: Site> Drop for SocketConnection<S> {
+impl<S: NodeSite> Drop for SocketConnection<S> {
     fn drop(self) {
         let Self {
             stream,
@@ -95,8 +95,8 @@ impl<S: Site> Drop for SocketConnection<S> {
     }
 }
 
-impl<S: Site> Connection for SocketConnection<S> {
-    ghost use Rattle.bnc_sockets.specs.Settings.{facts_of};
+impl<S: NodeSite> Connection for SocketConnection<S> {
+    ghost use Rattle.bnc_work.specs.Site.{facts_of};
 
     ghost facts = { facts_of S.settings };
 
@@ -120,7 +120,7 @@ impl<S: Site> Connection for SocketConnection<S> {
 
     fn receive(&mut self, buffer: &mut [u8]) -> Result<usize, Halt> {
         let count = receive_from(&mut self.stream, buffer)?;
-        let piece = Piece {
+        let piece = FurtherBytes {
             bytes: &buffer[..count],
         };
         self.received = self.received.then(&piece);
@@ -129,7 +129,7 @@ impl<S: Site> Connection for SocketConnection<S> {
 
     fn send(&mut self, bytes: &[u8]) -> Result<usize, Halt> {
         let count = send_to(&mut self.stream, bytes)?;
-        let piece = Piece {
+        let piece = FurtherBytes {
             bytes: &bytes[..count],
         };
         self.sent = self.sent.then(&piece);
@@ -141,7 +141,7 @@ impl<S: Site> Connection for SocketConnection<S> {
     }
 }
 
-impl<S: Site, J: Naming> Witness<J> for SocketConnection<S> {
+impl<S: NodeSite, J: Naming> Witness<J> for SocketConnection<S> {
     fn is_held(_receipt: &Receipt<J>) {}
 
     fn is_put(_view: &WorkerView<J>) {}

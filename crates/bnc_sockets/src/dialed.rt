@@ -1,5 +1,5 @@
 //! Connections that are being made.
-use crate::stream::{Outcome, outcome_of};
+use crate::stream::{DialOutcome, outcome_of};
 use mio::net::TcpStream;
 use mio::{Interest, Registry, Token};
 use network_client::Dial;
@@ -77,12 +77,12 @@ impl BeingMade {
         let dialed = self.all.get(key)?;
         let what = dialed.what;
         match outcome_of(&dialed.stream) {
-            Outcome::Pending => None,
-            Outcome::Failed(why) => {
+            DialOutcome::Pending => None,
+            DialOutcome::Failed(why) => {
                 drop(self.all.try_remove(key));
                 Some(Made::Refused(what, why))
             }
-            Outcome::Connected => {
+            DialOutcome::Connected => {
                 let mut dialed = self.all.try_remove(key)?;
                 let _ = registry.deregister(&mut dialed.stream);
                 Some(Made::There(dialed))

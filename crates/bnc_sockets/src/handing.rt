@@ -24,7 +24,7 @@ pub(crate) enum Delivery<C: Connection> {
 
 // Who comes in at a worker's intake, or what those who connect ask of it.
 #[derive(Drop)]
-pub(crate) enum Newcomer {
+pub(crate) enum IntakeMessage {
     // A client, with the ring of what it will be owed.
     Client {
         stream: TcpStream,
@@ -92,7 +92,7 @@ impl<C: Connection> Mailbox<C> {
 /// Where those who connect are handed in to one worker.
 #[derive(Drop)]
 pub struct WorkerIntake {
-    newcomers: Sender<Newcomer>,
+    newcomers: Sender<IntakeMessage>,
     // How many nodes that connected wait.
     peers: Arc<AtomicUsize>,
     waker: Arc<Waker>,
@@ -101,7 +101,7 @@ pub struct WorkerIntake {
 /// Where those arrive who were handed in.
 #[derive(Drop)]
 pub struct Newcomers {
-    newcomers: Receiver<Newcomer>,
+    newcomers: Receiver<IntakeMessage>,
     peers: Arc<AtomicUsize>,
 }
 
@@ -126,7 +126,7 @@ impl WorkerIntake {
     }
 
     // Hands somebody in, and wakes the worker.
-    fn hand<R: Wait>(&self, rt: &R, newcomer: Newcomer) -> Result<(), PortFault> {
+    fn hand<R: Wait>(&self, rt: &R, newcomer: IntakeMessage) -> Result<(), PortFault> {
         sent(self.newcomers.send(rt, newcomer))?;
         wake(&self.waker);
         Ok(())
@@ -142,7 +142,7 @@ impl WorkerIntake {
     ) -> Result<(), PortFault> {
         self.hand(
             rt,
-            Newcomer::Client {
+            IntakeMessage::Client {
                 stream,
                 address,
                 ring,
@@ -152,7 +152,7 @@ impl WorkerIntake {
 
     /// Tells the worker that some clients that aren't registered were asked to leave.
     pub fn tell_leave<R: Wait>(&self, rt: &R) -> Result<(), PortFault> {
-        self.hand(rt, Newcomer::Leave)
+        self.hand(rt, IntakeMessage::Leave)
     }
 
     /// Whether a further node that connected may wait for the worker: 16 do at most.
@@ -169,20 +169,20 @@ impl WorkerIntake {
     ) -> Result<(), PortFault> {
         // (before it can arrive)
         self.peers.fetch_add(1, Ordering::SeqCst);
-        self.hand(rt, Newcomer::Peer { stream, address })
+        self.hand(rt, IntakeMessage::Peer { stream, address })
     }
 
     /// Tells the worker to end.
     pub fn stop<R: Wait>(&self, rt: &R) {
-        let _ = self.hand(rt, Newcomer::Stop);
+        let _ = self.hand(rt, IntakeMessage::Stop);
     }
 }
 
 impl Newcomers {
     // Who came next. None where nobody did.
-    pub(crate) fn next<R: Wait>(&self, rt: &R) -> Option<Newcomer> {
+    pub(crate) fn next<R: Wait>(&self, rt: &R) -> Option<IntakeMessage> {
         let newcomer = self.newcomers.try_recv(rt).ok()?;
-        if let Newcomer::Peer { .. } = &newcomer {
+        if let IntakeMessage::Peer { .. } = &newcomer {
             self.peers.fetch_sub(1, Ordering::SeqCst);
         }
         Some(newcomer)

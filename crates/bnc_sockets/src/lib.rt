@@ -4,7 +4,7 @@
 //! [`SocketConnection`] is one connection: it owns its socket, and knows where it comes from, what came over it and what went out.
 //! Other workers hand in mail, and a [`WorkerIntake`] is where those who connect are handed in. Sockets, mail and newcomers take
 //! turns, and none keeps another waiting. A port that ends stops all workers whose mailboxes it has: a node whose worker ended
-//! ends. A [`Site`] says which node it is.
+//! ends.
 #![tactic(auto)]
 
 mod addresses;
@@ -15,7 +15,6 @@ mod dialer;
 mod handing;
 mod lingering;
 mod setup;
-mod site;
 mod socket_port;
 mod stream;
 mod times;
@@ -25,6 +24,5 @@ pub use connection::SocketConnection;
 pub use dialer::{Dialer, NetDialer};
 pub use handing::{Newcomers, WorkerIntake};
 pub use setup::{NodeSetup, PortSetup, ports_of};
-pub use site::Site;
 pub use socket_port::SocketPort;
 pub use times::{monotonic_ms, now_ms};

@@ -18,7 +18,7 @@ const READS: usize = 64;
 
 // A connection over which nothing more is sent.
 #[derive(Drop)]
-struct Late {
+struct LingeringStream {
     stream: TcpStream,
     // When it goes, by the monotonic clock.
     until: u64,
@@ -35,7 +35,7 @@ enum Rest {
     Over,
 }
 
-impl Late {
+impl LingeringStream {
     // Reads what is there, and lets it go.
     fn read_on(&mut self) -> Rest {
         let mut piece = [0u8; PIECE];
@@ -61,7 +61,7 @@ impl Late {
 #[derive(Drop)]
 pub(crate) struct Lingering {
     // in the order in which they were closed
-    late: VecDeque<Late>,
+    late: VecDeque<LingeringStream>,
 }
 
 impl Lingering {
@@ -78,7 +78,7 @@ impl Lingering {
 
     // Lets a connection stay. Where there is no memory for that it goes at once.
     pub(crate) fn add(&mut self, stream: TcpStream, now: u64) {
-        let mut late = Late {
+        let mut late = LingeringStream {
             stream,
             until: now.saturating_add(PATIENCE),
             reads: READS,

@@ -3,8 +3,8 @@ use crate::addresses::Addresses;
 use crate::connection::SocketConnection;
 use crate::dialer::Dialer;
 use crate::handing::{Delivery, Mailbox, Newcomers, WorkerIntake};
-use crate::site::Site;
 use crate::socket_port::SocketPort;
+use bnc_work::NodeSite;
 use crossbeam_channel::Receiver;
 use mio::{Poll, Token, Waker};
 use node_ports::Connection;
@@ -103,7 +103,7 @@ fn mailboxes_of<C: Connection, D: Dialer>(
 }
 
 /// The ports of a node's workers, in their order. Each has the mailboxes of all.
-pub fn ports_of<S: Site, R, D: Dialer>(
+pub fn ports_of<S: NodeSite, R, D: Dialer>(
     rt: &R,
     setups: Vec<PortSetup<D>>,
 ) -> Result<Vec<SocketPort<SocketConnection<S>, R, D>>, AllocError>

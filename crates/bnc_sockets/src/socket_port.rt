@@ -5,11 +5,11 @@ use crate::connection::SocketConnection;
 use crate::departed::Departed;
 use crate::dialed::{BeingMade, Dialed, Made};
 use crate::dialer::Dialer;
-use crate::handing::{Delivery, Mailbox, Newcomer, Newcomers};
+use crate::handing::{Delivery, IntakeMessage, Mailbox, Newcomers};
 use crate::lingering::Lingering;
 use crate::setup::PortSetup;
-use crate::site::Site;
 use crate::times::{monotonic_ms, now_ms};
+use bnc_work::NodeSite;
 use crossbeam_channel::Receiver;
 use mio::event::Event as Readiness;
 use mio::net::TcpStream;
@@ -107,7 +107,7 @@ fn origin_of(what: Dial) -> Origin {
     }
 }
 
-impl<S: Site, R: Wait + Clock + AllocGlobal + Drop, D: Dialer> SocketPort<
+impl<S: NodeSite, R: Wait + Clock + AllocGlobal + Drop, D: Dialer> SocketPort<
     SocketConnection<S>,
     R,
     D,
@@ -210,9 +210,9 @@ impl<S: Site, R: Wait + Clock + AllocGlobal + Drop, D: Dialer> SocketPort<
         None
     }
 
-    fn let_in(&self, newcomer: Newcomer) -> Option<Happening<SocketConnection<S>>> {
+    fn let_in(&self, newcomer: IntakeMessage) -> Option<Happening<SocketConnection<S>>> {
         match newcomer {
-            Newcomer::Client {
+            IntakeMessage::Client {
                 stream,
                 address,
                 ring,
@@ -220,12 +220,12 @@ impl<S: Site, R: Wait + Clock + AllocGlobal + Drop, D: Dialer> SocketPort<
                 let fresh = self.fresh(stream, address, Origin::ClientCame)?;
                 Some(Happening::Client { fresh, ring })
             }
-            Newcomer::Peer { stream, address } => {
+            IntakeMessage::Peer { stream, address } => {
                 let fresh = self.fresh(stream, address, Origin::PeerCame)?;
                 Some(Happening::Came(fresh))
             }
-            Newcomer::Leave => Some(Happening::Leave),
-            Newcomer::Stop => Some(Happening::Ended),
+            IntakeMessage::Leave => Some(Happening::Leave),
+            IntakeMessage::Stop => Some(Happening::Ended),
         }
     }
 
@@ -324,7 +324,7 @@ impl<S: Site, R: Wait + Clock + AllocGlobal + Drop, D: Dialer> SocketPort<
     }
 }
 
-impl<S: Site, R: Wait + Clock + AllocGlobal + Drop, D: Dialer> Port
+impl<S: NodeSite, R: Wait + Clock + AllocGlobal + Drop, D: Dialer> Port
     for SocketPort<SocketConnection<S>, R, D> {
     type Connection = SocketConnection<S>;
 

@@ -12,23 +12,23 @@ const TRIES: usize = 1_000;
 
 // What has become of a connection that was dialed.
 #[derive(Clone, Copy, PartialEq, Eq)]
-pub(crate) enum Outcome {
+pub(crate) enum DialOutcome {
     Connected,
     Failed(Unreached),
     Pending,
 }
 
 // What has become of it. An event may be an old one, of a connection that had the same token: then nothing is known yet.
-pub(crate) fn outcome_of(stream: &TcpStream) -> Outcome {
+pub(crate) fn outcome_of(stream: &TcpStream) -> DialOutcome {
     match stream.take_error() {
         Ok(None) => {}
-        Ok(Some(error)) => return Outcome::Failed(Unreached::from(error)),
-        Err(error) => return Outcome::Failed(Unreached::from(error)),
+        Ok(Some(error)) => return DialOutcome::Failed(Unreached::from(error)),
+        Err(error) => return DialOutcome::Failed(Unreached::from(error)),
     }
     match stream.peer_addr() {
-        Ok(_) => Outcome::Connected,
-        Err(error) if error.kind() == ErrorKind::NotConnected => Outcome::Pending,
-        Err(error) => Outcome::Failed(Unreached::from(error)),
+        Ok(_) => DialOutcome::Connected,
+        Err(error) if error.kind() == ErrorKind::NotConnected => DialOutcome::Pending,
+        Err(error) => DialOutcome::Failed(Unreached::from(error)),
     }
 }
 

@@ -26,11 +26,9 @@ where
                 }
             }
             Some(Seat::Client { network, order }) => {
-                let (network, order) = (*network, *order);
                 self.mark_client(network, order, is_readable, is_writable);
             }
             Some(Seat::Server { network }) => {
-                let network = *network;
                 if let Some(hosting) = self.networks.get_mut(network) {
                     hosting.network.mark_server(is_readable, is_writable);
                 }
@@ -41,7 +39,7 @@ where
                 }
                 return;
             }
-            Some(Seat::Away) | None => return,
+            None => return,
         }
         self.seats.wake(token);
     }
@@ -62,11 +60,8 @@ where
     pub(crate) fn serve(&mut self, token: usize) {
         match self.seats.get(token) {
             Some(Seat::Visitor(_)) => self.serve_visitor(token),
-            Some(Seat::Client { network, order }) => {
-                let (network, order) = (*network, *order);
-                self.serve_client(token, network, order);
-            }
-            Some(Seat::Server { .. } | Seat::Peer | Seat::Away) | None => {}
+            Some(Seat::Client { network, order }) => self.serve_client(token, network, order),
+            Some(Seat::Server { .. } | Seat::Peer) | None => {}
         }
     }
 
@@ -210,8 +205,7 @@ where
         let Some(Seat::Client { network, order }) = self.seats.get(token) else {
             return;
         };
-        let (index, order) = (*network, *order);
-        let Some(hosting) = self.networks.get_mut(index) else {
+        let Some(hosting) = self.networks.get_mut(network) else {
             return;
         };
         let Some(place) = hosting.place_of(order) else {
@@ -219,7 +213,7 @@ where
         };
         if place < hosting.network.client_count() {
             hosting.network.client_falls(place, Fall::Ended);
-            self.clients_leave(index);
+            self.clients_leave(network);
         }
     }
 

@@ -171,7 +171,7 @@ where
         }
     }
 
-    fn close_peer(&mut self, token: usize, loss: node_peers::Loss) {
+    fn close_peer(&mut self, token: usize, loss: node_peers::PeerLoss) {
         let turn = self.peers_turn();
         if let Some(peers) = &mut self.peers {
             peers.close(&turn, token, loss, &mut self.port);

@@ -1,9 +1,9 @@
 //! Why connections ended, as the operator is told.
 use hosted_network::ServerEnd;
 use network_client::{Fall, Gone};
-use network_server::Loss as ServerLoss;
+use network_server::ServerLoss;
 use node_events::Reason;
-use node_peers::Loss as PeerLoss;
+use node_peers::PeerLoss;
 
 /// Why a client of a network is gone.
 pub(crate) fn of_client(why: Option<Fall>) -> Reason {

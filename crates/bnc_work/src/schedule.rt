@@ -6,7 +6,7 @@ use std::alloc::Global;
 
 /// A timer that found no memory, and the moment at which it is due.
 #[derive(Clone, Copy)]
-struct Late {
+struct LateTimer {
     timer: Timer,
     at: u64,
 }
@@ -17,7 +17,7 @@ struct Late {
 pub struct Schedule {
     timers: Timers,
     // Those that found no memory. A timer stands here or there.
-    late: Vec<Late>,
+    late: Vec<LateTimer>,
 }
 
 impl Schedule {
@@ -44,7 +44,7 @@ impl Schedule {
     pub fn set(&mut self, timer: Timer, at: u64) {
         if self.try_set(timer, at).is_err() {
             self.clear(timer);
-            let _ = self.late.push(Late { timer, at });
+            let _ = self.late.push(LateTimer { timer, at });
         }
     }
 

@@ -10,6 +10,9 @@ use node_events::{Event, Reason, Unreached};
 use node_ports::{Connection, Fresh};
 use worker_pass::WorkPass;
 
+/// Where there was no memory for what a server sent, its next turn is so many milliseconds later.
+const PAUSE: u64 = 100;
+
 impl<'a, C, P, N> Worker<'a, C, P, N>
 where
     C: Connection,
@@ -130,7 +133,6 @@ where
         let Some(Seat::Server { network }) = self.seats.get(token) else {
             return;
         };
-        let network = *network;
         self.server_turn(network);
     }
 
@@ -149,6 +151,9 @@ where
         self.note_up(index);
         match turn {
             ServerTurn::Again => self.wake_server(index),
+            ServerTurn::Later => self
+                .timers
+                .set(Timer::Server(index), self.now.saturating_add(PAUSE)),
             ServerTurn::Rest => self.wake_if_unsent(index),
             ServerTurn::Over(end) => self.end_server(index, of_server(end)),
         }
@@ -170,7 +175,11 @@ where
         let Some(hosting) = self.networks.get(index) else {
             return;
         };
-        if hosting.network.server_can_send() {
+        let can_send = match hosting.network.server() {
+            Some(server) => server.can_send(),
+            None => false,
+        };
+        if can_send {
             self.wake_server(index);
         }
     }
@@ -201,13 +210,15 @@ where
         hosting.is_up = is_up;
     }
 
-    // The clients of the network whose lines wait for its server have something to do.
+    // The clients of the network whose lines wait for its server have something to do, once the server takes lines or is gone.
     fn wake_waiting(&mut self, index: usize) {
         let Some(hosting) = self.networks.get_mut(index) else {
             return;
         };
-        if !hosting.network.server_takes_lines() {
-            return;
+        if let Some(server) = hosting.network.server() {
+            if !server.has_credit() {
+                return;
+            }
         }
         for place in 0..hosting.attendees.len() {
             let Some(attendee) = hosting.attendees.get_mut(place) else {
@@ -226,8 +237,9 @@ where
             return;
         };
         if hosting.network.has_server() {
-            self.server_turn(index);
-            return self.set_server_timer(index);
+            // (its turn may set it to an earlier moment)
+            self.set_server_timer(index);
+            return self.server_turn(index);
         }
         self.dial_server(index);
     }

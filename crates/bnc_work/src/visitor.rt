@@ -25,6 +25,8 @@ pub(crate) struct Visitor<C: Connection> {
     pub(crate) turned_away: TurnedAway,
     /// Its session has ended: it goes once it was told all.
     pub(crate) has_ended: bool,
+    /// Its other end sends nothing more: it goes once it was told all.
+    pub(crate) is_silent: bool,
 }
 
 impl<C: Connection> Visitor<C> {
@@ -36,6 +38,7 @@ impl<C: Connection> Visitor<C> {
             network,
             turned_away: TurnedAway::No,
             has_ended: false,
+            is_silent: false,
         }
     }
 
@@ -51,6 +54,17 @@ impl<C: Connection> Visitor<C> {
         owed == 0 && !client.waits()
     }
 
+    /// Why it goes once it was told all. None where more may be heard of it.
+    pub(crate) fn ending(&self) -> Option<Reason> {
+        if self.has_ended {
+            Some(Reason::Ended)
+        } else if self.is_silent {
+            Some(Reason::Closed)
+        } else {
+            None
+        }
+    }
+
     /// Why it is gone, as the operator is told. Of one that is turned away that is so however it goes, but for want of memory.
     pub(crate) fn reason_to_tell(&self, reason: Reason) -> Reason {
         if self.turned_away == TurnedAway::No || reason == Reason::NoMemory {
@@ -62,10 +76,6 @@ impl<C: Connection> Visitor<C> {
 
     /// Why it is closed once its time is up.
     pub(crate) fn reason_when_due(&self) -> Reason {
-        if self.has_ended {
-            Reason::Ended
-        } else {
-            Reason::Unregistered
-        }
+        self.ending().unwrap_or(Reason::Unregistered)
     }
 }

@@ -29,7 +29,7 @@ const MOVES: u32 = 8;
 
 // What a step of a client that isn't registered comes to.
 #[derive(Drop)]
-enum Visit<C: Connection> {
+enum VisitorStep<C: Connection> {
     // There may be more to do.
     Again(Visitor<C>),
     // There is nothing more for now.
@@ -39,19 +39,19 @@ enum Visit<C: Connection> {
     // It moves to the worker that serves the network which it names.
     Moves(Arrival<C>, Coming),
     // It is gone.
-    Gone(Departed),
+    Gone(DepartedVisitor),
 }
 
 // A client that is gone before it was registered.
 #[derive(Clone, Copy)]
-struct Departed {
+struct DepartedVisitor {
     address: Option<SocketAddr>,
     reason: Reason,
 }
 
 // What is next of what such a client's last line came to.
 #[derive(Clone, Copy, PartialEq, Eq)]
-enum Act {
+enum VisitorAct {
     Say,
     Close,
     Nothing,
@@ -59,58 +59,60 @@ enum Act {
     Other,
 }
 
-fn act_of(effect: Option<&Effect>) -> Act {
+fn act_of(effect: Option<&Effect>) -> VisitorAct {
     match effect {
-        Some(Effect::Send(_)) => Act::Say,
-        Some(Effect::Close) => Act::Close,
-        Some(Effect::Ask(_) | Effect::Put(_) | Effect::Upstream(_)) => Act::Other,
-        None => Act::Nothing,
+        Some(Effect::Send(_)) => VisitorAct::Say,
+        Some(Effect::Close) => VisitorAct::Close,
+        Some(Effect::Ask(_) | Effect::Put(_) | Effect::Upstream(_)) => VisitorAct::Other,
+        None => VisitorAct::Nothing,
     }
 }
 
 // It is gone for that reason.
-fn gone<C: Connection>(visitor: Visitor<C>, reason: Reason) -> Visit<C> {
+fn gone<C: Connection>(visitor: Visitor<C>, reason: Reason) -> VisitorStep<C> {
     let address = visitor.newcomer.client().connection().address();
     let reason = visitor.reason_to_tell(reason);
     drop(visitor);
-    Visit::Gone(Departed { address, reason })
+    VisitorStep::Gone(DepartedVisitor { address, reason })
 }
 
 // What its session says waits for it.
-fn say<C: Connection>(mut visitor: Visitor<C>) -> Visit<C> {
+fn say<C: Connection>(mut visitor: Visitor<C>) -> VisitorStep<C> {
     if visitor.newcomer.client().is_gone() {
         return gone(visitor, Reason::NoMemory);
     }
     match act_of(visitor.newcomer.client().next_effect()) {
-        Act::Say => {
+        VisitorAct::Say => {
             if visitor.newcomer.say_all().is_err() {
                 return gone(visitor, Reason::NoMemory);
             }
         }
-        Act::Close => {
+        VisitorAct::Close => {
             visitor.newcomer.close();
         }
-        Act::Other => return gone(visitor, Reason::NoEntry),
-        Act::Nothing => {}
+        VisitorAct::Other => return gone(visitor, Reason::NoEntry),
+        VisitorAct::Nothing => {}
     }
-    Visit::Again(visitor)
+    VisitorStep::Again(visitor)
 }
 
 // The first of what waits for it goes out, by one write. Once something of that has gone to its ring, it goes on at once.
-fn send<C: Connection>(mut visitor: Visitor<C>) -> Visit<C> {
+fn send<C: Connection>(mut visitor: Visitor<C>) -> VisitorStep<C> {
     let Ok(count) = visitor.newcomer.offer() else {
         return gone(visitor, Reason::OverBound);
     };
     if visitor.newcomer.can_send() && visitor.newcomer.pump() == Err(Halt::Closed) {
         return gone(visitor, Reason::Closed);
     }
-    if visitor.has_ended && visitor.was_told_all() {
-        return gone(visitor, Reason::Ended);
+    if let Some(reason) = visitor.ending() {
+        if visitor.was_told_all() {
+            return gone(visitor, reason);
+        }
     }
     if count > 0 || visitor.newcomer.can_send() {
-        Visit::Again(visitor)
+        VisitorStep::Again(visitor)
     } else {
-        Visit::Rest(visitor)
+        VisitorStep::Rest(visitor)
     }
 }
 
@@ -128,7 +130,7 @@ where
             moves: 0,
         };
         if let Err(reason) = self.admit(fresh, ring, coming) {
-            self.tell_refused(Departed { address, reason });
+            self.tell_refused(DepartedVisitor { address, reason });
         }
     }
 
@@ -155,7 +157,7 @@ where
         coming: Coming,
         network: Option<usize>,
     ) -> Result<(), Reason> {
-        let Ok(token) = self.seats.insert(Seat::Away) else {
+        let Ok(token) = self.seats.insert_visitor() else {
             return Err(Reason::NoMemory);
         };
         let is_watched = newcomer.watch(&mut self.port, token).is_ok();
@@ -172,7 +174,7 @@ where
             });
         }
         let visitor = Visitor::new(newcomer, coming, network);
-        self.seats.set(token, Seat::Visitor(visitor));
+        self.seats.put_visitor(token, visitor);
         self.seats.wake(token);
         Ok(())
     }
@@ -188,7 +190,7 @@ where
         let address = newcomer.client().connection().address();
         let index = self.index_of(network);
         if let Err(reason) = self.take_in(newcomer, coming, index) {
-            self.tell_refused(Departed { address, reason });
+            self.tell_refused(DepartedVisitor { address, reason });
         }
     }
 
@@ -199,8 +201,8 @@ where
     }
 
     // The operator is told of a client that is gone and wasn't registered, or that there was one more of many.
-    fn tell_refused(&mut self, gone: Departed) {
-        let Departed { address, reason } = gone;
+    fn tell_refused(&mut self, gone: DepartedVisitor) {
+        let DepartedVisitor { address, reason } = gone;
         if reason == Reason::NoMemory || self.refusals.add() {
             self.port.report(&Event::ClientRefused { address, reason });
         }
@@ -212,14 +214,14 @@ where
             return;
         };
         match self.visit(token, visitor) {
-            Visit::Again(visitor) => {
-                self.seats.set(token, Seat::Visitor(visitor));
+            VisitorStep::Again(visitor) => {
+                self.seats.put_visitor(token, visitor);
                 self.seats.wake(token);
             }
-            Visit::Rest(visitor) => self.seats.set(token, Seat::Visitor(visitor)),
-            Visit::Enters(index) => self.enters(token, index),
-            Visit::Moves(arrival, coming) => self.moves(token, arrival, coming),
-            Visit::Gone(gone) => {
+            VisitorStep::Rest(visitor) => self.seats.put_visitor(token, visitor),
+            VisitorStep::Enters(index) => self.enters(token, index),
+            VisitorStep::Moves(arrival, coming) => self.moves(token, arrival, coming),
+            VisitorStep::Gone(gone) => {
                 self.leave_seat(token);
                 self.tell_refused(gone);
             }
@@ -228,11 +230,11 @@ where
 
     // So many things are done for it, and what it is owed goes out. One that was asked to leave goes then, unless it is registered by
     // what it has sent.
-    fn visit(&mut self, token: usize, visitor: Visitor<C>) -> Visit<C> {
-        let mut visit = Visit::Again(visitor);
+    fn visit(&mut self, token: usize, visitor: Visitor<C>) -> VisitorStep<C> {
+        let mut visit = VisitorStep::Again(visitor);
         for _ in 0..STEPS {
             match visit {
-                Visit::Again(visitor) => visit = self.step(token, visitor),
+                VisitorStep::Again(visitor) => visit = self.step(token, visitor),
                 other => {
                     visit = other;
                     break;
@@ -242,27 +244,27 @@ where
         self.end_visit(visit)
     }
 
-    fn end_visit(&mut self, visit: Visit<C>) -> Visit<C> {
+    fn end_visit(&mut self, visit: VisitorStep<C>) -> VisitorStep<C> {
         match visit {
-            Visit::Again(visitor) => match self.sent(visitor) {
-                Visit::Rest(visitor) => Visit::Again(visitor),
+            VisitorStep::Again(visitor) => match self.sent(visitor) {
+                VisitorStep::Rest(visitor) => VisitorStep::Again(visitor),
                 other => other,
             },
-            Visit::Rest(visitor) => self.sent(visitor),
+            VisitorStep::Rest(visitor) => self.sent(visitor),
             other => other,
         }
     }
 
     // What it is owed goes out, and where it was asked to leave it goes.
-    fn sent(&mut self, visitor: Visitor<C>) -> Visit<C> {
+    fn sent(&mut self, visitor: Visitor<C>) -> VisitorStep<C> {
         let is_asked = self.waiting.is_asked(visitor.place());
         let visit = if visitor.turned_away == TurnedAway::Waits {
-            Visit::Rest(visitor)
+            VisitorStep::Rest(visitor)
         } else {
             send(visitor)
         };
         match visit {
-            Visit::Again(visitor) | Visit::Rest(visitor) if is_asked => {
+            VisitorStep::Again(visitor) | VisitorStep::Rest(visitor) if is_asked => {
                 gone(visitor, Reason::GaveWay)
             }
             other => other,
@@ -270,16 +272,16 @@ where
     }
 
     // One thing is done for it.
-    fn step(&mut self, token: usize, visitor: Visitor<C>) -> Visit<C> {
+    fn step(&mut self, token: usize, visitor: Visitor<C>) -> VisitorStep<C> {
         let mut visitor = visitor;
         if visitor.turned_away == TurnedAway::Waits {
-            return Visit::Rest(visitor);
+            return VisitorStep::Rest(visitor);
         }
         if visitor.newcomer.client().is_busy() {
             return self.act(token, visitor);
         }
-        if visitor.has_ended || visitor.newcomer.client().waits() {
-            return Visit::Rest(visitor);
+        if visitor.ending().is_some() || visitor.newcomer.client().waits() {
+            return VisitorStep::Rest(visitor);
         }
         if visitor.newcomer.has_line() {
             return self.hear(token, visitor);
@@ -288,10 +290,10 @@ where
     }
 
     // What its session says waits for it. Once that has ended, it has so long to read it.
-    fn act(&mut self, token: usize, visitor: Visitor<C>) -> Visit<C> {
+    fn act(&mut self, token: usize, visitor: Visitor<C>) -> VisitorStep<C> {
         let mut visitor = visitor;
         let until = self.now.saturating_add(PATIENCE);
-        if act_of(visitor.newcomer.client().next_effect()) != Act::Close {
+        if act_of(visitor.newcomer.client().next_effect()) != VisitorAct::Close {
             return say(visitor);
         }
         visitor.has_ended = true;
@@ -302,26 +304,26 @@ where
     }
 
     // More bytes of it are taken in. Where the other end sends nothing more, it may still read what it is owed.
-    fn fill(&mut self, visitor: Visitor<C>) -> Visit<C> {
+    fn fill(&mut self, visitor: Visitor<C>) -> VisitorStep<C> {
         let mut visitor = visitor;
         let tools = &mut self.tools;
         match visitor
             .newcomer
             .fill(tools.chunk.as_mut_slice(), &mut tools.feeders)
         {
-            Filled::More => Visit::Again(visitor),
-            Filled::Nothing => Visit::Rest(visitor),
+            Filled::More => VisitorStep::Again(visitor),
+            Filled::Nothing => VisitorStep::Rest(visitor),
             Filled::Closed if visitor.was_told_all() => gone(visitor, Reason::Closed),
             Filled::Closed => {
-                visitor.has_ended = true;
-                Visit::Rest(visitor)
+                visitor.is_silent = true;
+                VisitorStep::Rest(visitor)
             }
             Filled::NoMemory => gone(visitor, Reason::NoMemory),
         }
     }
 
     // It hears its next line: at the network that the line names, or that it named before.
-    fn hear(&mut self, token: usize, visitor: Visitor<C>) -> Visit<C> {
+    fn hear(&mut self, token: usize, visitor: Visitor<C>) -> VisitorStep<C> {
         if visitor.newcomer.client().is_gone() {
             return gone(visitor, Reason::NoMemory);
         }
@@ -339,17 +341,17 @@ where
     }
 
     // The line names a network: it is heard there, or moves there with the client.
-    fn hear_named(&mut self, token: usize, arrival: Arrival<C>, coming: Coming) -> Visit<C> {
+    fn hear_named(&mut self, token: usize, arrival: Arrival<C>, coming: Coming) -> VisitorStep<C> {
         let Some(index) = self.index_of(arrival.network) else {
             let moves = coming.moves.saturating_add(1);
-            return Visit::Moves(arrival, Coming { moves, ..coming });
+            return VisitorStep::Moves(arrival, Coming { moves, ..coming });
         };
         let Arrival { newcomer, .. } = arrival;
         self.hear_at(token, Visitor::new(newcomer, coming, Some(index)))
     }
 
     // The line is heard at the network that was named last, if one was.
-    fn hear_at(&mut self, token: usize, visitor: Visitor<C>) -> Visit<C> {
+    fn hear_at(&mut self, token: usize, visitor: Visitor<C>) -> VisitorStep<C> {
         let client = visitor.newcomer.client();
         if client.is_gone() || client.is_busy() {
             return gone(visitor, Reason::NoMemory);
@@ -361,7 +363,7 @@ where
     }
 
     // The same at a network.
-    fn hear_in(&mut self, token: usize, index: usize, visitor: Visitor<C>) -> Visit<C>
+    fn hear_in(&mut self, token: usize, index: usize, visitor: Visitor<C>) -> VisitorStep<C>
         requires there { visitor.newcomer.is_gone ≡ false }
         requires done { visitor.newcomer.todo ≡ [] }
     {
@@ -374,7 +376,7 @@ where
         let accounts = self.settings.accounts.directory();
         let Some(hosting) = self.networks.get_mut(index) else {
             drop(newcomer);
-            return Visit::Gone(Departed {
+            return VisitorStep::Gone(DepartedVisitor {
                 address,
                 reason: Reason::NoEntry,
             });
@@ -386,11 +388,11 @@ where
             Entered::Gone(Gone::NoMemory)
         };
         match entered {
-            Entered::Client => Visit::Enters(index),
+            Entered::Client => VisitorStep::Enters(index),
             Entered::Newcomer(newcomer) => {
                 self.heard(token, Visitor::new(newcomer, coming, Some(index)))
             }
-            Entered::Gone(why) => Visit::Gone(Departed {
+            Entered::Gone(why) => VisitorStep::Gone(DepartedVisitor {
                 address,
                 reason: of_newcomer(why),
             }),
@@ -398,7 +400,7 @@ where
     }
 
     // The same where no network was named.
-    fn hear_outside(&mut self, token: usize, visitor: Visitor<C>) -> Visit<C>
+    fn hear_outside(&mut self, token: usize, visitor: Visitor<C>) -> VisitorStep<C>
         requires there { visitor.newcomer.is_gone ≡ false }
         requires done { visitor.newcomer.todo ≡ [] }
     {
@@ -412,7 +414,7 @@ where
         let accounts = self.settings.accounts.directory();
         match newcomer.hear(self.alloc, accounts) {
             Ok(newcomer) => self.heard(token, Visitor::new(newcomer, coming, network)),
-            Err(why) => Visit::Gone(Departed {
+            Err(why) => VisitorStep::Gone(DepartedVisitor {
                 address,
                 reason: of_newcomer(why),
             }),
@@ -420,15 +422,15 @@ where
     }
 
     // It has heard a line. One that is turned away by it is told so a second later.
-    fn heard(&mut self, token: usize, visitor: Visitor<C>) -> Visit<C> {
+    fn heard(&mut self, token: usize, visitor: Visitor<C>) -> VisitorStep<C> {
         let mut visitor = visitor;
         if !visitor.newcomer.is_turned_away() {
-            return Visit::Again(visitor);
+            return VisitorStep::Again(visitor);
         }
         visitor.turned_away = TurnedAway::Waits;
         let at = self.now.saturating_add(SECOND);
         match self.timers.try_set(Timer::Newcomer(token), at) {
-            Ok(()) => Visit::Rest(visitor),
+            Ok(()) => VisitorStep::Rest(visitor),
             Err(_) => gone(visitor, Reason::NoMemory),
         }
     }
@@ -475,7 +477,7 @@ where
         let address = arrival.newcomer.client().connection().address();
         if coming.moves > MOVES {
             drop(arrival);
-            return self.tell_refused(Departed {
+            return self.tell_refused(DepartedVisitor {
                 address,
                 reason: Reason::BadLine,
             });
@@ -508,7 +510,7 @@ where
             return;
         };
         let reason = visitor.reason_when_due();
-        if let Visit::Gone(gone) = gone(visitor, reason) {
+        if let VisitorStep::Gone(gone) = gone(visitor, reason) {
             self.leave_seat(token);
             self.tell_refused(gone);
         }

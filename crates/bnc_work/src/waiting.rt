@@ -15,25 +15,25 @@ const ASKED: u8 = 2;
 /// Which clients wait to be registered, and which of them were asked to leave, by their places. Who takes connections in shares it with
 /// the workers: a client waits from its coming until its worker says that it is registered, wherever it moves meanwhile.
 #[derive(Drop)]
-pub struct Waiting {
+pub struct WaitingClients {
     marks: Arc<Vec<AtomicU8>>,
 }
 
-impl Waiting {
+impl WaitingClients {
     /// Nobody waits at any of so many places.
-    pub fn new(alloc: Global, places: usize) -> Result<Waiting, AllocError> {
+    pub fn new(alloc: Global, places: usize) -> Result<WaitingClients, AllocError> {
         let mut marks = Vec::new(alloc);
         for _ in 0..places {
             marks.push(AtomicU8::new(NONE)).map_err(AllocError::from)?;
         }
-        Ok(Waiting {
+        Ok(WaitingClients {
             marks: Arc::new(alloc, marks)?,
         })
     }
 
     /// The same, for another thread.
-    pub fn try_clone(&self) -> Result<Waiting, AllocError> {
-        Ok(Waiting {
+    pub fn try_clone(&self) -> Result<WaitingClients, AllocError> {
+        Ok(WaitingClients {
             marks: Arc::try_clone(&self.marks)?,
         })
     }

@@ -9,7 +9,7 @@ use crate::schedule::Schedule;
 use crate::seats::Seats;
 use crate::settings::NodeSettings;
 use crate::timer::Timer;
-use crate::waiting::Waiting;
+use crate::waiting::WaitingClients;
 use crate::worker_config::{WorkEnd, WorkerConfig};
 use byte_text::NoMemory;
 use chat_change::Moment;
@@ -42,7 +42,7 @@ where
     pub(crate) number: usize,
     pub(crate) workers: usize,
     pub(crate) settings: &'a NodeSettings,
-    pub(crate) waiting: Waiting,
+    pub(crate) waiting: WaitingClients,
     pub(crate) port: LoggedPort<P>,
     /// Now, by the wall clock.
     pub(crate) moment: Moment,

@@ -1,6 +1,6 @@
 //! What a worker begins with, and how its work ends.
 use crate::settings::NodeSettings;
-use crate::waiting::Waiting;
+use crate::waiting::WaitingClients;
 
 /// How the work of one worker ended.
 #[derive(Clone, Copy, Debug, PartialEq, Eq)]
@@ -17,5 +17,5 @@ pub enum WorkEnd {
 #[derive(Drop)]
 pub struct WorkerConfig<'a> {
     pub settings: &'a NodeSettings,
-    pub waiting: Waiting,
+    pub waiting: WaitingClients,
 }

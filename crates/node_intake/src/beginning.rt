@@ -1,7 +1,7 @@
 //! The node before its workers begin, and what each of them begins with.
 ghost use Rattle.std.specs.Prelude.{◌≡◌};
 ghost use Rattle.node_intake.specs.Fault as spec;
-ghost use Rattle.change_log.specs.Names.{IsNamed};
+ghost use Rattle.shared_node.specs.Names.{IsNamed};
 
 use crate::floors::put_floors;
 use crate::intake::Intake;

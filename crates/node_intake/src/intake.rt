@@ -1,5 +1,5 @@
 //! Where connections are taken in.
-use crate::listeners::{Caller, Entrance, Listeners};
+use crate::listeners::{Caller, ListenerKind, Listeners};
 use crate::places::ClientPlaces;
 use crate::queue::{MOST_QUEUED, Queue};
 use crate::worker_intakes::WorkerIntakes;
@@ -87,7 +87,7 @@ impl Intake {
 
     // Hands the next node that connected to worker 0. False where none waited.
     fn take_peer<R: Wait + Clock>(&mut self, rt: &R) -> bool {
-        match self.listeners.accept(rt, Entrance::Peers) {
+        match self.listeners.accept(rt, ListenerKind::Peers) {
             Caller::Nobody => false,
             Caller::Gone => true,
             Caller::Connected(stream, address) => {

@@ -21,7 +21,7 @@ const PEERS: Token = Token(1);
 
 // Whom a listener is for.
 #[derive(Clone, Copy)]
-pub(crate) enum Entrance {
+pub(crate) enum ListenerKind {
     Clients,
     Peers,
 }
@@ -114,10 +114,10 @@ impl Listeners {
     }
 
     // The next who waits. The system tells of new connections only once nobody waited.
-    pub(crate) fn accept<R: Wait + Clock>(&mut self, rt: &R, entrance: Entrance) -> Caller {
+    pub(crate) fn accept<R: Wait + Clock>(&mut self, rt: &R, entrance: ListenerKind) -> Caller {
         let accepted = match entrance {
-            Entrance::Clients => self.clients.accept(),
-            Entrance::Peers => self.peers.accept(),
+            ListenerKind::Clients => self.clients.accept(),
+            ListenerKind::Peers => self.peers.accept(),
         };
         match accepted {
             Ok((stream, address)) => Caller::Connected(stream, address),

@@ -1,6 +1,6 @@
 //! The places of clients, and who gives way where each is taken.
 use attach::{ClaimFault, Clerk, Places, Stand};
-use bnc_work::Waiting;
+use bnc_work::WaitingClients;
 use node_events::ServeFault;
 use std::alloc::{AllocError, Global};
 
@@ -9,7 +9,7 @@ const PATIENCE: u64 = 1000;
 
 // Who was handed in last at a place.
 #[derive(Clone, Copy)]
-struct Seat {
+struct Occupant {
     // How many were handed in before, at any place.
     before: u64,
     // When it was asked to go, by the monotonic clock.
@@ -20,14 +20,14 @@ struct Seat {
 #[derive(Drop)]
 pub(crate) struct ClientPlaces {
     clerk: Clerk,
-    waiting: Waiting,
-    seats: Vec<Option<Seat>>,
+    waiting: WaitingClients,
+    seats: Vec<Option<Occupant>>,
     // How many were handed in.
     count: u64,
 }
 
 // So many seats, at which nobody was.
-fn empty_seats(alloc: Global, places: usize) -> Result<Vec<Option<Seat>>, AllocError> {
+fn empty_seats(alloc: Global, places: usize) -> Result<Vec<Option<Occupant>>, AllocError> {
     let mut seats = Vec::new(alloc);
     for _ in 0..places {
         seats.push(None)?;
@@ -38,7 +38,7 @@ fn empty_seats(alloc: Global, places: usize) -> Result<Vec<Option<Seat>>, AllocE
 impl ClientPlaces {
     // So many places, which are all free.
     pub(crate) fn new(alloc: Global, places: usize) -> Result<ClientPlaces, ServeFault> {
-        let waiting = Waiting::new(alloc, places)?;
+        let waiting = WaitingClients::new(alloc, places)?;
         let clerk = Places::new(alloc, places)?;
         let seats = empty_seats(alloc, places)?;
         Ok(ClientPlaces {
@@ -50,7 +50,7 @@ impl ClientPlaces {
     }
 
     // Who waits to be registered, for the workers, who have the clients.
-    pub(crate) fn share_waiting(&self) -> Result<Waiting, AllocError> {
+    pub(crate) fn share_waiting(&self) -> Result<WaitingClients, AllocError> {
         self.waiting.try_clone()
     }
 
@@ -66,7 +66,7 @@ impl ClientPlaces {
 
     // The client at that place was handed in.
     pub(crate) fn note(&mut self, place: usize) {
-        let seat = Seat {
+        let seat = Occupant {
             before: self.count,
             asked_at: None,
         };
@@ -119,10 +119,10 @@ impl ClientPlaces {
 }
 
 // Whether it was asked to go a short while ago.
-fn is_leaving(seat: &Option<Seat>, now: u64) -> bool {
+fn is_leaving(seat: &Option<Occupant>, now: u64) -> bool {
     match seat {
         Some(
-            Seat {
+            Occupant {
                 asked_at: Some(at),
                 ..
             },
@@ -132,10 +132,10 @@ fn is_leaving(seat: &Option<Seat>, now: u64) -> bool {
 }
 
 // How many were handed in before it, where it wasn't asked to go.
-fn number_of(seat: &Option<Seat>) -> Option<u64> {
+fn number_of(seat: &Option<Occupant>) -> Option<u64> {
     match seat {
         Some(
-            Seat {
+            Occupant {
                 before,
                 asked_at: None,
             },

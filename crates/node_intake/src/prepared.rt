@@ -11,7 +11,7 @@ use crate::queue::Queue;
 use crate::settings::settings_of;
 use crate::workers::Workers;
 use bnc_sockets::{Dialer, NetDialer, PortSetup, monotonic_ms, now_ms};
-use bnc_work::{NodeSettings, Waiting};
+use bnc_work::{NodeSettings, WaitingClients};
 use chat_change::Change;
 use node_config::Config;
 use node_events::{Event, ServeFault};
@@ -30,7 +30,7 @@ pub struct Prepared<D: Dialer> {
     /// What never changes of the node.
     pub settings: NodeSettings,
     /// Which clients wait to be registered.
-    pub waiting: Waiting,
+    pub waiting: WaitingClients,
     /// The floors of accounts that are put before the workers begin.
     pub floors: Vec<Change>,
 }

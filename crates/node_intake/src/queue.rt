@@ -1,5 +1,5 @@
 //! Clients that wait for a place.
-use crate::listeners::{Caller, Entrance, Listeners};
+use crate::listeners::{Caller, ListenerKind, Listeners};
 use bnc_sockets::monotonic_ms;
 use mio::net::TcpStream;
 use node_events::{Event, Reason, Refusals, Shortage};
@@ -57,7 +57,7 @@ impl Queue {
         if self.clients.len() >= MOST_QUEUED {
             return false;
         }
-        match listeners.accept(rt, Entrance::Clients) {
+        match listeners.accept(rt, ListenerKind::Clients) {
             Caller::Nobody => false,
             Caller::Gone => true,
             Caller::Connected(stream, address) => {

@@ -2,7 +2,7 @@
 
 /// What happens.
 #[derive(Clone, Copy)]
-pub enum Act<'a> {
+pub enum PlayedAct<'a> {
     /// So many milliseconds pass.
     Wait(u64),
     /// The wall clock is set ahead by so many milliseconds.
@@ -30,12 +30,12 @@ pub enum Act<'a> {
     /// The connection that was begun under that number can't be made.
     Refused(usize),
     /// The other end of that connection does something.
-    To(usize, Turn<'a>),
+    To(usize, FarTurn<'a>),
 }
 
 /// What the other end of a connection does.
 #[derive(Clone, Copy)]
-pub enum Turn<'a> {
+pub enum FarTurn<'a> {
     /// A line comes.
     Line(&'a str),
     /// A line comes so many times, with whatever comes next.
@@ -62,65 +62,65 @@ pub fn number_in(text: &str) -> Option<usize> {
     text.parse::<usize>().ok()
 }
 
-fn takes_in(text: &str) -> Option<Turn<'_>> {
+fn takes_in(text: &str) -> Option<FarTurn<'_>> {
     match text.split_once(" of ") {
-        Some((at_once, most)) => Some(Turn::Takes(number_in(at_once)?, number_in(most)?)),
-        None => Some(Turn::Takes(number_in(text)?, usize::MAX)),
+        Some((at_once, most)) => Some(FarTurn::Takes(number_in(at_once)?, number_in(most)?)),
+        None => Some(FarTurn::Takes(number_in(text)?, usize::MAX)),
     }
 }
 
-fn many_in(text: &str) -> Option<Turn<'_>> {
+fn many_in(text: &str) -> Option<FarTurn<'_>> {
     let (count, line) = cut(text);
-    Some(Turn::Many(number_in(count)?, line))
+    Some(FarTurn::Many(number_in(count)?, line))
 }
 
 // The turn that a word and the text behind it spell.
-fn turn_in<'a>(word: &str, rest: &'a str) -> Option<Turn<'a>> {
+fn turn_in<'a>(word: &str, rest: &'a str) -> Option<FarTurn<'a>> {
     match word {
-        "<" => Some(Turn::Line(rest)),
-        "+" => Some(Turn::Many(1, rest)),
+        "<" => Some(FarTurn::Line(rest)),
+        "+" => Some(FarTurn::Many(1, rest)),
         "many" => many_in(rest),
-        "." => Some(Turn::Part(rest)),
-        "ends" => Some(Turn::Ends),
-        "gone" => Some(Turn::Gone),
+        "." => Some(FarTurn::Part(rest)),
+        "ends" => Some(FarTurn::Ends),
+        "gone" => Some(FarTurn::Gone),
         "takes" => takes_in(rest),
-        "gives" => Some(Turn::Gives(number_in(rest)?)),
+        "gives" => Some(FarTurn::Gives(number_in(rest)?)),
         _ => None,
     }
 }
 
 // What happens to a connection.
-fn act_at(number: usize, text: &str) -> Option<Act<'_>> {
+fn act_at(number: usize, text: &str) -> Option<PlayedAct<'_>> {
     let (word, rest) = cut(text);
     match word {
-        "client" => Some(Act::Client(number, number_in(rest)?)),
-        "peer" => Some(Act::Peer(number)),
-        "opens" => Some(Act::Opens(number)),
-        "refused" => Some(Act::Refused(number)),
-        _ => Some(Act::To(number, turn_in(word, rest)?)),
+        "client" => Some(PlayedAct::Client(number, number_in(rest)?)),
+        "peer" => Some(PlayedAct::Peer(number)),
+        "opens" => Some(PlayedAct::Opens(number)),
+        "refused" => Some(PlayedAct::Refused(number)),
+        _ => Some(PlayedAct::To(number, turn_in(word, rest)?)),
     }
 }
 
 // An act that has a number behind its word.
-fn numbered_act(word: &str, number: usize) -> Option<Act<'static>> {
+fn numbered_act(word: &str, number: usize) -> Option<PlayedAct<'static>> {
     match word {
-        "wait" => Some(Act::Wait(number as u64)),
-        "ahead" => Some(Act::Ahead(number as u64)),
-        "back" => Some(Act::Back(number as u64)),
-        "leave" => Some(Act::Leave(number)),
-        "together" => Some(Act::Together(number)),
+        "wait" => Some(PlayedAct::Wait(number as u64)),
+        "ahead" => Some(PlayedAct::Ahead(number as u64)),
+        "back" => Some(PlayedAct::Back(number as u64)),
+        "leave" => Some(PlayedAct::Leave(number)),
+        "together" => Some(PlayedAct::Together(number)),
         _ => None,
     }
 }
 
 /// The act that a line of a case spells.
-pub fn act_in(text: &str) -> Option<Act<'_>> {
+pub fn act_in(text: &str) -> Option<PlayedAct<'_>> {
     let (word, rest) = cut(text);
     match word {
-        "stop" => Some(Act::Stop),
-        "fail" => Some(Act::Fail),
-        "mail" => Some(Act::Mail),
-        "pause" => Some(Act::Pause),
+        "stop" => Some(PlayedAct::Stop),
+        "fail" => Some(PlayedAct::Fail),
+        "mail" => Some(PlayedAct::Mail),
+        "pause" => Some(PlayedAct::Pause),
         _ => match number_in(word) {
             Some(number) => act_at(number, rest),
             None => numbered_act(word, number_in(rest)?),

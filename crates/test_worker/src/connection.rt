@@ -1,9 +1,9 @@
 //! A connection of a port of memory.
 ghost use Rattle.std.specs.Prelude.{◌≡◌};
 
-use crate::line::Line;
-use crate::site::Site;
-use node_ports::{Connection, Fresh, Halt, Journal, Origin, Piece};
+use crate::wire::Wire;
+use bnc_work::NodeSite;
+use node_ports::{Connection, Fresh, FurtherBytes, Halt, Origin, Transcript};
 use shared_node::{Naming, Receipt};
 use std::alloc::AllocError;
 use std::marker::PhantomData;
@@ -11,27 +11,27 @@ use std::net::{Ipv4Addr, SocketAddr};
 use std::sync::{Arc, Mutex, Wait};
 use worker_pass::{Witness, WorkerView};
 
-/// A connection of a node that `S` says, under the number by which the acts of a case name it. Its line is the port's too, which
+/// A connection of a node that `S` says, under the number by which the acts of a case name it. Its wire is the port's too, which
 /// so plays the other end, and sees that the connection is closed as it is let go.
-pub struct MemoryConnection<S: Site, R: Wait + Drop> {
+pub struct MemoryConnection<S: NodeSite, R: Wait + Drop> {
     rt: R,
-    line: Arc<Mutex<Line>>,
+    wire: Arc<Mutex<Wire>>,
     number: usize,
     origin: Origin,
     serial: u64,
     // behind how many others it joined a network, if it did
     joined: Option<u64>,
-    received: Journal,
-    sent: Journal,
+    received: Transcript,
+    sent: Transcript,
     of: PhantomData<S>,
 }
 
-impl<S: Site, R: Wait + Drop> Drop for MemoryConnection<S, R> {
+impl<S: NodeSite, R: Wait + Drop> Drop for MemoryConnection<S, R> {
     fn drop(self) {
-        self.line.lock(&self.rt).close();
+        self.wire.lock(&self.rt).close();
         let Self {
             rt: _,
-            line: _,
+            wire: _,
             number: _,
             origin: _,
             serial: _,
@@ -43,11 +43,11 @@ impl<S: Site, R: Wait + Drop> Drop for MemoryConnection<S, R> {
     }
 }
 
-impl<S: Site, R: Wait + Drop> MemoryConnection<S, R> {
-    /// The connection of that number over that line, over which nothing went.
+impl<S: NodeSite, R: Wait + Drop> MemoryConnection<S, R> {
+    /// The connection of that number over that wire, over which nothing went.
     pub fn over(
         rt: R,
-        line: Arc<Mutex<Line>>,
+        wire: Arc<Mutex<Wire>>,
         number: usize,
         origin: Origin,
         serial: u64,
@@ -57,13 +57,13 @@ impl<S: Site, R: Wait + Drop> MemoryConnection<S, R> {
         Fresh {
             connection: MemoryConnection {
                 rt,
-                line,
+                wire,
                 number,
                 origin,
                 serial,
                 joined: None,
-                received: Journal::new(),
-                sent: Journal::new(),
+                received: Transcript::new(),
+                sent: Transcript::new(),
                 of: PhantomData,
             },
         }
@@ -74,14 +74,14 @@ impl<S: Site, R: Wait + Drop> MemoryConnection<S, R> {
         self.number
     }
 
-    /// Its line, for the port that tells its worker of it.
-    pub fn line(&self) -> Result<Arc<Mutex<Line>>, AllocError> {
-        Arc::try_clone(&self.line)
+    /// Its wire, for the port that tells its worker of it.
+    pub fn wire(&self) -> Result<Arc<Mutex<Wire>>, AllocError> {
+        Arc::try_clone(&self.wire)
     }
 }
 
-impl<S: Site, R: Wait + Drop> Connection for MemoryConnection<S, R> {
-    ghost use Rattle.test_worker.specs.Settings.{facts_of};
+impl<S: NodeSite, R: Wait + Drop> Connection for MemoryConnection<S, R> {
+    ghost use Rattle.bnc_work.specs.Site.{facts_of};
 
     ghost facts = { facts_of S.settings };
 
@@ -107,8 +107,8 @@ impl<S: Site, R: Wait + Drop> Connection for MemoryConnection<S, R> {
     }
 
     fn receive(&mut self, buffer: &mut [u8]) -> Result<usize, Halt> {
-        let count = self.line.lock(&self.rt).take(buffer)?;
-        let piece = Piece {
+        let count = self.wire.lock(&self.rt).take(buffer)?;
+        let piece = FurtherBytes {
             bytes: &buffer[..count],
         };
         self.received = self.received.then(&piece);
@@ -116,8 +116,8 @@ impl<S: Site, R: Wait + Drop> Connection for MemoryConnection<S, R> {
     }
 
     fn send(&mut self, bytes: &[u8]) -> Result<usize, Halt> {
-        let count = self.line.lock(&self.rt).put(bytes)?;
-        let piece = Piece {
+        let count = self.wire.lock(&self.rt).put(bytes)?;
+        let piece = FurtherBytes {
             bytes: &bytes[..count],
         };
         self.sent = self.sent.then(&piece);
@@ -130,7 +130,7 @@ impl<S: Site, R: Wait + Drop> Connection for MemoryConnection<S, R> {
 }
 
 // Its facts say no more of what is held and put than the words.
-impl<J: Naming, S: Site, R: Wait + Drop> Witness<J> for MemoryConnection<S, R> {
+impl<J: Naming, S: NodeSite, R: Wait + Drop> Witness<J> for MemoryConnection<S, R> {
     fn is_held(_receipt: &Receipt<J>) {}
 
     fn is_put(_view: &WorkerView<J>) {}

@@ -1,16 +1,16 @@
 //! Where the clients of a port of memory get their places.
 use crate::lists::with_one;
 use attach::{Clerk, Places, RingClient, Stand};
-use bnc_work::Waiting;
+use bnc_work::WaitingClients;
 use std::alloc::Global;
 
 /// Hands out the places of clients. Those of each port are its own, behind those of the ports before it.
 #[derive(Drop)]
-pub struct Entrance {
+pub struct PlaceGiver {
     clerk: Clerk,
     // the places of the ports before it
     _others: Vec<Stand>,
-    waiting: Waiting,
+    waiting: WaitingClients,
 }
 
 // Claims so many places.
@@ -22,13 +22,18 @@ fn claimed(alloc: Global, clerk: &mut Clerk, count: usize) -> Option<Vec<Stand>>
     Some(stands)
 }
 
-impl Entrance {
+impl PlaceGiver {
     /// The entrance of that worker, with so many places. None is want of memory.
-    pub fn new(alloc: Global, worker: usize, places: usize, waiting: &Waiting) -> Option<Entrance> {
+    pub fn new(
+        alloc: Global,
+        worker: usize,
+        places: usize,
+        waiting: &WaitingClients,
+    ) -> Option<PlaceGiver> {
         let before = worker.checked_mul(places)?;
         let mut clerk = Places::new(alloc, before.checked_add(places)?).ok()?;
         let others = claimed(alloc, &mut clerk, before)?;
-        Some(Entrance {
+        Some(PlaceGiver {
             clerk,
             _others: others,
             waiting: waiting.try_clone().ok()?,

@@ -57,8 +57,6 @@ mod act;
 mod connection;
 mod entrance;
 mod gate;
-mod line;
-mod lines;
 mod lists;
 mod node_settings;
 mod others;
@@ -67,8 +65,9 @@ mod port;
 mod post;
 mod script;
 mod setting;
-mod site;
 mod times;
+mod wire;
+mod wires;
 
 use play::played;
 use setting::{Setting, USUAL, setting_in};
@@ -80,24 +79,24 @@ use std::{env, fs, io};
 
 /// What a worker begins with, and what happens and is to come of it.
 #[derive(Clone, Copy)]
-struct Case<'a> {
+struct WorkerCase<'a> {
     name: &'a str,
     setting: Setting<'a>,
     script: &'a str,
 }
 
 /// The case that a part of a file spells: None without its marks.
-fn case_in(part: &str) -> Option<Case<'_>> {
+fn case_in(part: &str) -> Option<WorkerCase<'_>> {
     let (name, rest) = part.split_once("\n")?;
     let Some(rest) = rest.strip_prefix("with ") else {
-        return Some(Case {
+        return Some(WorkerCase {
             name,
             setting: USUAL,
             script: rest,
         });
     };
     let (parts, script) = rest.split_once("\n")?;
-    Some(Case {
+    Some(WorkerCase {
         name,
         setting: setting_in(parts),
         script,
@@ -111,7 +110,7 @@ fn print_wrong<R: Print + AllocGlobal>(rt: &R, name: &str, told: &[u8]) -> io::R
 }
 
 /// Plays a case, and says whether it gave what is expected.
-fn is_right<R>(rt: &R, case: Case<'_>) -> io::Result<bool>
+fn is_right<R>(rt: &R, case: WorkerCase<'_>) -> io::Result<bool>
 where
     R: Print + Threads + Wait + Clock + AllocGlobal + Copy + Send + Sync + Drop,
 {

@@ -1,17 +1,16 @@
 //! Plays one case.
 ghost use Rattle.std.specs.Prelude.{◌≡◌};
-ghost use Rattle.change_log.specs.Names.{IsNamed};
-ghost use Rattle.test_worker.specs.Settings.{settings_of};
+ghost use Rattle.shared_node.specs.Names.{IsNamed};
+ghost use Rattle.bnc_work.specs.Site.{settings_of};
 
-use crate::entrance::Entrance;
+use crate::entrance::PlaceGiver;
 use crate::gate::Latch;
 use crate::lists::{in_step, with_one};
 use crate::others::tell_others;
 use crate::port::{MemoryPort, PortOf};
 use crate::post::Post;
-use crate::site::Site;
-use crate::{Case, node_settings};
-use bnc_work::{NodeSettings, Waiting, WorkEnd, WorkerConfig, work_all};
+use crate::{WorkerCase, node_settings};
+use bnc_work::{NodeSettings, NodeSite, WaitingClients, WorkEnd, WorkerConfig, work_all};
 use shared_node::{Naming, Pass, SharedNode, Unnamed};
 use std::alloc::Global;
 use std::io;
@@ -35,18 +34,18 @@ fn put_posts<J: Naming, R: Wait + Drop>(
 }
 
 // So many workers play a case.
-fn workers_of(case: Case<'_>) -> usize {
+fn workers_of(case: WorkerCase<'_>) -> usize {
     case.script.split("--\n").count()
 }
 
 // The ports of the workers, on each of which a part of the script is played.
-fn ports_of<S: Site, R: Wait + Clock + Copy + Drop>(
+fn ports_of<S: NodeSite, R: Wait + Clock + Copy + Drop>(
     rt: R,
     alloc: Global,
-    case: Case<'_>,
-    waiting: &Waiting,
+    case: WorkerCase<'_>,
+    waiting: &WaitingClients,
 ) -> Option<Vec<PortOf<S, R>>> {
-    let Case {
+    let WorkerCase {
         setting,
         script,
         ..
@@ -54,7 +53,7 @@ fn ports_of<S: Site, R: Wait + Clock + Copy + Drop>(
     let posts = Post::all(alloc, workers_of(case))?;
     let mut ports = Vec::new(alloc);
     for ((worker, post), part) in posts.into_iter().enumerate().zip(script.split("--\n")) {
-        let entrance = Entrance::new(alloc, worker, setting.places, waiting)?;
+        let entrance = PlaceGiver::new(alloc, worker, setting.places, waiting)?;
         let port = MemoryPort::new(rt, alloc, setting, entrance, post, part);
         ports = with_one(ports, port)?;
     }
@@ -70,7 +69,7 @@ fn name_of(end: WorkEnd) -> &'static str {
 }
 
 // Tells how the work ended, and appends all that the port told, behind a line `--` where another one has told something.
-fn tell_end<S: Site, R: Wait + Clock + Copy + Drop>(
+fn tell_end<S: NodeSite, R: Wait + Clock + Copy + Drop>(
     port: &mut PortOf<S, R>,
     end: WorkEnd,
     told: &mut Vec<u8>,
@@ -87,13 +86,13 @@ fn run<J, S, R>(
     rt: &R,
     node: &SharedNode<J, &R>,
     mut passes: Vec<Pass<J>>,
-    case: Case<'_>,
+    case: WorkerCase<'_>,
     config: WorkerConfig<'_>,
     mut ports: Vec<PortOf<S, R>>,
 ) -> Option<Vec<u8>>
 where
     J: Naming + Send + Sync,
-    S: Site + Send + Sync,
+    S: NodeSite + Send + Sync,
     R: Threads + Wait + Clock + AllocGlobal + Copy + Send + Sync + Drop,
     requires { settings_of config.settings.now ≡ S.settings }
 {
@@ -112,17 +111,22 @@ where
 }
 
 // Plays a case on a node of that name and these settings.
-fn play<J, S, R>(rt: &R, name: Unnamed, case: Case<'_>, settings: &NodeSettings) -> Option<Vec<u8>>
+fn play<J, S, R>(
+    rt: &R,
+    name: Unnamed,
+    case: WorkerCase<'_>,
+    settings: &NodeSettings,
+) -> Option<Vec<u8>>
 where
     J: Naming + Send + Sync,
-    S: Site + Send + Sync,
+    S: NodeSite + Send + Sync,
     R: Threads + Wait + Clock + AllocGlobal + Copy + Send + Sync + Drop,
     requires name { IsNamed J.book J.name J.parts name }
     requires settings { settings_of settings.now ≡ S.settings }
 {
     let alloc = rt.alloc();
     let places = workers_of(case).checked_mul(case.setting.places)?;
-    let waiting = Waiting::new(alloc, places).ok()?;
+    let waiting = WaitingClients::new(alloc, places).ok()?;
     let ports = ports_of::<S, R>(*rt, alloc, case, &waiting)?;
     let Ok((node, passes)) = SharedNode::<J, &R>::new(alloc, rt, name) else {
         return None;
@@ -132,7 +136,7 @@ where
 }
 
 /// What a case gives: its acts, and what follows each. None where it can't be played.
-pub fn played<R>(rt: &R, case: Case<'_>) -> Option<Vec<u8>>
+pub fn played<R>(rt: &R, case: WorkerCase<'_>) -> Option<Vec<u8>>
 where
     R: Threads + Wait + Clock + AllocGlobal + Copy + Send + Sync + Drop,
 {

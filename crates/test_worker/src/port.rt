@@ -1,17 +1,17 @@
 //! A port of memory, which plays the acts of a case and tells what comes of them.
 ghost use Rattle.std.specs.Prelude.{◌≡◌};
 
-use crate::act::{Act, act_in};
+use crate::act::{PlayedAct, act_in};
 use crate::connection::MemoryConnection;
-use crate::entrance::Entrance;
-use crate::line::Readiness;
-use crate::lines::{Lines, SharedLine};
+use crate::entrance::PlaceGiver;
 use crate::post::{Post, note_mail};
 use crate::script::Script;
 use crate::setting::Setting;
-use crate::site::Site;
 use crate::times::Times;
+use crate::wire::Readiness;
+use crate::wires::{SharedWire, Wires};
 use attach::RingClient;
+use bnc_work::NodeSite;
 use network_client::{Dial, Happening, Mail, Port, PortFault};
 use node_events::{Clocks, Event, Unreached};
 use node_ports::{Connection, Fresh, Origin};
@@ -37,8 +37,8 @@ pub struct MemoryPort<C: Connection, R: Wait + Drop> {
     alloc: Global,
     script: Script,
     times: Times,
-    lines: Lines<R>,
-    entrance: Entrance,
+    wires: Wires<R>,
+    entrance: PlaceGiver,
     post: Post<C>,
     // so many connections were there
     serial: u64,
@@ -69,13 +69,13 @@ fn origin_of(what: Dial) -> Origin {
     }
 }
 
-impl<S: Site, R: Wait + Clock + Copy + Drop> MemoryPort<MemoryConnection<S, R>, R> {
+impl<S: NodeSite, R: Wait + Clock + Copy + Drop> MemoryPort<MemoryConnection<S, R>, R> {
     /// A port on which a script is played. None is want of memory.
     pub fn new(
         rt: R,
         alloc: Global,
         setting: Setting<'_>,
-        entrance: Entrance,
+        entrance: PlaceGiver,
         post: Post<MemoryConnection<S, R>>,
         script: &str,
     ) -> Option<PortOf<S, R>> {
@@ -84,7 +84,7 @@ impl<S: Site, R: Wait + Clock + Copy + Drop> MemoryPort<MemoryConnection<S, R>, 
             alloc,
             script: Script::new(alloc, script).ok()?,
             times: Times::new(setting.clock),
-            lines: Lines::new(rt, alloc, setting.can_dial),
+            wires: Wires::new(rt, alloc, setting.can_dial),
             entrance,
             post,
             serial: 0,
@@ -116,14 +116,14 @@ impl<S: Site, R: Wait + Clock + Copy + Drop> MemoryPort<MemoryConnection<S, R>, 
         if patience == 0 {
             return Some(Happening::Nothing);
         }
-        let readiness = self.lines.go_on();
+        let readiness = self.wires.go_on();
         if readiness.is_some() {
             return Some(ready(readiness));
         }
         if self.times.pass(patience) {
             return Some(Happening::Nothing);
         }
-        self.lines.tell(&mut self.told).ok()?;
+        self.wires.tell(&mut self.told).ok()?;
         self.next_act()
     }
 
@@ -139,23 +139,23 @@ impl<S: Site, R: Wait + Clock + Copy + Drop> MemoryPort<MemoryConnection<S, R>, 
     fn play(&mut self, text: &str) -> Option<Next<S, R>> {
         tell_line(&mut self.told, "", text).ok()?;
         match act_in(text)? {
-            Act::Wait(time) => self.times.wait(time),
-            Act::Ahead(time) => self.times.set_ahead(time),
-            Act::Back(time) => self.times.set_back(time),
-            Act::Stop => self.times.stop(),
-            Act::Together(count) => self.script.set_together(count),
-            Act::Pause => {}
-            Act::Fail => return None,
-            Act::Leave(place) => {
+            PlayedAct::Wait(time) => self.times.wait(time),
+            PlayedAct::Ahead(time) => self.times.set_ahead(time),
+            PlayedAct::Back(time) => self.times.set_back(time),
+            PlayedAct::Stop => self.times.stop(),
+            PlayedAct::Together(count) => self.script.set_together(count),
+            PlayedAct::Pause => {}
+            PlayedAct::Fail => return None,
+            PlayedAct::Leave(place) => {
                 self.entrance.ask(place);
                 return Some(Happening::Leave);
             }
-            Act::Mail => return self.next_mail(),
-            Act::Client(number, bound) => return self.bring_client(number, bound),
-            Act::Peer(number) => return self.bring_peer(number),
-            Act::Opens(number) => return self.open(number),
-            Act::Refused(number) => return self.refuse(number),
-            Act::To(number, turn) => return Some(ready(self.lines.play(number, turn)?)),
+            PlayedAct::Mail => return self.next_mail(),
+            PlayedAct::Client(number, bound) => return self.bring_client(number, bound),
+            PlayedAct::Peer(number) => return self.bring_peer(number),
+            PlayedAct::Opens(number) => return self.open(number),
+            PlayedAct::Refused(number) => return self.refuse(number),
+            PlayedAct::To(number, turn) => return Some(ready(self.wires.play(number, turn)?)),
         }
         Some(Happening::Nothing)
     }
@@ -165,23 +165,23 @@ impl<S: Site, R: Wait + Clock + Copy + Drop> MemoryPort<MemoryConnection<S, R>, 
         Some(Happening::Mail(self.post.next(&self.rt)?))
     }
 
-    // A connection over that line, over which nothing went.
+    // A connection over that wire, over which nothing went.
     fn connection(
         &mut self,
         number: usize,
-        line: SharedLine,
+        wire: SharedWire,
         origin: Origin,
     ) -> Fresh<MemoryConnection<S, R>>
         ensures { result.connection.origin ≡ origin }
     {
         self.serial = self.serial.wrapping_add(1);
-        MemoryConnection::over(self.rt, line, number, origin, self.serial)
+        MemoryConnection::over(self.rt, wire, number, origin, self.serial)
     }
 
     // A node comes.
     fn bring_peer(&mut self, number: usize) -> Option<Next<S, R>> {
-        let line = self.lines.connect(number, None)?;
-        let fresh = self.connection(number, line, Origin::PeerCame);
+        let wire = self.wires.connect(number, None)?;
+        let fresh = self.connection(number, wire, Origin::PeerCame);
         Some(Happening::Came(fresh))
     }
 
@@ -193,21 +193,21 @@ impl<S: Site, R: Wait + Clock + Copy + Drop> MemoryPort<MemoryConnection<S, R>, 
         };
         write!(self.told, "    {number} place {}\n", stand.place()).ok()?;
         let ring = RingClient::new(self.alloc, stand, bound).ok()?;
-        let line = self.lines.connect(number, None)?;
-        let fresh = self.connection(number, line, Origin::ClientCame);
+        let wire = self.wires.connect(number, None)?;
+        let fresh = self.connection(number, wire, Origin::ClientCame);
         Some(Happening::Client { fresh, ring })
     }
 
     // The connection that was begun under that number is there.
     fn open(&mut self, number: usize) -> Option<Next<S, R>> {
-        let (line, what) = self.lines.dialed(number)?;
-        let fresh = self.connection(number, line, origin_of(what));
+        let (wire, what) = self.wires.dialed(number)?;
+        let fresh = self.connection(number, wire, origin_of(what));
         Some(Happening::Came(fresh))
     }
 
     // It can't be made.
     fn refuse(&mut self, number: usize) -> Option<Next<S, R>> {
-        let (_, what) = self.lines.dialed(number)?;
+        let (_, what) = self.wires.dialed(number)?;
         Some(Happening::Refused {
             what,
             why: Unreached::System(ErrorKind::ConnectionRefused),
@@ -221,20 +221,20 @@ impl<S: Site, R: Wait + Clock + Copy + Drop> MemoryPort<MemoryConnection<S, R>, 
 
     // Begins a connection.
     fn begin(&mut self, what: Dial) -> Option<()> {
-        let number = self.lines.begin(what)?;
+        let number = self.wires.begin(what)?;
         let (kind, place) = words_of(what);
         write!(self.told, "    {number} dials {kind} {place}\n").ok()
     }
 
     // The worker is told of that connection under that token from now on.
     fn tell_of(&mut self, connection: &MemoryConnection<S, R>, token: usize) -> Option<()> {
-        let line = connection.line().ok()?;
-        self.lines.watch(connection.number(), line, token)
+        let wire = connection.wire().ok()?;
+        self.wires.watch(connection.number(), wire, token)
     }
 
     // That connection moves to another worker.
     fn let_go(&mut self, connection: &MemoryConnection<S, R>) {
-        let _ = self.lines.let_go(connection.number(), &mut self.told);
+        let _ = self.wires.let_go(connection.number(), &mut self.told);
     }
 
     // Notes the mail, and hands it to that worker.
@@ -245,7 +245,7 @@ impl<S: Site, R: Wait + Clock + Copy + Drop> MemoryPort<MemoryConnection<S, R>, 
 }
 
 // What the worker is told.
-fn ready<S: Site, R: Wait + Drop>(readiness: Option<Readiness>) -> Next<S, R> {
+fn ready<S: NodeSite, R: Wait + Drop>(readiness: Option<Readiness>) -> Next<S, R> {
     match readiness {
         Some(Readiness { token, sign }) => Happening::Ready {
             token,
@@ -256,7 +256,8 @@ fn ready<S: Site, R: Wait + Drop>(readiness: Option<Readiness>) -> Next<S, R> {
     }
 }
 
-impl<S: Site, R: Wait + Clock + Copy + Drop> Port for &mut MemoryPort<MemoryConnection<S, R>, R> {
+impl<S: NodeSite, R: Wait + Clock + Copy + Drop> Port
+    for &mut MemoryPort<MemoryConnection<S, R>, R> {
     type Connection = MemoryConnection<S, R>;
 
     fn next(&mut self, patience: u64) -> Result<Next<S, R>, PortFault> {

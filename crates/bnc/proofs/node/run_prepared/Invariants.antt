@@ -1,3 +1,4 @@
+use Rattle.bnc_work.specs.Site.{settings_of}
 use Rattle.bnc.proofs.node.run_prepared.Given as goal
 
 -- the node that was just made
@@ -8,13 +9,5 @@ abbrev pub ghosts-run_node-J-Ledger : goal.ghosts-run_node-J-Ledger
 ghosts-run_node-J-Ledger g a = record { name = a.name.blank.name; parts = a.name.blank.parts }
 
 -- what was just prepared
-abbrev pub ghosts-run_node-S-Site : goal.ghosts-run_node-S-Site
-ghosts-run_node-S-Site g a = record {
-  settings = record {
-    accounts = a.prepared.settings.accounts;
-    cluster = a.prepared.settings.cluster;
-    maximum = a.prepared.settings.maximum;
-    terms = a.prepared.settings.terms;
-    days = a.prepared.settings.retain_days;
-  };
-}
+abbrev pub ghosts-run_node-S-NodeSite : goal.ghosts-run_node-S-NodeSite
+ghosts-run_node-S-NodeSite g a = record { settings = settings_of a.prepared.settings }

@@ -1,4 +1,4 @@
-use Rattle.test_worker.specs.Settings.{settings_of}
+use Rattle.bnc_work.specs.Site.{settings_of}
 use Rattle.test_worker.proofs.play.played.Given as goal
 
 -- the node that is about to be made
@@ -9,5 +9,5 @@ abbrev pub ghosts-play-J-Ledger : goal.ghosts-play-J-Ledger
 ghosts-play-J-Ledger g a = record { name = a.name.blank.name; parts = a.name.blank.parts }
 
 -- what its configuration says
-abbrev pub ghosts-play-S-Site : goal.ghosts-play-S-Site
-ghosts-play-S-Site g a = record { settings = settings_of a.settings.now }
+abbrev pub ghosts-play-S-NodeSite : goal.ghosts-play-S-NodeSite
+ghosts-play-S-NodeSite g a = record { settings = settings_of a.settings.now }

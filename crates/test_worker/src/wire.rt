@@ -1,7 +1,7 @@
 //! What a port and a worker share of one connection.
 ghost use Rattle.std.specs.Prelude.{◌≤◌, length, IfOk};
 
-use crate::act::Turn;
+use crate::act::FarTurn;
 use byte_text::NoMemory;
 use network_client::Dial;
 use node_ports::{Halt, Pending};
@@ -65,9 +65,9 @@ pub struct Readiness {
     pub sign: Sign,
 }
 
-/// A connection.
+/// A connection of a case.
 #[derive(Drop)]
-pub struct Line {
+pub struct Wire {
     input: Pending,
     // so many bytes of the input are there
     arrived: usize,
@@ -87,10 +87,10 @@ pub struct Line {
     dialed: Option<Dial>,
 }
 
-impl Line {
+impl Wire {
     /// A connection whose other end takes all that is sent. It was dialed, or not.
-    pub fn new(alloc: Global, dialed: Option<Dial>) -> Line {
-        Line {
+    pub fn new(alloc: Global, dialed: Option<Dial>) -> Wire {
+        Wire {
             input: Pending::new(alloc),
             arrived: 0,
             gives: usize::MAX,
@@ -147,26 +147,26 @@ impl Line {
     }
 
     // The other end has its turn.
-    fn turn(&mut self, turn: Turn<'_>) -> Result<Sign, NoMemory> {
+    fn turn(&mut self, turn: FarTurn<'_>) -> Result<Sign, NoMemory> {
         match turn {
-            Turn::Line(text) => self.come_lines(1, text)?,
-            Turn::Part(text) => self.come(text.as_bytes())?,
-            Turn::Ends => self.other = Other::Ended,
-            Turn::Many(count, text) => {
+            FarTurn::Line(text) => self.come_lines(1, text)?,
+            FarTurn::Part(text) => self.come(text.as_bytes())?,
+            FarTurn::Ends => self.other = Other::Ended,
+            FarTurn::Many(count, text) => {
                 self.come_lines(count, text)?;
                 return Ok(Sign::NOTHING);
             }
-            Turn::Takes(at_once, most) => {
+            FarTurn::Takes(at_once, most) => {
                 self.at_once = at_once;
                 self.left = most;
                 self.room = 0;
                 return Ok(Sign::NOTHING);
             }
-            Turn::Gives(count) => {
+            FarTurn::Gives(count) => {
                 self.gives = count;
                 return Ok(Sign::NOTHING);
             }
-            Turn::Gone => {
+            FarTurn::Gone => {
                 self.other = Other::Gone;
                 return Ok(Sign::BROKEN);
             }
@@ -175,7 +175,7 @@ impl Line {
     }
 
     /// The other end has its turn: what the worker is told of that.
-    pub fn play(&mut self, turn: Turn<'_>) -> Result<Option<Readiness>, NoMemory> {
+    pub fn play(&mut self, turn: FarTurn<'_>) -> Result<Option<Readiness>, NoMemory> {
         let sign = self.turn(turn)?;
         Ok(self.readiness(sign))
     }

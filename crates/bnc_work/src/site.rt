@@ -2,13 +2,13 @@
 use std::marker::Brand;
 
 /// Which node it is: what never changes of it. A caller picks that for each run of a node.
-pub trait Site: Drop {
-    ghost use Rattle.bnc_sockets.specs.Settings.{Settings};
+pub trait NodeSite: Drop {
+    ghost use Rattle.bnc_work.specs.Site.{Settings};
 
     ghost settings: { Settings };
 }
 
-impl Site for Brand {
+impl NodeSite for Brand {
     ghost use Rattle.std.specs.Prelude.{[]};
 
     ghost settings = { record {
