@@ -6,7 +6,7 @@ use std::fmt;
 
 /// What is wrong with a file that is damaged.
 #[derive(Clone, Copy, PartialEq, Eq)]
-pub(crate) enum Fault {
+pub(crate) enum DamageKind {
     /// A whole block is neither changes nor a life.
     NoEntry,
     /// What stands behind the last whole block isn't the end of an append that was cut short.
@@ -16,7 +16,7 @@ pub(crate) enum Fault {
 /// Where a file is damaged.
 #[derive(Clone, Copy, PartialEq, Eq)]
 pub(crate) struct Damage {
-    fault: Fault,
+    fault: DamageKind,
     // the first byte that isn't read, counted from 0, and its line, counted from 1
     at: usize,
     line: usize,
@@ -51,7 +51,7 @@ fn changes_in(bytes: &[u8]) -> usize
 
 impl Damage {
     /// The damage of a file that has these bytes, of which those from that place on aren't read.
-    pub(crate) fn of(fault: Fault, bytes: &[u8], at: usize) -> Damage
+    pub(crate) fn of(fault: DamageKind, bytes: &[u8], at: usize) -> Damage
         ensures fault { result.fault ≡ fault }
         ensures at { result.at ≡ min at (length bytes.now) }
         ensures line { result.line ≡ spec.lines_in (take result.at bytes.now) + 1 }
@@ -71,8 +71,8 @@ impl Damage {
 impl fmt::Display for Damage {
     fn fmt<W: fmt::Write>(&self, f: &mut fmt::Formatter<W>) -> fmt::Result {
         let fault = match self.fault {
-            Fault::NoEntry => "a block that has neither changes nor a life",
-            Fault::NoEnd => "bytes that no append leaves",
+            DamageKind::NoEntry => "a block that has neither changes nor a life",
+            DamageKind::NoEnd => "bytes that no append leaves",
         };
         write!(
             f,

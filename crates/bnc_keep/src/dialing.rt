@@ -16,16 +16,16 @@ const LAST: u64 = 5_000;
 
 /// How long no connection with a peer was there, in milliseconds of the monotonic clock.
 #[derive(Clone, Copy)]
-pub(crate) struct Dialing {
+pub(crate) struct Absence {
     missed_at: Option<u64>,
 }
 
-impl Dialing {
+impl Absence {
     /// There was none yet.
-    pub(crate) fn new() -> Dialing
+    pub(crate) fn new() -> Absence
         ensures { result.missed_at ≡ None }
     {
-        Dialing { missed_at: None }
+        Absence { missed_at: None }
     }
 
     /// There was one.

@@ -33,7 +33,7 @@ ghost use Rattle.std.specs.Prelude.{◌≡◌, ◌↔◌, Ok, IfErr};
 ghost use Rattle.std.specs.Process.{exit_status};
 ghost use Rattle.bnc_keep.specs.Status.{status_of};
 
-use crate::ending::End;
+use crate::ending::KeeperEnd;
 use crate::fault::KeepFault;
 use crate::program::end_of_program;
 use node_config::KeeperConfig;
@@ -43,20 +43,20 @@ use std::sync::atomic::{AtomicBool, Ordering};
 use std::{env, fs, io};
 
 /// The words behind the program's name.
-fn given_words(rt: &HostRuntime) -> Result<Vec<String>, End<'static>> {
+fn given_words(rt: &HostRuntime) -> Result<Vec<String>, KeeperEnd<'static>> {
     let all = match env::args(rt) {
         Ok(all) => all,
-        Err(e) => return Err(End::without_words(e.kind())),
+        Err(e) => return Err(KeeperEnd::without_words(e.kind())),
     };
     let words: Result<Vec<String>, _> = all.skip(1).collect(rt.alloc());
     match words {
         Ok(words) => Ok(words),
-        Err(_) => Err(End::NoMemory),
+        Err(_) => Err(KeeperEnd::NoMemory),
     }
 }
 
 /// Ends the program: with 0 exactly where its work is done. Else it writes to standard error why, where that is read.
-fn exit(rt: &HostRuntime, done: Result<(), End<'_>>, is_read: bool) -> ExitCode
+fn exit(rt: &HostRuntime, done: Result<(), KeeperEnd<'_>>, is_read: bool) -> ExitCode
     ensures success { (exit_status result ≡ 0) ↔ (done.entry ≡ Ok tt) }
     ensures failure { IfErr done.entry (λ end. exit_status result ≡ status_of end) }
 {

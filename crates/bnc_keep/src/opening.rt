@@ -8,7 +8,7 @@ ghost use Rattle.keeper.specs.Keeper.{Covers, HasTaken, Says};
 ghost use Rattle.real_file.specs.Members.{file_seen, file_may_leave};
 
 use crate::begun::Begun;
-use crate::damage::{Damage, Fault};
+use crate::damage::{Damage, DamageKind};
 use crate::fault::KeepFault;
 use bstr::BStr;
 use byte_text::NoMemory;
@@ -48,8 +48,8 @@ fn fault_of_reading(rt: &HostRuntime, path: &str, unread: Unread) -> KeepFault {
         FileFault::Memory => return KeepFault::NoMemory,
         FileFault::Full => return KeepFault::Full,
         FileFault::Failed => return last_error(),
-        FileFault::NoChanges => Fault::NoEntry,
-        FileFault::Damaged => Fault::NoEnd,
+        FileFault::NoChanges => DamageKind::NoEntry,
+        FileFault::Damaged => DamageKind::NoEnd,
     };
     match fs::read(rt, path) {
         Ok(bytes) => KeepFault::Damaged(Damage::of(fault, &bytes, unread.at)),

@@ -1,10 +1,10 @@
 //! A peer, with which a thread keeps up a connection.
 use crate::clocks::monotonic_ms;
-use crate::dialing::Dialing;
+use crate::dialing::Absence;
 use crate::event::KeeperEvent;
 use crate::lost::Lost;
 use crate::shared::Common;
-use crate::talk::{Bond, Talk};
+use crate::talk::{Bond, Contact, Talk};
 use byte_text::NoMemory;
 use node_config::PeerConfig;
 use node_events::{Event, Reason, Unreached};
@@ -38,38 +38,35 @@ fn connect(host: &HostRuntime, peer: &PeerConfig) -> Result<TcpStream, Unreached
 // What is known of the peer in the present life: that, or nothing yet where another life has begun since.
 fn bond_now<R: Wait + AllocGlobal>(
     rt: &R,
-    common: &Common<'_>,
-    peer: &PeerConfig,
+    contact: &Contact<'_>,
     bond: Option<Bond>,
 ) -> Result<Bond, NoMemory> {
     let terms = {
-        let shared = common.shared.lock(rt);
+        let shared = contact.common.shared.lock(rt);
         match bond {
             Some(bond) if shared.is_of(&bond.terms) => return Ok(bond),
             _ => Arc::try_clone(shared.kept.terms()).map_err(|_| NoMemory)?,
         }
     };
-    Bond::new(rt.alloc(), terms, &peer.name)
+    Bond::new(rt.alloc(), terms, &contact.peer.name)
 }
 
 // Talks with the peer over a stream until the connection is lost: why, and whether they had greeted each other.
 fn talk_over<R: Wait + Clock + AllocGlobal>(
     rt: &R,
-    common: &Common<'_>,
-    place: usize,
-    peer: &PeerConfig,
+    contact: &Contact<'_>,
     bond: &mut Bond,
     stream: TcpStream,
 ) -> (Lost, bool) {
     let now = monotonic_ms(rt);
-    let Ok(mut talk) = Talk::new(rt.alloc(), stream, place, &bond.terms, now) else {
+    let Ok(mut talk) = Talk::new(rt.alloc(), stream, contact.place, &bond.terms, now) else {
         return (Lost::Reason(Reason::NoMemory), false);
     };
     for _ in rt.forever() {
-        if let Err(lost) = talk.turn(rt, common, peer, bond) {
+        if let Err(lost) = talk.turn(rt, contact, bond) {
             return (lost, talk.is_greeted());
         }
-        if common.is_ending() {
+        if contact.common.is_ending() {
             break;
         }
     }
@@ -81,17 +78,16 @@ fn talk_over<R: Wait + Clock + AllocGlobal>(
 fn visit<R: Wait + Clock + AllocGlobal>(
     rt: &R,
     host: &HostRuntime,
-    common: &Common<'_>,
-    place: usize,
-    peer: &PeerConfig,
+    contact: &Contact<'_>,
     bond: &mut Bond,
     told_at: &mut Option<u64>,
 ) -> bool {
+    let peer = contact.peer;
     let node = peer.name.as_bytes();
     let address = peer.address;
     let (event, is_greeted) = match connect(host, peer) {
         Ok(stream) => {
-            let (lost, is_greeted) = talk_over(rt, common, place, peer, bond, stream);
+            let (lost, is_greeted) = talk_over(rt, contact, bond, stream);
             (
                 KeeperEvent::PeerLost {
                     node,
@@ -116,27 +112,32 @@ fn visit<R: Wait + Clock + AllocGlobal>(
         None => false,
     };
     if is_greeted || !is_told {
-        common.log.report(rt, &event);
+        contact.common.log.report(rt, &event);
         *told_at = if is_greeted { None } else { Some(now) };
     }
     is_greeted
 }
 
 /// Keeps up a connection with the peer at that place.
-pub(crate) fn keep_in_touch<R: Wait + Clock + AllocGlobal>(
+pub(crate) fn keep_in_touch<'a, R: Wait + Clock + AllocGlobal>(
     rt: &R,
     host: &HostRuntime,
-    common: &Common<'_>,
+    common: &'a Common<'a>,
     place: usize,
-    peer: &PeerConfig,
+    peer: &'a PeerConfig,
 ) {
-    let mut dialing = Dialing::new();
+    let contact = Contact {
+        common,
+        place,
+        peer,
+    };
+    let mut dialing = Absence::new();
     let mut told_at = None;
     let mut known = None;
     for _ in rt.forever() {
-        match bond_now(rt, common, peer, known) {
+        match bond_now(rt, &contact, known) {
             Ok(mut bond) => {
-                if visit(rt, host, common, place, peer, &mut bond, &mut told_at) {
+                if visit(rt, host, &contact, &mut bond, &mut told_at) {
                     dialing.met();
                 }
                 known = Some(bond);

@@ -4,7 +4,7 @@ ghost use Rattle.std.specs.Fn.{FnOnceReturnsAt};
 ghost use Rattle.bnc_keep.specs.Words.{spelled_path};
 ghost use Rattle.bnc_keep.specs.Program.{IsConfigOf, IsEndOfKeeping, Keeps, EndsAs};
 
-use crate::ending::End;
+use crate::ending::KeeperEnd;
 use crate::fault::KeepFault;
 use crate::words::path_in;
 use byte_text::Text;
@@ -17,27 +17,27 @@ fn config_in<'a>(
     alloc: Global,
     path: &'a str,
     read: io::Result<Vec<u8>>,
-) -> Result<KeeperConfig, End<'a>>
+) -> Result<KeeperConfig, KeeperEnd<'a>>
     ensures { IsConfigOf path.entry read result }
 {
     let bytes = match read {
         Ok(bytes) => bytes,
-        Err(error) => return Err(End::without_file(path, error.kind())),
+        Err(error) => return Err(KeeperEnd::without_file(path, error.kind())),
     };
     match read_keeper_config(alloc, &bytes) {
         Ok(config) => Ok(config),
-        Err(fault) => Err(End::without_config(alloc, &bytes, fault)),
+        Err(fault) => Err(KeeperEnd::without_config(alloc, &bytes, fault)),
     }
 }
 
 // How the program ends where nothing can be kept in that file.
-fn end_of_keeping(kept: Result<(), KeepFault>, file: Text) -> Result<(), End<'static>>
+fn end_of_keeping(kept: Result<(), KeepFault>, file: Text) -> Result<(), KeeperEnd<'static>>
     ensures { IsEndOfKeeping kept file result }
 {
     match kept {
         Ok(()) => Ok(()),
-        Err(KeepFault::NoMemory) => Err(End::NoMemory),
-        Err(fault) => Err(End::Keep(file, fault)),
+        Err(KeepFault::NoMemory) => Err(KeeperEnd::NoMemory),
+        Err(fault) => Err(KeeperEnd::Keep(file, fault)),
     }
 }
 
@@ -47,7 +47,7 @@ fn keep_by<'a, Files, Keep>(
     path: &'a str,
     read: Files,
     keep: Keep,
-) -> Result<(), End<'a>>
+) -> Result<(), KeeperEnd<'a>>
 where
     Files: FnOnce(&str) -> io::Result<Vec<u8>>,
     Keep: FnOnce(&KeeperConfig) -> Result<(), KeepFault>,
@@ -73,7 +73,7 @@ pub(crate) fn end_of_program<'a, Files, Keep>(
     words: &'a [String],
     read: Files,
     keep: Keep,
-) -> Result<(), End<'a>>
+) -> Result<(), KeeperEnd<'a>>
 where
     Files: FnOnce(&str) -> io::Result<Vec<u8>>,
     Keep: FnOnce(&KeeperConfig) -> Result<(), KeepFault>,
@@ -84,7 +84,7 @@ where
 {
     // Each branch returns, since the borrow checker doesn't join branches that move different values.
     match path_in(words) {
-        None => return Err(End::Usage),
+        None => return Err(KeeperEnd::Usage),
         Some(path) => return keep_by(alloc, path, read, keep),
     }
 }

@@ -4,7 +4,7 @@ use crate::event::KeeperEvent;
 use crate::fault::KeepFault;
 use crate::opening::open_file;
 use crate::peer::keep_in_touch;
-use crate::shared::{Common, Shared};
+use crate::shared::{Common, SharedKeeper};
 use crate::survey::Survey;
 use crate::version::{LOGIC, PROGRAM};
 use crate::watch::watch;
@@ -24,7 +24,7 @@ fn begin<R: Wait + Clock + AllocGlobal>(
     config: &KeeperConfig,
     path: &str,
     log: &Log,
-) -> Result<Shared, KeepFault> {
+) -> Result<SharedKeeper, KeepFault> {
     let began = monotonic_ms(rt);
     let opened = open_file(host, config, path, wall_ms(rt))?;
     let took = monotonic_ms(rt).saturating_sub(began);
@@ -40,7 +40,7 @@ fn begin<R: Wait + Clock + AllocGlobal>(
     if opened.cut > 0 {
         log.report(rt, &KeeperEvent::Cut { bytes: opened.cut });
     }
-    Ok(Shared::new(opened, found, monotonic_ms(rt)))
+    Ok(SharedKeeper::new(opened, found, monotonic_ms(rt)))
 }
 
 // A thread for each peer, and this one for the file.

@@ -14,7 +14,7 @@ use std::sync::atomic::{AtomicBool, Ordering};
 
 /// What is under the lock: what is kept, and when the file is written anew.
 #[derive(Drop)]
-pub(crate) struct Shared {
+pub(crate) struct SharedKeeper {
     pub(crate) kept: Kept<RealFile>,
     pub(crate) upkeep: Upkeep,
     // what the system said as the file failed, where it did
@@ -28,7 +28,7 @@ pub(crate) struct Common<'a> {
     /// The path of the file.
     pub(crate) path: &'a str,
     pub(crate) log: &'a Log,
-    pub(crate) shared: Mutex<Shared>,
+    pub(crate) shared: Mutex<SharedKeeper>,
     /// Whether all threads are to end.
     pub(crate) is_ending: AtomicBool,
 }
@@ -40,16 +40,16 @@ impl Common<'_> {
     }
 }
 
-impl Shared {
+impl SharedKeeper {
     /// Of a file that was opened at that moment, in milliseconds of the monotonic clock.
-    pub(crate) fn new(opened: Opened, survey: Survey, now: u64) -> Shared {
+    pub(crate) fn new(opened: Opened, survey: Survey, now: u64) -> SharedKeeper {
         let Opened {
             begun,
             count,
             cut: _,
         } = opened;
         let front = begun.keeper.state().front();
-        Shared {
+        SharedKeeper {
             kept: Kept::Open(begun),
             upkeep: Upkeep::new(count, front, survey.pieces, now),
             fault: None,

@@ -34,6 +34,15 @@ const GONE: u64 = 300_000;
 /// A peer that may have more, and sent no packet for so many milliseconds, has no more.
 const LAST: u64 = 10_000;
 
+/// The peer that a thread keeps in touch with, and what the threads share.
+#[derive(Clone, Copy)]
+pub(crate) struct Contact<'a> {
+    pub(crate) common: &'a Common<'a>,
+    /// The place of the peer among those that are configured.
+    pub(crate) place: usize,
+    pub(crate) peer: &'a PeerConfig,
+}
+
 /// What is known of a peer in one life of the keeper, over all connections.
 #[derive(Drop)]
 pub(crate) struct Bond {
@@ -164,8 +173,7 @@ impl<S: Read + Write> Talk<S> {
     pub(crate) fn turn<R: Wait + Clock + AllocGlobal>(
         &mut self,
         rt: &R,
-        common: &Common<'_>,
-        peer: &PeerConfig,
+        contact: &Contact<'_>,
         bond: &mut Bond,
     ) -> Result<(), Lost> {
         self.flush(monotonic_ms(rt))?;
@@ -173,11 +181,11 @@ impl<S: Read + Write> Talk<S> {
         let now = monotonic_ms(rt);
         if count > 0 {
             self.heard_at = now;
-            self.hear_all(rt, common, peer, bond, count, now)?;
+            self.hear_all(rt, contact, bond, count)?;
         }
         self.look_after(bond, now)?;
-        self.send_next(rt, common, bond, now)?;
-        self.tell_level(rt, common, peer, now);
+        self.send_next(rt, contact.common, bond, now)?;
+        self.tell_level(rt, contact, now);
         self.flush(now)
     }
 
@@ -215,11 +223,9 @@ impl<S: Read + Write> Talk<S> {
     fn hear_all<R: Wait + Clock + AllocGlobal>(
         &mut self,
         rt: &R,
-        common: &Common<'_>,
-        peer: &PeerConfig,
+        contact: &Contact<'_>,
         bond: &mut Bond,
         count: usize,
-        now: u64,
     ) -> Result<(), Lost> {
         let mut from = 0;
         for _ in 0..count {
@@ -230,7 +236,7 @@ impl<S: Read + Write> Talk<S> {
                 break;
             }
             from += self.feeder.feed(piece);
-            self.hear_lines(rt, common, peer, bond, now)?;
+            self.hear_lines(rt, contact, bond)?;
         }
         Ok(())
     }
@@ -239,17 +245,15 @@ impl<S: Read + Write> Talk<S> {
     fn hear_lines<R: Wait + Clock + AllocGlobal>(
         &mut self,
         rt: &R,
-        common: &Common<'_>,
-        peer: &PeerConfig,
+        contact: &Contact<'_>,
         bond: &mut Bond,
-        now: u64,
     ) -> Result<(), Lost> {
         for _ in 0..u64::MAX {
             let heard = match self.hear_next(rt.alloc(), &bond.terms) {
                 None => break,
                 Some(heard) => heard?,
             };
-            let done = self.take_in(rt, common, peer, bond, &heard, now);
+            let done = self.take_in(rt, contact, bond, &heard);
             drop(heard);
             done?;
         }
@@ -270,16 +274,14 @@ impl<S: Read + Write> Talk<S> {
     fn take_in<R: Wait + Clock + AllocGlobal>(
         &mut self,
         rt: &R,
-        common: &Common<'_>,
-        peer: &PeerConfig,
+        contact: &Contact<'_>,
         bond: &mut Bond,
         heard: &Heard,
-        now: u64,
     ) -> Result<(), Lost> {
         match heard {
             Heard::Nothing => Ok(()),
             Heard::Close(fault) => Err(Lost::from(*fault)),
-            Heard::Message(_, arrived) => self.arrive(rt, common, peer, bond, arrived, now),
+            Heard::Message(_, arrived) => self.arrive(rt, contact, bond, arrived),
         }
     }
 
@@ -287,18 +289,16 @@ impl<S: Read + Write> Talk<S> {
     fn arrive<R: Wait + Clock + AllocGlobal>(
         &mut self,
         rt: &R,
-        common: &Common<'_>,
-        peer: &PeerConfig,
+        contact: &Contact<'_>,
         bond: &mut Bond,
         arrived: &Arrived,
-        now: u64,
     ) -> Result<(), Lost> {
-        let outcome = self.carry_out(rt, common, bond, arrived, now)?;
+        let outcome = self.carry_out(rt, contact.common, bond, arrived)?;
         match arrived {
-            Arrived::Hello(life, _) => self.note_hello(rt, common, peer, bond, life, outcome, now),
+            Arrived::Hello(life, _) => self.note_hello(rt, contact, bond, life, outcome),
             Arrived::Packet(_) => {
                 let count = changes_of(arrived).len();
-                self.awaited = awaited_after(outcome, count, now, self.awaited);
+                self.awaited = awaited_after(outcome, count, self.heard_at, self.awaited);
                 Ok(())
             }
             Arrived::Word(_) | Arrived::Ack(_) => Ok(()),
@@ -312,7 +312,6 @@ impl<S: Read + Write> Talk<S> {
         common: &Common<'_>,
         bond: &mut Bond,
         arrived: &Arrived,
-        now: u64,
     ) -> Result<Outcome, Lost>
         ensures reply { IfOk result (λ outcome. self.new.out.items
             ≡ self.old.out.items ++ reply bond.old.link arrived.now outcome) }
@@ -324,7 +323,7 @@ impl<S: Read + Write> Talk<S> {
         }
         shared
             .upkeep
-            .note(shared.kept.state(), changes_of(arrived), now);
+            .note(shared.kept.state(), changes_of(arrived), self.heard_at);
         let kept = &mut shared.kept;
         let (session, out) = (&mut self.session, &mut self.out);
         let carried = carry_out(rt.alloc(), kept, session, &mut bond.link, arrived, out);
@@ -339,12 +338,10 @@ impl<S: Read + Write> Talk<S> {
     fn note_hello<R: Wait + Clock + AllocGlobal>(
         &mut self,
         rt: &R,
-        common: &Common<'_>,
-        peer: &PeerConfig,
+        contact: &Contact<'_>,
         bond: &mut Bond,
         life: &Life,
         outcome: Outcome,
-        now: u64,
     ) -> Result<(), Lost> {
         if outcome == Outcome::Known {
             bond.known = Some(life.incarnation());
@@ -353,7 +350,8 @@ impl<S: Read + Write> Talk<S> {
             return Ok(());
         }
         self.is_greeted = true;
-        self.awaited = Some(now);
+        self.awaited = Some(self.heard_at);
+        let peer = contact.peer;
         let node = peer.name.as_bytes();
         let event = match bond.known {
             Some(incarnation) if outcome != Outcome::Known => {
@@ -369,7 +367,7 @@ impl<S: Read + Write> Talk<S> {
                 incarnation: life.incarnation(),
             },
         };
-        common.log.report(rt, &KeeperEvent::Node(event));
+        contact.common.log.report(rt, &KeeperEvent::Node(event));
         Ok(())
     }
 
@@ -418,13 +416,7 @@ impl<S: Read + Write> Talk<S> {
     }
 
     // Tells the operator where each has what the other has, for the first time over this connection.
-    fn tell_level<R: Wait + Clock>(
-        &mut self,
-        rt: &R,
-        common: &Common<'_>,
-        peer: &PeerConfig,
-        now: u64,
-    ) {
+    fn tell_level<R: Wait + Clock>(&mut self, rt: &R, contact: &Contact<'_>, now: u64) {
         let has_given_all = match self.awaited {
             Some(since) => now.saturating_sub(since) >= LAST,
             None => true,
@@ -433,8 +425,8 @@ impl<S: Read + Write> Talk<S> {
             return;
         }
         self.is_level = true;
-        let node = peer.name.as_bytes();
+        let node = contact.peer.name.as_bytes();
         let event = KeeperEvent::Node(Event::PeerLevel { node });
-        common.log.report(rt, &event);
+        contact.common.log.report(rt, &event);
     }
 }

@@ -4,7 +4,7 @@ use crate::event::KeeperEvent;
 use crate::fault::KeepFault;
 use crate::kept::Kept;
 use crate::opening::{fault_of, open_file};
-use crate::shared::{Common, Shared};
+use crate::shared::{Common, SharedKeeper};
 use crate::survey::Survey;
 use crate::upkeep::Upkeep;
 use byte_text::NoMemory;
@@ -65,7 +65,7 @@ fn is_to_be_rewritten(
     upkeep.is_half_useless(bytes, front, now)
 }
 
-impl Shared {
+impl SharedKeeper {
     // What is to be done with the file at that moment, where it was tried last at that one.
     fn need(&mut self, alloc: Global, tried_at: u64, now: u64) -> Need {
         match &self.kept {
@@ -97,11 +97,11 @@ fn shared_again<R: Clock + AllocGlobal>(
     rt: &R,
     host: &HostRuntime,
     common: &Common<'_>,
-) -> Result<(Shared, usize), KeepFault> {
+) -> Result<(SharedKeeper, usize), KeepFault> {
     let opened = open_file(host, common.config, common.path, wall_ms(rt))?;
     let cut = opened.cut;
     let found = Survey::of(rt.alloc(), opened.begun.keeper.state())?;
-    Ok((Shared::new(opened, found, monotonic_ms(rt)), cut))
+    Ok((SharedKeeper::new(opened, found, monotonic_ms(rt)), cut))
 }
 
 // Tries to open the file again, which was let go. Only once a new life is begun in it, it takes the place of what is kept, and
@@ -125,7 +125,7 @@ fn open_again<R: Wait + Clock + AllocGlobal>(rt: &R, host: &HostRuntime, common:
 // Writes the file anew, under the lock.
 fn rewritten<R: Clock + AllocGlobal>(
     rt: &R,
-    shared: &mut Shared,
+    shared: &mut SharedKeeper,
     node: &NodeName,
 ) -> Option<Result<Rewriting, KeepFault>> {
     let Kept::Open(begun) = &mut shared.kept else {

@@ -8,21 +8,29 @@ use std::alloc::{AllocError, Global};
 use std::io;
 use std::io::Write;
 
-/// The texts of all records of a channel, upwards and downwards.
+/// A channel, with the texts of all its records upwards and downwards.
 #[derive(Drop)]
-struct Whole {
+struct WalkedChannel<'a> {
+    state: &'a State,
+    buffer: &'a Buffer,
     rising: Vec<u8>,
     falling: Vec<u8>,
 }
 
-fn whole_of(alloc: Global, state: &State, buffer: &Buffer) -> io::Result<Whole> {
-    let mut whole = Whole {
+fn channel_of<'a>(
+    alloc: Global,
+    state: &'a State,
+    buffer: &'a Buffer,
+) -> io::Result<WalkedChannel<'a>> {
+    let mut channel = WalkedChannel {
+        state,
+        buffer,
         rising: Vec::new(alloc),
         falling: Vec::new(alloc),
     };
-    put_all_rising(state, buffer, &mut whole.rising)?;
-    put_all_falling(state, buffer, &mut whole.falling)?;
-    Ok(whole)
+    put_all_rising(state, buffer, &mut channel.rising)?;
+    put_all_falling(state, buffer, &mut channel.falling)?;
+    Ok(channel)
 }
 
 // How many records there are in a text, if they are the last ones of the whole.
@@ -73,16 +81,16 @@ fn down<'a>(state: &'a State, buffer: &Buffer, side: &str, spot: &Spot) -> Down<
     }
 }
 
-fn put_up(alloc: Global, records: Up<'_>, whole: &Whole, out: &mut Vec<u8>) -> io::Result<()> {
+fn put_up(alloc: Global, records: Up<'_>, whole: &[u8], out: &mut Vec<u8>) -> io::Result<()> {
     let mut part = Vec::new(alloc);
     put_rising(records, &mut part)?;
-    put_count(&whole.rising, &part, out)
+    put_count(whole, &part, out)
 }
 
-fn put_down(alloc: Global, records: Down<'_>, whole: &Whole, out: &mut Vec<u8>) -> io::Result<()> {
+fn put_down(alloc: Global, records: Down<'_>, whole: &[u8], out: &mut Vec<u8>) -> io::Result<()> {
     let mut part = Vec::new(alloc);
     put_falling(records, &mut part)?;
-    put_count(&whole.falling, &part, out)
+    put_count(whole, &part, out)
 }
 
 // A place, as a moment or as a moment, a colon and an id.
@@ -99,57 +107,46 @@ fn spot_of(alloc: Global, place: &str) -> Result<Spot, Error> {
 // How many records a walk has up and down from a cut.
 fn put_walk(
     alloc: Global,
-    state: &State,
-    buffer: &Buffer,
+    channel: &WalkedChannel<'_>,
     side: &str,
     spot: &Spot,
-    whole: &Whole,
     out: &mut Vec<u8>,
 ) -> io::Result<()> {
-    put_up(alloc, up(state, buffer, side, spot), whole, out)?;
+    let (state, buffer) = (channel.state, channel.buffer);
+    put_up(alloc, up(state, buffer, side, spot), &channel.rising, out)?;
     write!(out, " ")?;
-    put_down(alloc, down(state, buffer, side, spot), whole, out)?;
+    put_down(
+        alloc,
+        down(state, buffer, side, spot),
+        &channel.falling,
+        out,
+    )?;
     write!(out, ";")
 }
 
 // The walk from a cut as it is spelled: `bottom`, `top`, or `under`, `over`, `before` or `after` with a place.
 fn put_walk_from(
     alloc: Global,
-    state: &State,
-    buffer: &Buffer,
+    channel: &WalkedChannel<'_>,
     word: &str,
-    whole: &Whole,
     out: &mut Vec<u8>,
 ) -> Result<(), Error> {
     let (side, place) = word.split_once(":").unwrap_or((word, ""));
     let spot = spot_of(alloc, place)?;
-    put_walk(alloc, state, buffer, side, &spot, whole, out)?;
+    put_walk(alloc, channel, side, &spot, out)?;
     Ok(())
 }
 
 fn put_walks_in(
     alloc: Global,
-    state: &State,
-    buffer: &Buffer,
+    channel: &WalkedChannel<'_>,
     cuts: &str,
-    whole: &Whole,
     out: &mut Vec<u8>,
 ) -> Result<(), Error> {
     for cut in cuts.split(" ") {
-        put_walk_from(alloc, state, buffer, cut, whole, out)?;
+        put_walk_from(alloc, channel, cut, out)?;
     }
     Ok(())
-}
-
-fn put_buffer_walks(
-    alloc: Global,
-    state: &State,
-    buffer: &Buffer,
-    cuts: &str,
-    out: &mut Vec<u8>,
-) -> Result<(), Error> {
-    let whole = whole_of(alloc, state, buffer)?;
-    put_walks_in(alloc, state, buffer, cuts, &whole, out)
 }
 
 /// How many records the walks in a channel have, two digits for each cut: a `?` where they aren't the last ones of the walk
@@ -162,5 +159,6 @@ pub fn put_walks(
     out: &mut Vec<u8>,
 ) -> Result<(), Error> {
     let buffer = buffer_of(alloc, channel)?;
-    put_buffer_walks(alloc, state, &buffer, cuts, out)
+    let channel = channel_of(alloc, state, &buffer)?;
+    put_walks_in(alloc, &channel, cuts, out)
 }
