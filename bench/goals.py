@@ -20,6 +20,7 @@ GOALS = (
     ("relay to 10 clients : ZNC's", "clients", "ZNC : bnc", "10", "at least 10"),
     ("relay to 100 clients : ZNC's", "clients", "ZNC : bnc", "100", "at least 20"),
     ("a line beside 1,500 silent clients of another account : beside none", "a line", "ratio", ".*1,500.*", "1.1"),
+    ("lines with four workers : with one", "workers", "lines a second : one worker's", "4", "at least 2.2"),
     ("playback, lines for a processor second : ZNC's", "what", "ratio of the medians", "playback.*", "at least 14"),
     ("99 of 100 lines to 10 clients take at most : ZNC's", "a line to one of 10 clients", "99 of 100 : ZNC's", "bnc", "0.5"),
     ("a line that comes alone : a loop in C", "lines at once", "ratio, and its range", "1", "4"),

@@ -63,27 +63,27 @@ class Listeners:
 
     def __init__(self, node):
         self.selector = selectors.DefaultSelector()
+        self.room = bytearray(1 << 18)
         self.seen = [[0] * CLIENTS for _ in range(NETWORKS)]
         for number in range(NETWORKS):
             for place in range(CLIENTS):
                 client = socket.create_connection(("127.0.0.1", node.port))
                 client.sendall(node.login_of(number).encode())
                 client.setblocking(False)
-                self.selector.register(client, selectors.EVENT_READ, [number, place, b""])
+                self.selector.register(client, selectors.EVENT_READ, (number, place))
         while self.turn(1):
             pass
+        # from here on there are messages alone
+        self.seen = [[0] * CLIENTS for _ in range(NETWORKS)]
 
     def turn(self, patience):
         ready = self.selector.select(patience)
         for key, _ in ready:
-            number, place, tail = key.data
-            data = key.fileobj.recv(1 << 18)
-            if not data:
+            number, place = key.data
+            length = key.fileobj.recv_into(self.room)
+            if not length:
                 raise SystemExit("the bouncer closed a client")
-            data = tail + data
-            end = data.rfind(b"\n") + 1
-            key.data[2] = data[end:]
-            self.seen[number][place] += data[:end].count(b" PRIVMSG #a ")
+            self.seen[number][place] += self.room.count(b"\n", 0, length)
         return bool(ready)
 
     def close(self):
@@ -97,11 +97,12 @@ def figures_of(program, workers):
     try:
         listeners = Listeners(node)
         sent = [0] * NETWORKS
+        pieces = [b"".join(message(it) for it in range(first, first + PIECE)) for first in range(0, LINES, PIECE)]
         before, begun = node.seconds(), time.monotonic()
         while min(min(its) for its in listeners.seen) < LINES:
             for number, server in enumerate(node.servers):
                 while sent[number] < LINES and sent[number] - min(listeners.seen[number]) <= PIECE:
-                    server.send(b"".join(message(it) for it in range(sent[number], sent[number] + PIECE)))
+                    server.send(pieces[sent[number] // PIECE])
                     sent[number] += PIECE
             listeners.turn(1)
         took, spent = time.monotonic() - begun, node.seconds() - before
