@@ -257,6 +257,14 @@ def the_picture_of_the_layers_is_true(fixture):
 
 
 @test
+def no_type_has_the_name_of_another_crates(fixture):
+    """One name is one thing, in all crates."""
+    ran = subprocess.run([os.path.join(TOP, "tools", "names")], capture_output=True, text=True, check=False,
+                         timeout=fixture.patience())
+    expect("tools/names", (0, "", ""), (ran.returncode, ran.stdout, ran.stderr))
+
+
+@test
 def the_documents_have_at_most_25_000_words(fixture):
     """README, CONTRIBUTING, docs and the READMEs of tests, examples and companions together."""
     ran = subprocess.run([os.path.join(TOP, "tools", "words"), "--check"], capture_output=True, text=True, check=False,

@@ -49,9 +49,9 @@ impl Play<(), Option<usize>> for Release {
 }
 
 // A new seat holds no place.
-struct Newcomer;
+struct NewSeat;
 
-impl Split<Option<usize>> for Newcomer {
+impl Split<Option<usize>> for NewSeat {
     ghost use Rattle.attach.specs.Steps.{kept_view, newcomers_view};
 
     ghost left = { kept_view };
@@ -111,7 +111,7 @@ impl Hold {
         let Ok(words) = Arc::try_clone(&self.words) else {
             return Err(NoFurtherOwner);
         };
-        let seat = words.shared.split_seat::<Newcomer>(&mut self.seat);
+        let seat = words.shared.split_seat::<NewSeat>(&mut self.seat);
         Ok(Hold {
             words,
             seat,

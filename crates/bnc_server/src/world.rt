@@ -21,7 +21,7 @@ use crate::reply::{put_bad_field, put_bad_form, put_link_fault};
 use byte_text::{NoMemory, Text, begins_with};
 use chat_batch::Facts;
 use chat_change::{Buffer, Change, Extent};
-use client_session::{Account, Directory, Entry, Network};
+use client_session::{ConfiguredAccount, Directory, Entry, Network};
 use gossip_delta::{ChangeLineFault, is_text, read_change_in};
 use gossip_link::{Ack, Life, LinkFault, NodeName};
 use irc_caps::CapSet;
@@ -82,11 +82,11 @@ fn account_of(
     account: &[u8],
     network: &[u8],
     nick: &[u8],
-) -> Result<Account, NoMemory>
+) -> Result<ConfiguredAccount, NoMemory>
     ensures { IfOk result (λ made. made ∷ [] ≡ spec.directory_of account.now network.now nick.now) }
 {
     let name = Text::new(alloc, account)?;
-    let mut made = Account::new(alloc, name, Text::of(Vec::new(alloc)));
+    let mut made = ConfiguredAccount::new(alloc, name, Text::of(Vec::new(alloc)));
     let network = network_of(alloc, network, nick)?;
     made.add(network)?;
     Ok(made)

@@ -67,19 +67,29 @@ pub trait Port: Drop {
 
     /// Has `Ready` tell of a connection under that token from now on.
     fn watch(&mut self, connection: &mut Self::Connection, token: usize) -> Result<(), PortFault>
-        ensures origin { Self.Connection.origin connection.new ≡ Self.Connection.origin connection.old }
-        ensures serial { Self.Connection.serial connection.new ≡ Self.Connection.serial connection.old }
-        ensures joined { Self.Connection.joined connection.new ≡ Self.Connection.joined connection.old }
-        ensures received { Self.Connection.received connection.new ≡ Self.Connection.received connection.old }
-        ensures sent { Self.Connection.sent connection.new ≡ Self.Connection.sent connection.old };
+        ensures origin { Self.Connection.origin connection.new
+            ≡ Self.Connection.origin connection.old }
+        ensures serial { Self.Connection.serial connection.new
+            ≡ Self.Connection.serial connection.old }
+        ensures joined { Self.Connection.joined connection.new
+            ≡ Self.Connection.joined connection.old }
+        ensures received { Self.Connection.received connection.new
+            ≡ Self.Connection.received connection.old }
+        ensures sent { Self.Connection.sent connection.new
+            ≡ Self.Connection.sent connection.old };
 
     /// Has `Ready` tell no more of a connection, which moves to another worker.
     fn unwatch(&mut self, connection: &mut Self::Connection)
-        ensures origin { Self.Connection.origin connection.new ≡ Self.Connection.origin connection.old }
-        ensures serial { Self.Connection.serial connection.new ≡ Self.Connection.serial connection.old }
-        ensures joined { Self.Connection.joined connection.new ≡ Self.Connection.joined connection.old }
-        ensures received { Self.Connection.received connection.new ≡ Self.Connection.received connection.old }
-        ensures sent { Self.Connection.sent connection.new ≡ Self.Connection.sent connection.old };
+        ensures origin { Self.Connection.origin connection.new
+            ≡ Self.Connection.origin connection.old }
+        ensures serial { Self.Connection.serial connection.new
+            ≡ Self.Connection.serial connection.old }
+        ensures joined { Self.Connection.joined connection.new
+            ≡ Self.Connection.joined connection.old }
+        ensures received { Self.Connection.received connection.new
+            ≡ Self.Connection.received connection.old }
+        ensures sent { Self.Connection.sent connection.new
+            ≡ Self.Connection.sent connection.old };
 
     /// Hands mail to another worker. It is taken out, also where that fails.
     fn send_mail(

@@ -1,8 +1,8 @@
 -- The server of a network, as its connection stands.
 use Rattle.std.specs.Prelude.{ℕ, ◌≡◌, ◌≤◌, ◌⊎◌, ◌+◌, ◌-◌, ◌/◌, ◌^◌, ◌++◌, true, length, List, Option, Some, None}
 use Rattle.network_log.specs.Host.{Host}
-use Rattle.network_server.specs.declared.server.Loss.{Loss}
-use Rattle.network_server.specs.declared.server.Loss.TheVariants.{Ended, Silent}
+use Rattle.network_server.specs.declared.server.ServerLoss.{ServerLoss}
+use Rattle.network_server.specs.declared.server.ServerLoss.TheVariants.{Ended, Silent}
 use Rattle.network_server.specs.declared.server.TheConstants.{QUIET, TRIES}
 
 -- In turn:
@@ -17,7 +17,7 @@ pub record ServerState : Type 0 where
   pub owed : List ℕ
   pub bound : ℕ
   pub heard_at : ℕ
-  pub loss : Option Loss
+  pub loss : Option ServerLoss
   pub tries : ℕ
 
 -- bytes came over its connection at that moment
@@ -47,7 +47,7 @@ pub record StandsAsBefore (old new : ServerState) : Type 0 where
   pub loss : new.loss ≡ old.loss
 
 -- It may be ended at that moment, and why. In turn: its session is over; nothing goes out any more; and nothing came for too long.
-pub data MayEnd (s : ServerState) (now : ℕ) : Loss → Type 0 where
+pub data MayEnd (s : ServerState) (now : ℕ) : ServerLoss → Type 0 where
   IsOver : s.host.session.is_closed ≡ true → MayEnd s now Ended
-  IsLost : (loss : Loss) → s.loss ≡ Some loss → MayEnd s now loss
+  IsLost : (loss : ServerLoss) → s.loss ≡ Some loss → MayEnd s now loss
   IsSilent : s.heard_at + QUIET ≤ now → MayEnd s now Silent

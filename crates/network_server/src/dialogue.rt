@@ -6,7 +6,7 @@ ghost use Rattle.upstream_session.specs.declared.connection.ServerSession.{Serve
 ghost use Rattle.network_server.specs.Effects.{closes};
 ghost use Rattle.network_server.specs.Entries.{renaming_to};
 ghost use Rattle.network_server.specs.Standing.{IsNoted};
-ghost use Rattle.network_server.specs.declared.dialogue.StepFault.TheVariants as fault;
+ghost use Rattle.network_server.specs.declared.dialogue.ServerStepFault.TheVariants as fault;
 
 use crate::batch::Batch;
 use crate::standing::Standing;
@@ -19,7 +19,7 @@ use upstream_session::{UpEffect, Upstream};
 
 /// Why nothing, or not all, came of a line.
 #[derive(Clone, Copy, PartialEq, Eq)]
-pub(crate) enum StepFault {
+pub(crate) enum ServerStepFault {
     /// There was no memory. The session didn't hear it.
     Again,
     /// The session heard it, and there was no memory for what that comes to.
@@ -28,7 +28,7 @@ pub(crate) enum StepFault {
 
 /// The session with a network's server, with what is owed to that.
 #[derive(Drop)]
-pub(crate) struct Dialogue {
+pub(crate) struct ServerDialogue {
     pub(crate) session: Upstream,
     pub(crate) output: Pending,
     // how the session stood before the last line
@@ -68,20 +68,20 @@ fn has_close(effects: &[UpEffect]) -> bool
         .any(|effect| matches!(effect, UpEffect::Close))
 }
 
-impl Dialogue {
+impl ServerDialogue {
     /// A session that begins, with what it begins with.
     pub(crate) fn new(
         alloc: Global,
         session: Upstream,
         opening: &[UpEffect],
-    ) -> Result<Dialogue, NoMemory>
+    ) -> Result<ServerDialogue, NoMemory>
         ensures session { IfOk result (λ d. d.session ≡ session) }
         ensures output { IfOk result (λ d. d.output ≡ sends_of opening.now) }
         ensures over { IfOk result (λ d. d.is_over ≡ false) }
     {
         let mut output = Pending::new(alloc);
         owe_all(&mut output, opening)?;
-        Ok(Dialogue {
+        Ok(ServerDialogue {
             session,
             output,
             before: Standing::new(alloc),
@@ -155,7 +155,7 @@ impl Dialogue {
         line: &[u8],
         now: Moment,
         batch: &mut Batch,
-    ) -> Result<(), StepFault>
+    ) -> Result<(), ServerStepFault>
         ensures session { OnOk result (self.new.session.connection
             ≡ (session.step self.old.session.connection now line.now).session) }
         ensures output { OnOk result (self.new.output ≡ self.old.output
@@ -175,18 +175,18 @@ impl Dialogue {
         what_is_joined_is_told();
         nothing_follows_close();
         let Ok(()) = self.before.note(self.session.entry()) else {
-            return Err(StepFault::Again);
+            return Err(ServerStepFault::Again);
         };
         let Ok(effects) = self.session.step(alloc, line, now) else {
-            return Err(StepFault::Again);
+            return Err(ServerStepFault::Again);
         };
         self.is_over |= has_close(&effects);
         let Ok(entered) = self.entered(alloc, line) else {
             drop(effects);
-            return Err(StepFault::Lost);
+            return Err(ServerStepFault::Lost);
         };
         let Ok(()) = self.carry_out(alloc, effects, entered, batch) else {
-            return Err(StepFault::Lost);
+            return Err(ServerStepFault::Lost);
         };
         Ok(())
     }
@@ -198,7 +198,7 @@ impl Dialogue {
         text: &[u8],
         now: Moment,
         batch: &mut Batch,
-    ) -> Result<(), StepFault>
+    ) -> Result<(), ServerStepFault>
         ensures session { OnOk result (self.new.session.connection
             ≡ (session.say self.old.session.connection now text.now).session) }
         ensures output { OnOk result (self.new.output ≡ self.old.output
@@ -216,14 +216,14 @@ impl Dialogue {
     {
         nothing_follows_close();
         let Ok(()) = self.before.note(self.session.entry()) else {
-            return Err(StepFault::Again);
+            return Err(ServerStepFault::Again);
         };
         let Ok(effects) = self.session.say(alloc, text, now) else {
-            return Err(StepFault::Again);
+            return Err(ServerStepFault::Again);
         };
         self.is_over |= has_close(&effects);
         let Ok(()) = self.carry_out(alloc, effects, None, batch) else {
-            return Err(StepFault::Lost);
+            return Err(ServerStepFault::Lost);
         };
         Ok(())
     }

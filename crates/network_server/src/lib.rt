@@ -17,4 +17,4 @@ mod standing;
 pub use batch::{Batch, BatchPart};
 pub use opening::Site;
 pub use retry::{RETRY, Retry};
-pub use server::{HearFault, Hearing, Loss, SayFault, Server};
+pub use server::{HearFault, SayFault, Server, ServerHearing, ServerLoss};

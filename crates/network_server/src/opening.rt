@@ -5,7 +5,7 @@ ghost use Rattle.upstream_session.specs.Step.{new};
 ghost use Rattle.network_log.specs.Host.{sends_of};
 ghost use Rattle.network_server.specs.declared.opening.TheConstants.{MOST_OWED};
 
-use crate::dialogue::Dialogue;
+use crate::dialogue::ServerDialogue;
 use byte_text::{NoMemory, Text, copies_of};
 use cluster_directory::{Channels, Life, SessionConfig};
 use std::alloc::Global;
@@ -57,7 +57,7 @@ fn copy_of(alloc: Global, config: &SessionConfig) -> Result<SessionConfig, NoMem
 }
 
 /// A session that begins, from that serial number on, with what it begins with.
-pub(crate) fn begin(alloc: Global, site: &Site<'_>, first: u64) -> Result<Dialogue, NoMemory>
+pub(crate) fn begin(alloc: Global, site: &Site<'_>, first: u64) -> Result<ServerDialogue, NoMemory>
     ensures session { IfOk result (λ d. d.session.connection ≡ new site.now.config.now
         site.now.me.now.node site.now.me.now.incarnation first) }
     ensures output { IfOk result (λ d. d.output ≡ sends_of (start (new site.now.config.now
@@ -68,5 +68,5 @@ pub(crate) fn begin(alloc: Global, site: &Site<'_>, first: u64) -> Result<Dialog
     let node = Text::new(alloc, site.me.node().as_bytes())?;
     let session = Upstream::new(alloc, config, node, site.me.incarnation(), first);
     let opening = session.start(alloc)?;
-    Dialogue::new(alloc, session, &opening)
+    ServerDialogue::new(alloc, session, &opening)
 }

@@ -12,11 +12,11 @@ ghost use Rattle.network_server.specs.ServerState.{HasCredit, IsGivenUp, MayEnd,
 ghost use Rattle.network_server.specs.declared.opening.TheConstants.{MOST_OWED};
 ghost use Rattle.network_server.specs.declared.server.TheConstants.{QUIET};
 ghost use Rattle.network_server.specs.declared.server.HearFault.TheVariants as fault;
-ghost use Rattle.network_server.specs.declared.server.Hearing.TheVariants as hearing;
+ghost use Rattle.network_server.specs.declared.server.ServerHearing.TheVariants as hearing;
 ghost use Rattle.network_server.specs.declared.server.SayFault.TheVariants as saying;
 
 use crate::batch::Batch;
-use crate::dialogue::{Dialogue, StepFault};
+use crate::dialogue::{ServerDialogue, ServerStepFault};
 use crate::opening::{Site, begin, bound_for};
 use byte_text::NoMemory;
 use chat_change::Moment;
@@ -37,7 +37,7 @@ const LAST_RECEIVES: u32 = 2_048;
 
 /// Why a connection ends.
 #[derive(Clone, Copy, Debug, PartialEq, Eq)]
-pub enum Loss {
+pub enum ServerLoss {
     /// The other end closed it.
     Closed,
     /// It ended as the protocol says.
@@ -50,7 +50,7 @@ pub enum Loss {
 
 /// What came of asking for the server's next line.
 #[derive(Clone, Copy, Debug, PartialEq, Eq)]
-pub enum Hearing {
+pub enum ServerHearing {
     /// The session heard it.
     Line,
     /// It is left out: it is too long, or would only be passed on.
@@ -88,7 +88,7 @@ pub enum SayFault {
 pub struct Server<C: Connection> {
     network: usize,
     connection: C,
-    dialogue: Dialogue,
+    dialogue: ServerDialogue,
     input: LineBuffer,
     // how many of the server's lines were heard or left out
     heard: u64,
@@ -97,7 +97,7 @@ pub struct Server<C: Connection> {
     // when bytes came last, in milliseconds
     heard_at: u64,
     // why nothing goes out any more
-    loss: Option<Loss>,
+    loss: Option<ServerLoss>,
     // Nothing more comes of a connection that is lost.
     is_drained: bool,
     is_readable: bool,
@@ -206,7 +206,7 @@ impl<C: Connection> Server<C> {
     }
 
     // Nothing goes out any more. What came before is still there to be heard.
-    fn lose(&mut self, loss: Loss)
+    fn lose(&mut self, loss: ServerLoss)
         ensures host { self.new.host ≡ self.old.host }
         ensures owed { self.new.owed ≡ self.old.owed }
         ensures bound { self.new.bound ≡ self.old.bound }
@@ -268,7 +268,7 @@ impl<C: Connection> Server<C> {
     {
         match fault {
             ReceiveFault::Blocked => self.is_readable = false,
-            ReceiveFault::Closed => self.lose(Loss::Closed),
+            ReceiveFault::Closed => self.lose(ServerLoss::Closed),
             ReceiveFault::NoMemory => return,
         }
         self.is_drained = self.loss.is_some();
@@ -282,7 +282,7 @@ impl<C: Connection> Server<C> {
         alloc: Global,
         now: Moment,
         batch: &mut Batch,
-    ) -> Result<Hearing, HearFault>
+    ) -> Result<ServerHearing, HearFault>
         ensures line { result ≡ Ok hearing.Line → Makes C.facts (ServerSays now)
             self.old.host batch.old self.new.host batch.new }
         ensures left_out { result ≡ Ok hearing.LeftOut
@@ -303,10 +303,10 @@ impl<C: Connection> Server<C> {
         ensures stands { StandsAsBefore self.old self.new }
     {
         if self.dialogue.is_over {
-            return Ok(Hearing::More);
+            return Ok(ServerHearing::More);
         }
         if self.loss.is_none() && self.dialogue.output.len() > self.bound {
-            return Ok(Hearing::Full);
+            return Ok(ServerHearing::Full);
         }
         let Some(heard) = self.heard.checked_add(1) else {
             return Err(HearFault::GivenUp);
@@ -317,18 +317,18 @@ impl<C: Connection> Server<C> {
             ..
         } = self;
         match input.next_line() {
-            Next::More => Ok(Hearing::More),
+            Next::More => Ok(ServerHearing::More),
             Next::TooLong => {
                 self.count_line(heard);
-                Ok(Hearing::LeftOut)
+                Ok(ServerHearing::LeftOut)
             }
             Next::Line(line) => match dialogue.hear(alloc, line, now, batch) {
                 Ok(()) => {
                     self.count_line(heard);
-                    Ok(Hearing::Line)
+                    Ok(ServerHearing::Line)
                 }
-                Err(StepFault::Again) => self.try_again(heard),
-                Err(StepFault::Lost) => Err(HearFault::Lost),
+                Err(ServerStepFault::Again) => self.try_again(heard),
+                Err(ServerStepFault::Lost) => Err(HearFault::Lost),
             },
         }
     }
@@ -345,7 +345,7 @@ impl<C: Connection> Server<C> {
     }
 
     // There was no memory for the next line. After so many tries it is left out, where it would only be passed on.
-    fn try_again(&mut self, heard: u64) -> Result<Hearing, HearFault>
+    fn try_again(&mut self, heard: u64) -> Result<ServerHearing, HearFault>
         requires { heard ≡ self.old.host.heard + 1 }
         ensures left_out { IfOk result (λ h. (h ≡ hearing.LeftOut)
             × MayBeSkipped (next_item self.old.host.received self.old.host.heard)
@@ -361,7 +361,7 @@ impl<C: Connection> Server<C> {
         match self.input.next_line() {
             Next::Line(line) if is_passed_on(line) => {
                 self.count_line(heard);
-                Ok(Hearing::LeftOut)
+                Ok(ServerHearing::LeftOut)
             }
             _ => Err(HearFault::GivenUp),
         }
@@ -398,8 +398,8 @@ impl<C: Connection> Server<C> {
         }
         match self.dialogue.say(alloc, text, now, batch) {
             Ok(()) => Ok(()),
-            Err(StepFault::Again) => Err(SayFault::NoMemory),
-            Err(StepFault::Lost) => Err(SayFault::Lost),
+            Err(ServerStepFault::Again) => Err(SayFault::NoMemory),
+            Err(ServerStepFault::Lost) => Err(SayFault::Lost),
         }
     }
 
@@ -419,7 +419,7 @@ impl<C: Connection> Server<C> {
         match self.connection.send(self.dialogue.output.as_bytes()) {
             Ok(0) | Err(Halt::Blocked) => self.is_writable = false,
             Ok(count) => self.dialogue.output.take(count),
-            Err(Halt::Closed) => self.lose(Loss::Closed),
+            Err(Halt::Closed) => self.lose(ServerLoss::Closed),
         }
     }
 
@@ -447,7 +447,7 @@ impl<C: Connection> Server<C> {
                 break;
             }
         }
-        self.lose(Loss::Overrun);
+        self.lose(ServerLoss::Overrun);
     }
 
     /// The moment at which it is given up, where nothing comes before.
@@ -459,19 +459,19 @@ impl<C: Connection> Server<C> {
 
     /// Why it is to be ended at that moment, where it is: its session is over and what was owed is sent, or the connection is lost and
     /// what came before was heard, or nothing came for too long.
-    pub fn is_over(&self, now: u64) -> Option<Loss>
+    pub fn is_over(&self, now: u64) -> Option<ServerLoss>
         ensures some { IfSome result (λ why. MayEnd self.now now why) }
         ensures none { result ≡ None → now < self.now.heard_at + QUIET }
     {
         let is_sent = self.dialogue.output.is_empty() || self.loss.is_some();
         if self.dialogue.is_over && is_sent {
-            return Some(Loss::Ended);
+            return Some(ServerLoss::Ended);
         }
         if self.is_drained && self.loss.is_some() {
             return self.loss;
         }
         if now.saturating_sub(self.heard_at) >= QUIET {
-            return Some(Loss::Silent);
+            return Some(ServerLoss::Silent);
         }
         None
     }

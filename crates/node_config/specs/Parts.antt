@@ -1,13 +1,13 @@
 -- What a document says of the parts of a configuration that are read on their own.
 use Rattle.std.specs.Prelude.{codes}
 use Rattle.toml.specs.Data.{Members}
-use Rattle.node_config.specs.declared.reading.Head.{Head}
+use Rattle.node_config.specs.declared.reading.NodeHead.{NodeHead}
 use Rattle.node_config.specs.declared.reading.Lists.{Lists}
 use Rattle.node_config.specs.Values.{HasText, HasAddress}
 use Rattle.node_config.specs.Meaning.{ArePeersOf, AreAccountsOf, AreNetworksOf}
 
 -- who the node is, and where it listens
-pub record IsHeadOf (document : Members) (head : Head) : Type 0 where
+pub record IsHeadOf (document : Members) (head : NodeHead) : Type 0 where
   pub name : HasText document (codes "name") head.name
   pub node : HasText document (codes "node") head.node
   pub listen : HasAddress document (codes "listen") head.listen

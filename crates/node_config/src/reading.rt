@@ -75,7 +75,7 @@ fn line_at(bytes: &[u8], at: usize) -> usize {
 
 // Who the node is, and where it listens.
 #[derive(Drop)]
-struct Head {
+struct NodeHead {
     name: Text,
     node: NodeName,
     listen: SocketAddr,
@@ -102,7 +102,7 @@ fn read_values(alloc: Global, table: &Table) -> Result<Config, ValueFault>
     let limits = read_limits(top)?;
     let maximum = top.number_or_least("maximum", LEAST_MAXIMUM, MOST_MAXIMUM)?;
     let lists = read_lists(alloc, top, &head.node)?;
-    let Head {
+    let NodeHead {
         name,
         node,
         listen,
@@ -128,7 +128,7 @@ fn read_values(alloc: Global, table: &Table) -> Result<Config, ValueFault>
     })
 }
 
-fn read_head(alloc: Global, top: Section<'_>) -> Result<Head, ValueFault>
+fn read_head(alloc: Global, top: Section<'_>) -> Result<NodeHead, ValueFault>
     ensures named { IfOk result (λ head. is_cluster_name head.name ≡ true) }
     ensures values { IfOk result (λ head. IsHeadOf (table_of top.entry) head) }
 {
@@ -137,7 +137,7 @@ fn read_head(alloc: Global, top: Section<'_>) -> Result<Head, ValueFault>
     let listen = top.address("listen")?;
     let peer_listen = top.address("peer_listen")?;
     let peer_word = top.shared_word(alloc, "peer_word")?;
-    Ok(Head {
+    Ok(NodeHead {
         name,
         node,
         listen,

@@ -262,7 +262,7 @@ impl<'a> Event<'a> {
     }
 
     // The network of an account that the event is about.
-    fn network(&self) -> Option<Network<'a>> {
+    fn network(&self) -> Option<NetworkPath<'a>> {
         match *self {
             Event::ClientIn {
                 account,
@@ -288,7 +288,7 @@ impl<'a> Event<'a> {
                 account,
                 network,
                 ..
-            } => Some(Network { account, network }),
+            } => Some(NetworkPath { account, network }),
             _ => None,
         }
     }
@@ -475,12 +475,12 @@ impl fmt::Display for Address {
 
 // A network of an account.
 #[derive(Clone, Copy)]
-struct Network<'a> {
+struct NetworkPath<'a> {
     account: &'a [u8],
     network: &'a [u8],
 }
 
-impl<'a> fmt::Display for Network<'a> {
+impl<'a> fmt::Display for NetworkPath<'a> {
     fn fmt<W: fmt::Write>(&self, f: &mut fmt::Formatter<W>) -> fmt::Result {
         write!(f, "{}/{}", BStr::new(self.account), BStr::new(self.network))
     }

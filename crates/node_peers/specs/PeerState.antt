@@ -7,7 +7,7 @@ use Rattle.gossip_link.specs.declared.handshake.Side.TheVariants.{Opener, Accept
 use Rattle.network_log.specs.declared.origin.Origin.{Origin}
 use Rattle.network_log.specs.declared.origin.Origin.TheVariants.{PeerCame, PeerDialed}
 use Rattle.node_peers.specs.Talk.{Talk, new_talk}
-use Rattle.node_peers.specs.declared.loss.Loss.{Loss}
+use Rattle.node_peers.specs.declared.loss.PeerLoss.{PeerLoss}
 
 -- In turn:
 --   side      which of the two nodes opened it
@@ -26,7 +26,7 @@ pub record PeerState : Type 0 where
   pub sent : List ℕ
   pub talk : Talk
   pub heard_at : ℕ
-  pub loss : Option Loss
+  pub loss : Option PeerLoss
 
 -- all that was said to it
 abbrev pub said_to : PeerState → List ℕ

@@ -2,8 +2,8 @@
 use Rattle.std.specs.Prelude.{ℕ, ◌≡◌, ◌+◌, Bool, true, false, Option, None, Some, is_some, nat_le, ◌&&◌, not, if◌then◌else◌}
 use Rattle.gossip_link.specs.Pace as pace
 use Rattle.node_peers.specs.declared.entry.TheConstants.{PATIENCE}
-use Rattle.node_peers.specs.declared.loss.Loss.{Loss}
-use Rattle.node_peers.specs.declared.loss.Loss.TheVariants.{Unheard, Unacknowledged, Unregistered}
+use Rattle.node_peers.specs.declared.loss.PeerLoss.{PeerLoss}
+use Rattle.node_peers.specs.declared.loss.PeerLoss.TheVariants.{Unheard, Unacknowledged, Unregistered}
 use Rattle.node_peers.specs.declared.quiet.TheConstants.{GONE}
 use Rattle.node_peers.specs.PeerState.{PeerState}
 
@@ -40,7 +40,7 @@ abbrev pub gives_way : Seat → Bool
 gives_way seat = is_stranger seat && seat.is_awaited
 
 -- why it is to be closed at that moment, where it is
-abbrev pub overdue : ℕ → Seat → Option Loss
+abbrev pub overdue : ℕ → Seat → Option PeerLoss
 overdue now seat =
     if is_greeted seat
     then (if nat_le (seat.peer.heard_at + GONE) now

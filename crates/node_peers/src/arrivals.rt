@@ -5,8 +5,8 @@ ghost use Rattle.node_peers.specs.Seat.{IsSameSeat, Seat};
 ghost use Rattle.node_peers.specs.Talk.{place_of};
 
 use crate::carrying::Carried;
-use crate::entry::Entry;
-use crate::loss::Loss;
+use crate::entry::PeerEntry;
+use crate::loss::PeerLoss;
 use crate::news::{Operator, PeerNews};
 use crate::peer_record::PeerRecord;
 use crate::peers::Peers;
@@ -31,7 +31,7 @@ fn life_of<C: Connection>(
     Ok(Life::new(name.try_clone(turn.alloc)?, incarnation))
 }
 
-impl<C: Connection> Entry<C> {
+impl<C: Connection> PeerEntry<C> {
     /// The place of the peer that says hello over it, where none did before.
     fn newcomer(&self) -> Option<usize>
         ensures { IfSome result (λ place. (self.now.peer.talk.noted ≡ None)
@@ -154,7 +154,7 @@ impl<C: Connection> Entry<C> {
         operator.tell(&PeerNews::PeerBehind { node, incarnation });
         match life_of(turn, &kept.name, incarnation) {
             Ok(life) => self.peer.remind(turn, &life, room),
-            Err(NoMemory) => self.peer.lose(Loss::NoMemory),
+            Err(NoMemory) => self.peer.lose(PeerLoss::NoMemory),
         }
     }
 
@@ -209,10 +209,10 @@ impl<C: Connection> Peers<C> {
             return;
         };
         if entry.dialed.is_some_and(|dialed| dialed != place) {
-            return self.close(turn, number, Loss::UnknownNode, operator);
+            return self.close(turn, number, PeerLoss::UnknownNode, operator);
         }
         while let Some(older) = self.connection_with(place) {
-            self.close(turn, older, Loss::Replaced, operator);
+            self.close(turn, older, PeerLoss::Replaced, operator);
         }
         self.note(turn, number);
         self.settle(place);
@@ -258,7 +258,7 @@ impl<C: Connection> Peers<C> {
         self.greet(turn, number, operator);
         let place = self.sender(number)?;
         if place >= self.records.len() {
-            self.close(turn, number, Loss::UnknownNode, operator);
+            self.close(turn, number, PeerLoss::UnknownNode, operator);
             return None;
         }
         let Peers {

@@ -9,8 +9,8 @@ ghost use Rattle.network_log.specs.Putting.{AreBrought};
 ghost use Rattle.node_peers.specs.Talk as spec;
 ghost use Rattle.peer_lines.specs.declared.gather.Arrived.{Arrived as Letter};
 
-use crate::dialogue::{Dialogue, owe};
-use crate::loss::Loss;
+use crate::dialogue::{PeerDialogue, owe};
+use crate::loss::PeerLoss;
 use crate::node_source::Agreed;
 use crate::turn::Turn;
 use gossip_link::{Arrived, Heard, Link, Outcome, changes_of};
@@ -52,7 +52,7 @@ fn settle<N: NodePass>(
     }
 }
 
-impl Dialogue {
+impl PeerDialogue {
     /// Carries out the message that came, on the link with its peer, and hands it back. The node takes what a packet brings, and the
     /// reply is owed. None where there is no message. For want of memory the connection is to be closed.
     pub(crate) fn carry_out<N: NodePass>(
@@ -61,7 +61,7 @@ impl Dialogue {
         link: &mut Link,
         pass: &mut N,
         room: &mut Vec<u8>,
-    ) -> Result<Option<Carried>, Loss>
+    ) -> Result<Option<Carried>, PeerLoss>
         requires { (place : ℕ) (arrived : Letter) → self.old.brought ≡ Message place arrived
             → ∥ AreBrought N.Connection.facts (changes_of arrived) ∥₁ }
         ensures none { result ≡ Ok None → self.new ≡ self.old }
@@ -77,7 +77,7 @@ impl Dialogue {
         room.clear();
         let session = &mut self.session;
         let Ok(agreed) = session.arrive(turn.alloc, link, arrived, &mut Agreed, room) else {
-            return Err(Loss::NoMemory);
+            return Err(PeerLoss::NoMemory);
         };
         let outcome = settle(pass, arrived, agreed, room);
         owe(&mut self.output, &mut self.said_at, room, turn.at)?;

@@ -7,8 +7,8 @@ ghost use Rattle.node_peers.specs.PeersState as spec;
 ghost use Rattle.node_peers.specs.PeersState.{seat_at, waiting, most};
 ghost use Rattle.node_peers.specs.Seat.{Seat, new_seat};
 
-use crate::entry::Entry;
-use crate::loss::Loss;
+use crate::entry::PeerEntry;
+use crate::loss::PeerLoss;
 use crate::news::{Operator, PeerNews};
 use crate::peer::Peer;
 use crate::peers::Peers;
@@ -53,7 +53,7 @@ impl<C: Connection> Peers<C> {
         ensures { spec.KeepsOthers number self.old self.new }
     {
         // Where a number is given again, the connection that bore it before is closed.
-        self.close(turn, number, Loss::Replaced, operator);
+        self.close(turn, number, PeerLoss::Replaced, operator);
         match fresh.connection.origin() {
             Origin::PeerCame => self.let_in(turn, number, fresh, operator),
             Origin::PeerDialed(place) => self.reach(turn, number, place, fresh, operator),
@@ -100,14 +100,14 @@ impl<C: Connection> Peers<C> {
     }
 
     // Takes the connection of a stranger in.
-    fn accept(&mut self, turn: &Turn<'_, C>, number: usize, fresh: Fresh<C>) -> Result<(), Loss>
+    fn accept(&mut self, turn: &Turn<'_, C>, number: usize, fresh: Fresh<C>) -> Result<(), PeerLoss>
         requires origin { C.origin fresh.connection ≡ PeerCame }
         requires room { waiting self.old < most self.old }
         ensures { (n : ℕ) → n ≢ number → seat_at self.new n ≡ seat_at self.old n }
     {
         match Peer::accept(turn, fresh) {
             Ok(peer) => self.take_in(turn, number, peer, None),
-            Err(_) => Err(Loss::NoMemory),
+            Err(_) => Err(PeerLoss::NoMemory),
         }
     }
 
@@ -118,19 +118,19 @@ impl<C: Connection> Peers<C> {
         number: usize,
         place: usize,
         fresh: Fresh<C>,
-    ) -> Result<(), Loss>
+    ) -> Result<(), PeerLoss>
         requires { C.origin fresh.connection ≡ PeerDialed place }
         ensures { (n : ℕ) → n ≢ number → seat_at self.new n ≡ seat_at self.old n }
     {
         let Some(record) = self.records.get(place) else {
-            return Err(Loss::UnknownNode);
+            return Err(PeerLoss::UnknownNode);
         };
         if record.link.place() != place {
-            return Err(Loss::UnknownNode);
+            return Err(PeerLoss::UnknownNode);
         }
         match Peer::open(turn, &record.link, fresh) {
             Ok(peer) => self.take_in(turn, number, peer, Some(place)),
-            Err(_) => Err(Loss::NoMemory),
+            Err(_) => Err(PeerLoss::NoMemory),
         }
     }
 
@@ -141,7 +141,7 @@ impl<C: Connection> Peers<C> {
         number: usize,
         peer: Peer<C>,
         dialed: Option<usize>,
-    ) -> Result<(), Loss>
+    ) -> Result<(), PeerLoss>
         requires { is_some dialed ≡ false → waiting self.old < most self.old }
         ensures taken { OnOk result (seat_at self.new number
             ≡ Some (new_seat peer dialed self.old.begun turn.now.at)) }
@@ -149,10 +149,10 @@ impl<C: Connection> Peers<C> {
     {
         let order = self.begun;
         self.begun = order.saturating_add(1);
-        let entry = Entry::new(peer, dialed, order, turn.at);
+        let entry = PeerEntry::new(peer, dialed, order, turn.at);
         match self.entries.insert(number, entry) {
             Ok(_) => Ok(()),
-            Err(_) => Err(Loss::NoMemory),
+            Err(_) => Err(PeerLoss::NoMemory),
         }
     }
 
@@ -162,7 +162,7 @@ impl<C: Connection> Peers<C> {
         &mut self,
         turn: &Turn<'_, C>,
         number: usize,
-        loss: Loss,
+        loss: PeerLoss,
         operator: &mut O,
     )
         ensures seats { self.new.seats ≡ spec.without number self.old }
@@ -299,7 +299,7 @@ impl<C: Connection> Peers<C> {
     fn tell_ended<O: Operator>(
         &mut self,
         address: Option<SocketAddr>,
-        loss: Loss,
+        loss: PeerLoss,
         noted: Option<usize>,
         dialed: Option<usize>,
         operator: &mut O,
@@ -317,13 +317,13 @@ impl<C: Connection> Peers<C> {
     fn tell_refused<O: Operator>(
         &mut self,
         address: Option<SocketAddr>,
-        loss: Loss,
+        loss: PeerLoss,
         dialed: Option<usize>,
         operator: &mut O,
     )
         ensures { self.new ≡ self.old }
     {
-        if dialed.is_some() || loss == Loss::NoMemory || self.refusals.add() {
+        if dialed.is_some() || loss == PeerLoss::NoMemory || self.refusals.add() {
             let node = self.name_of(dialed);
             operator.tell(&PeerNews::Refused {
                 node,

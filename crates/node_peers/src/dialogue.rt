@@ -10,7 +10,7 @@ ghost use Rattle.node_peers.specs.Talk as spec;
 ghost use Rattle.peer_lines.specs.Spelling.{written};
 ghost use Rattle.peer_lines.specs.declared.peer_line.PeerLine.TheVariants as line;
 
-use crate::loss::Loss;
+use crate::loss::PeerLoss;
 use crate::turn::Turn;
 use byte_text::NoMemory;
 use cluster_directory::Terms;
@@ -21,7 +21,7 @@ use std::marker::Model;
 
 /// The session with a peer, with what is owed to that.
 #[derive(Drop)]
-pub(crate) struct Dialogue {
+pub(crate) struct PeerDialogue {
     pub(crate) session: PeerSession,
     /// What its last line brought, until that is carried out.
     pub(crate) brought: Heard,
@@ -32,7 +32,7 @@ pub(crate) struct Dialogue {
     pub(crate) said_at: u64,
 }
 
-impl Model for Dialogue {
+impl Model for PeerDialogue {
     ghost use Rattle.node_peers.specs.Talk.{Talk};
 
     ghost Value = { Talk };
@@ -52,13 +52,13 @@ pub(crate) fn owe(
     said_at: &mut u64,
     bytes: &[u8],
     now: u64,
-) -> Result<(), Loss>
+) -> Result<(), PeerLoss>
     ensures output { OnOk result (output.new ≡ output.old ++ bytes.now) }
     ensures at { OnOk result (said_at.new ≡ spec.said_last bytes.now now said_at.old) }
     ensures err { OnErr result (output.new ≡ output.old) }
 {
     let Ok(()) = output.push(bytes) else {
-        return Err(Loss::NoMemory);
+        return Err(PeerLoss::NoMemory);
     };
     if !bytes.is_empty() {
         *said_at = now;
@@ -84,24 +84,24 @@ fn acknowledge_nothing<C: Connection>(
 }
 
 // Why the connection is to be closed because of its line, where it is.
-fn refusal(noted: Option<usize>, heard: &Heard) -> Option<Loss>
+fn refusal(noted: Option<usize>, heard: &Heard) -> Option<PeerLoss>
     ensures { IfNone result (is_close heard.now ≡ false) }
 {
     match heard {
-        Heard::Close(fault) => Some(Loss::of_line(noted, *fault)),
+        Heard::Close(fault) => Some(PeerLoss::of_line(noted, *fault)),
         Heard::Nothing => None,
         Heard::Message(_, _) => None,
     }
 }
 
-impl Dialogue {
+impl PeerDialogue {
     /// A session that begins, with what is said first.
     pub(crate) fn new(
         alloc: Global,
         terms: &Terms,
         side: Side,
         now: u64,
-    ) -> Result<Dialogue, NoMemory>
+    ) -> Result<PeerDialogue, NoMemory>
         ensures { IfOk result (λ d. d ≡ spec.new_talk terms.now side now) }
     {
         let session = PeerSession::new(side);
@@ -109,7 +109,7 @@ impl Dialogue {
         session.open(terms, &mut room)?;
         let mut output = Pending::new(alloc);
         output.push(&room)?;
-        Ok(Dialogue {
+        Ok(PeerDialogue {
             session,
             brought: Heard::Nothing,
             noted: None,
@@ -124,7 +124,7 @@ impl Dialogue {
         turn: &Turn<'_, C>,
         bytes: Option<&[u8]>,
         room: &mut Vec<u8>,
-    ) -> Result<(), Loss>
+    ) -> Result<(), PeerLoss>
         ensures heard { OnOk result (AfterBytes turn.now.terms.now self.old.session
             (option_map deref bytes.entry) (λ step. (is_close step.heard ≡ false)
             × (self.new ≡ spec.after_step step turn.now.at self.old))) }
@@ -132,7 +132,7 @@ impl Dialogue {
     {
         room.clear();
         let Ok(heard) = self.session.hear(turn.alloc, turn.terms, bytes, room) else {
-            return Err(Loss::NoMemory);
+            return Err(PeerLoss::NoMemory);
         };
         let refused = refusal(self.noted, &heard);
         self.brought = heard;
@@ -248,14 +248,14 @@ impl Dialogue {
         turn: &Turn<'_, C>,
         place: usize,
         room: &mut Vec<u8>,
-    ) -> Result<(), Loss>
+    ) -> Result<(), PeerLoss>
         ensures said { OnOk result
             (self.new ≡ spec.repeating turn.now.terms.now place turn.now.at self.old) }
         ensures err { OnErr result (spec.IsEnded self.old self.new) }
     {
         room.clear();
         let Ok(()) = say_hello_again(turn.terms, place, room) else {
-            return Err(Loss::NoMemory);
+            return Err(PeerLoss::NoMemory);
         };
         owe(&mut self.output, &mut self.said_at, room, turn.at)
     }
@@ -266,14 +266,14 @@ impl Dialogue {
         turn: &Turn<'_, C>,
         life: &Life,
         room: &mut Vec<u8>,
-    ) -> Result<(), Loss>
+    ) -> Result<(), PeerLoss>
         ensures said { OnOk result
             (self.new ≡ spec.reminding turn.now.terms.now.me life.now turn.now.at self.old) }
         ensures err { OnErr result (spec.IsEnded self.old self.new) }
     {
         room.clear();
         let Ok(()) = acknowledge_nothing(turn, life, room) else {
-            return Err(Loss::NoMemory);
+            return Err(PeerLoss::NoMemory);
         };
         owe(&mut self.output, &mut self.said_at, room, turn.at)
     }

@@ -4,7 +4,7 @@ ghost use Rattle.node_peers.specs.Seat as spec;
 ghost use Rattle.node_peers.specs.declared.entry.TheConstants.{PATIENCE};
 
 use crate::dialing::earlier;
-use crate::loss::Loss;
+use crate::loss::PeerLoss;
 use crate::peer::Peer;
 use crate::peer_record::PeerRecord;
 use crate::supply::Supply;
@@ -17,8 +17,8 @@ use std::net::SocketAddr;
 /// A connection over which no peer says hello is closed after so many milliseconds.
 const PATIENCE: u64 = 60_000;
 
-/// A connection of the table. Contracts see it as a [`Seat`](Entry): all else is what the operator is told, and whose turn it is.
-pub(crate) struct Entry<C: Connection> {
+/// A connection of the table. Contracts see it as a [`Seat`](PeerEntry): all else is what the operator is told, and whose turn it is.
+pub(crate) struct PeerEntry<C: Connection> {
     pub(crate) peer: Peer<C>,
     /// Who is at the other end.
     pub(crate) address: Option<SocketAddr>,
@@ -40,7 +40,7 @@ pub(crate) struct Entry<C: Connection> {
     pub(crate) is_busy: bool,
 }
 
-impl<C: Connection> Model for Entry<C> {
+impl<C: Connection> Model for PeerEntry<C> {
     ghost use Rattle.node_peers.specs.Seat.{Seat};
 
     ghost Value = { Seat };
@@ -55,7 +55,7 @@ impl<C: Connection> Model for Entry<C> {
 }
 
 // Written out, so that this is proved once, and not in each function that lets a connection go.
-impl<C: Connection> Drop for Entry<C> {
+impl<C: Connection> Drop for PeerEntry<C> {
     fn drop(self) {
         let Self {
             peer: _peer,
@@ -72,13 +72,13 @@ impl<C: Connection> Drop for Entry<C> {
     }
 }
 
-impl<C: Connection> Entry<C> {
+impl<C: Connection> PeerEntry<C> {
     /// A connection that is there, to the peer at that place where this node opened it, behind so many others.
-    pub(crate) fn new(peer: Peer<C>, dialed: Option<usize>, order: u64, now: u64) -> Entry<C>
+    pub(crate) fn new(peer: Peer<C>, dialed: Option<usize>, order: u64, now: u64) -> PeerEntry<C>
         ensures { result ≡ spec.new_seat peer dialed order now }
     {
         let address = peer.connection().address();
-        Entry {
+        PeerEntry {
             peer,
             address,
             dialed,
@@ -165,13 +165,13 @@ impl<C: Connection> Entry<C> {
 
     /// Its turn ends: what is owed is sent, by one write. Why it is to be closed, where it is: a stranger that is to make way goes now
     /// that it had its turn, and all others only where they are lost.
-    pub(crate) fn end_turn(&mut self, has_more: bool) -> Option<Loss>
+    pub(crate) fn end_turn(&mut self, has_more: bool) -> Option<PeerLoss>
         ensures same { spec.IsSameSeat self.old self.new }
-        ensures stranger { spec.gives_way self.old ≡ true → result ≡ Some Loss.GaveWay }
+        ensures stranger { spec.gives_way self.old ≡ true → result ≡ Some PeerLoss.GaveWay }
         ensures other { spec.gives_way self.old ≡ false → result ≡ self.new.peer.loss }
     {
         if self.is_awaited && self.is_stranger() {
-            return Some(Loss::GaveWay);
+            return Some(PeerLoss::GaveWay);
         }
         self.peer.send();
         self.is_busy |= has_more || self.peer.can_send();
@@ -186,7 +186,7 @@ impl<C: Connection> Entry<C> {
     }
 
     /// What is due of it by now: why it is to be closed, where it is.
-    pub(crate) fn review(&mut self, turn: &Turn<'_, C>) -> Option<Loss>
+    pub(crate) fn review(&mut self, turn: &Turn<'_, C>) -> Option<PeerLoss>
         ensures same { spec.IsSameSeat self.old self.new }
         ensures loss { result ≡ spec.overdue turn.now.at self.old }
     {
@@ -194,21 +194,21 @@ impl<C: Connection> Entry<C> {
             return self.patience_ended(turn.at);
         }
         if self.peer.is_gone(turn.at) {
-            return Some(Loss::Unheard);
+            return Some(PeerLoss::Unheard);
         }
         if self.peer.tick(turn.at) {
-            return Some(Loss::Unacknowledged);
+            return Some(PeerLoss::Unacknowledged);
         }
         None
     }
 
     // Why it is to be closed, where no peer said hello over it in time.
-    fn patience_ended(&self, now: u64) -> Option<Loss>
+    fn patience_ended(&self, now: u64) -> Option<PeerLoss>
         ensures { result ≡ (if nat_le (self.now.since + PATIENCE) now
-            then Some Loss.Unregistered else None) }
+            then Some PeerLoss.Unregistered else None) }
     {
         if now.saturating_sub(self.since) >= PATIENCE {
-            Some(Loss::Unregistered)
+            Some(PeerLoss::Unregistered)
         } else {
             None
         }

@@ -33,9 +33,9 @@ mod turn;
 mod turns;
 
 pub use carrying::Carried;
-pub use loss::Loss;
+pub use loss::PeerLoss;
 pub use news::{Operator, PeerNews};
-pub use peer::{Hearing, Peer};
+pub use peer::{Peer, PeerHearing};
 pub use peer_link::{NoLink, PeerLink};
 pub use peers::Peers;
 pub use turn::Turn;

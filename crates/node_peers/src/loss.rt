@@ -6,7 +6,7 @@ use gossip_link::Fault;
 
 /// Why a connection with a peer ends.
 #[derive(Clone, Copy, Debug, PartialEq, Eq)]
-pub enum Loss {
+pub enum PeerLoss {
     /// The other end closed it.
     Closed,
     /// It sent a line that is refused.
@@ -35,16 +35,16 @@ pub enum Loss {
     NoEntry,
 }
 
-impl Loss {
+impl PeerLoss {
     /// Why a connection is closed whose line has that fault, before a peer said hello over it or afterwards.
-    pub(crate) fn of_line(noted: Option<usize>, fault: Fault) -> Loss
+    pub(crate) fn of_line(noted: Option<usize>, fault: Fault) -> PeerLoss
         ensures { result ≡ spec.of_line noted fault }
     {
         match (noted, fault) {
-            (None, Fault::WrongWord) => Loss::WrongWord,
-            (None, Fault::UnknownNode) => Loss::UnknownNode,
-            (None, Fault::OwnName) => Loss::OwnName,
-            _ => Loss::BadLine,
+            (None, Fault::WrongWord) => PeerLoss::WrongWord,
+            (None, Fault::UnknownNode) => PeerLoss::UnknownNode,
+            (None, Fault::OwnName) => PeerLoss::OwnName,
+            _ => PeerLoss::BadLine,
         }
     }
 }

@@ -4,7 +4,7 @@ ghost use Rattle.node_peers.specs.PeersState.{seat_at};
 ghost use Rattle.node_peers.specs.Seat.{overdue};
 
 use crate::dialing::earlier;
-use crate::loss::Loss;
+use crate::loss::PeerLoss;
 use crate::news::{Operator, PeerNews};
 use crate::peers::Peers;
 use crate::turn::Turn;
@@ -100,7 +100,7 @@ impl<C: Connection> Peers<C> {
     }
 
     // Why that connection is to be closed by now, where it is: no others are.
-    fn review(&mut self, turn: &Turn<'_, C>, number: usize) -> Option<Loss>
+    fn review(&mut self, turn: &Turn<'_, C>, number: usize) -> Option<PeerLoss>
         ensures { IfSome (seat_at self.old number) (λ seat. result ≡ overdue turn.now.at seat) }
     {
         let Some(entry) = self.entries.get_mut(&number) else {

@@ -1,5 +1,5 @@
 //! What the operator is told of peers.
-use crate::loss::Loss;
+use crate::loss::PeerLoss;
 use std::net::SocketAddr;
 
 /// What the operator is told of peers. No shared word and no text of a message stands in it.
@@ -32,13 +32,13 @@ pub enum PeerNews<'a> {
     /// The connection with a peer that was greeted ended.
     Down {
         node: &'a [u8],
-        loss: Loss,
+        loss: PeerLoss,
     },
     /// A connection ended before a peer was greeted over it. Where this node opened it, the peer is known by its name.
     Refused {
         node: Option<&'a [u8]>,
         address: Option<SocketAddr>,
-        loss: Loss,
+        loss: PeerLoss,
     },
     /// So many further connections that others opened ended before a peer was greeted, within a minute.
     MoreRefused {

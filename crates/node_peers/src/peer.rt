@@ -11,11 +11,11 @@ ghost use Rattle.node_peers.specs.PeerState.{new_peer, origin_of, talked, with_r
 ghost use Rattle.node_peers.specs.Served.{IsConfigured, IsHeardSo};
 ghost use Rattle.node_peers.specs.Talk.{IsAdvanced, IsCarriedOut, IsEnded, at_pace, noting};
 ghost use Rattle.node_peers.specs.declared.sending.TheConstants.{MOST_OWED};
-ghost use Rattle.node_peers.specs.declared.peer.Hearing.TheVariants as hearing;
+ghost use Rattle.node_peers.specs.declared.peer.PeerHearing.TheVariants as hearing;
 
 use crate::carrying::Carried;
-use crate::dialogue::Dialogue;
-use crate::loss::Loss;
+use crate::dialogue::PeerDialogue;
+use crate::loss::PeerLoss;
 use crate::peer_link::PeerLink;
 use crate::sending::MOST_OWED;
 use crate::turn::Turn;
@@ -29,7 +29,7 @@ use std::net::SocketAddr;
 
 /// What came of asking for the next line.
 #[derive(Clone, Copy, Debug, PartialEq, Eq)]
-pub enum Hearing {
+pub enum PeerHearing {
     /// The session heard it.
     Line,
     /// A message is to be carried out before it.
@@ -49,10 +49,10 @@ pub struct Peer<C: Connection> {
     pub(crate) connection: C,
     side: Side,
     input: LineBuffer,
-    pub(crate) dialogue: Dialogue,
+    pub(crate) dialogue: PeerDialogue,
     /// When bytes came last, in milliseconds.
     pub(crate) heard_at: u64,
-    pub(crate) loss: Option<Loss>,
+    pub(crate) loss: Option<PeerLoss>,
     is_readable: bool,
     pub(crate) is_writable: bool,
 }
@@ -84,11 +84,11 @@ impl<C: Connection> Model for Peer<C> {
 
 // The session hears the next line, or that it was too long, at that moment. None where no line is there.
 fn hear_next<C: Connection>(
-    dialogue: &mut Dialogue,
+    dialogue: &mut PeerDialogue,
     input: &mut LineBuffer,
     turn: &Turn<'_, C>,
     room: &mut Vec<u8>,
-) -> Option<Result<(), Loss>>
+) -> Option<Result<(), PeerLoss>>
     ensures none { IfNone result (next_item input.old ≡ None) }
     ensures unheard { IfNone result ((dialogue.new ≡ dialogue.old) × (input.new ≡ input.old)) }
     ensures heard { IfSome result (λ answer. OnOk answer (IsHeardSo turn.now.terms.now turn.now.at
@@ -115,7 +115,7 @@ impl<C: Connection> Peer<C> {
             ≡ new_peer C.facts.terms side (C.serial fresh.connection) turn.now.at) }
     {
         let Fresh { connection, .. } = fresh;
-        let dialogue = Dialogue::new(turn.alloc, turn.terms, side, turn.at)?;
+        let dialogue = PeerDialogue::new(turn.alloc, turn.terms, side, turn.at)?;
         Ok(Peer {
             connection,
             side,
@@ -161,14 +161,14 @@ impl<C: Connection> Peer<C> {
     }
 
     /// Why it is lost, where it is.
-    pub fn loss(&self) -> Option<Loss>
+    pub fn loss(&self) -> Option<PeerLoss>
         ensures { result ≡ self.now.loss }
     {
         self.loss
     }
 
     /// It is lost from now on: nothing is said any more.
-    pub fn lose(&mut self, loss: Loss)
+    pub fn lose(&mut self, loss: PeerLoss)
         ensures { self.new ≡ record self.old { loss = Some loss } }
     {
         self.loss = Some(loss);
@@ -227,7 +227,7 @@ impl<C: Connection> Peer<C> {
 
     /// Its session hears the next line at that moment. What the session says to that is owed. Where the connection is to be closed
     /// because of the line, and for want of memory, it is lost.
-    pub fn hear(&mut self, turn: &Turn<'_, C>, room: &mut Vec<u8>) -> Hearing
+    pub fn hear(&mut self, turn: &Turn<'_, C>, room: &mut Vec<u8>) -> PeerHearing
         ensures line { result ≡ hearing.Line → IsHeard C.facts turn.now.at self.old self.new }
         ensures kept { result ≡ hearing.Line → self.old.loss ≡ None }
         ensures more { result ≡ hearing.More →
@@ -240,13 +240,13 @@ impl<C: Connection> Peer<C> {
         ensures lost { result ≡ hearing.Lost → IsLost self.old self.new }
     {
         if self.loss.is_some() {
-            return Hearing::Lost;
+            return PeerHearing::Lost;
         }
         if !self.dialogue.is_idle() {
-            return Hearing::Message;
+            return PeerHearing::Message;
         }
         if self.dialogue.owed().len() > MOST_OWED {
-            return Hearing::Full;
+            return PeerHearing::Full;
         }
         let Peer {
             dialogue,
@@ -254,12 +254,12 @@ impl<C: Connection> Peer<C> {
             ..
         } = self;
         match hear_next(dialogue, input, turn, room) {
-            Some(Ok(())) => Hearing::Line,
+            Some(Ok(())) => PeerHearing::Line,
             Some(Err(loss)) => {
                 self.loss = Some(loss);
-                Hearing::Lost
+                PeerHearing::Lost
             }
-            None => Hearing::More,
+            None => PeerHearing::More,
         }
     }
 

@@ -4,7 +4,7 @@ ghost use Rattle.std.specs.Option.{option_map};
 ghost use Rattle.std.specs.List.{All};
 ghost use Rattle.node_peers.specs.PeersState.{IsGreetedAs, most, seat_at, waiting};
 
-use crate::entry::Entry;
+use crate::entry::PeerEntry;
 use crate::peer::Peer;
 use crate::peer_link::NoLink;
 use crate::peer_record::PeerRecord;
@@ -18,7 +18,7 @@ use std::marker::Model;
 /// A node's peers: what is kept of each, and the connections with them and with strangers, by their numbers. Places are those of
 /// the peers in the node's terms, from 0. Contracts see the connections and when each peer is dialed.
 pub struct Peers<C: Connection> {
-    pub(crate) entries: BTreeMap<usize, Entry<C>>,
+    pub(crate) entries: BTreeMap<usize, PeerEntry<C>>,
     /// In the order of the node's terms.
     pub(crate) records: Vec<PeerRecord<C>>,
     /// How many connections came so far.

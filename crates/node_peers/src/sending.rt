@@ -3,7 +3,7 @@ ghost use Rattle.std.specs.Prelude.{◌≡◌, ◌≤◌, None, length, true};
 ghost use Rattle.node_peers.specs.PeerEvents.{IsSent};
 ghost use Rattle.node_peers.specs.declared.sending.TheConstants.{MOST_OWED};
 
-use crate::loss::Loss;
+use crate::loss::PeerLoss;
 use crate::peer::Peer;
 use chat_history::DELTA_LIMIT;
 use node_ports::{Connection, Halt};
@@ -36,7 +36,7 @@ impl<C: Connection> Peer<C> {
         match self.connection.send(self.dialogue.owed()) {
             Ok(0) | Err(Halt::Blocked) => self.is_writable = false,
             Ok(count) => self.dialogue.take_sent(count),
-            Err(Halt::Closed) => self.loss = Some(Loss::Closed),
+            Err(Halt::Closed) => self.loss = Some(PeerLoss::Closed),
         }
     }
 
@@ -57,6 +57,6 @@ impl<C: Connection> Peer<C> {
                 break;
             }
         }
-        self.lose(Loss::Overrun);
+        self.lose(PeerLoss::Overrun);
     }
 }

@@ -3,10 +3,10 @@ ghost use Rattle.std.specs.Prelude.{◌≡◌, ◌≢◌, ℕ, Some, true};
 ghost use Rattle.node_peers.specs.PeersState.{seat_at};
 ghost use Rattle.node_peers.specs.Seat.{IsSameSeat, Seat, gives_way};
 
-use crate::entry::Entry;
-use crate::loss::Loss;
+use crate::entry::PeerEntry;
+use crate::loss::PeerLoss;
 use crate::news::Operator;
-use crate::peer::Hearing;
+use crate::peer::PeerHearing;
 use crate::peers::Peers;
 use crate::turn::Turn;
 use node_ports::{Connection, ReceiveFault};
@@ -21,25 +21,25 @@ pub enum PeerStep {
     /// Nothing is there for now.
     Rest,
     /// The connection is to be closed.
-    Over(Loss),
+    Over(PeerLoss),
 }
 
-impl<C: Connection> Entry<C> {
+impl<C: Connection> PeerEntry<C> {
     // Hears the next line, or takes in more bytes for it.
     fn step(&mut self, turn: &Turn<'_, C>, chunk: &mut [u8], room: &mut Vec<u8>) -> PeerStep
         ensures { IsSameSeat self.old self.new }
     {
         match self.peer.hear(turn, room) {
-            Hearing::Line => PeerStep::Again,
-            Hearing::Message => PeerStep::Take,
-            Hearing::More => self.receive(turn, chunk),
-            Hearing::Full => {
+            PeerHearing::Line => PeerStep::Again,
+            PeerHearing::Message => PeerStep::Take,
+            PeerHearing::More => self.receive(turn, chunk),
+            PeerHearing::Full => {
                 self.peer.make_room();
                 PeerStep::Again
             }
-            Hearing::Lost => match self.peer.loss() {
+            PeerHearing::Lost => match self.peer.loss() {
                 Some(loss) => PeerStep::Over(loss),
-                None => PeerStep::Over(Loss::Closed),
+                None => PeerStep::Over(PeerLoss::Closed),
             },
         }
     }
@@ -51,8 +51,8 @@ impl<C: Connection> Entry<C> {
         match self.peer.receive(chunk, turn.at) {
             Ok(_) => PeerStep::Again,
             Err(ReceiveFault::Blocked) => PeerStep::Rest,
-            Err(ReceiveFault::Closed) => PeerStep::Over(Loss::Closed),
-            Err(ReceiveFault::NoMemory) => PeerStep::Over(Loss::NoMemory),
+            Err(ReceiveFault::Closed) => PeerStep::Over(PeerLoss::Closed),
+            Err(ReceiveFault::NoMemory) => PeerStep::Over(PeerLoss::NoMemory),
         }
     }
 }
@@ -127,10 +127,10 @@ impl<C: Connection> Peers<C> {
     }
 
     // The turn of that connection ends: why it is to be closed, where it is.
-    fn end_turn(&mut self, number: usize, has_more: bool) -> Option<Loss>
+    fn end_turn(&mut self, number: usize, has_more: bool) -> Option<PeerLoss>
         ensures others { (n : ℕ) → n ≢ number → seat_at self.new n ≡ seat_at self.old n }
         ensures way { (seat : Seat) → seat_at self.old number ≡ Some seat → gives_way seat ≡ true
-            → result ≡ Some Loss.GaveWay }
+            → result ≡ Some PeerLoss.GaveWay }
     {
         let Some(entry) = self.entries.get_mut(&number) else {
             return None;

@@ -1,4 +1,4 @@
-mod JournalLemmas
+mod TranscriptLemmas
 mod LineBufferLemmas
 mod PlaceLemmas
 mod UnreadLemmas

@@ -24,7 +24,7 @@ const LINE: usize = 4096;
 
 // What is to be written, and how far that has come.
 #[derive(Drop)]
-struct State {
+struct QueueState {
     queue: LogQueue,
     // The room for a line.
     line: Vec<u8>,
@@ -34,7 +34,7 @@ struct State {
     is_written: bool,
 }
 
-impl State {
+impl QueueState {
     // A line waits to be written.
     fn push<E: fmt::Display + Copy>(&mut self, event: &TimedEvent<'_, E>) {
         self.line.clear();
@@ -46,8 +46,8 @@ impl State {
 }
 
 #[derive(Drop)]
-struct Shared {
-    state: Mutex<State>,
+struct SharedQueue {
+    state: Mutex<QueueState>,
     // Told of each change of the state.
     changed: Condvar,
 }
@@ -56,13 +56,13 @@ struct Shared {
 /// who hands one in never waits for whoever reads the log. What doesn't fit is lost, and how many lines that were is told.
 #[derive(Drop)]
 pub struct Log {
-    shared: Arc<Shared>,
+    shared: Arc<SharedQueue>,
 }
 
 // Where the lines of a log are written.
 #[derive(Drop)]
-struct LogWriter {
-    shared: Arc<Shared>,
+struct LinesWriter {
+    shared: Arc<SharedQueue>,
     // The lines that are written.
     lines: Vec<u8>,
     ghost roomy: { ROOM ≤ vec_capacity lines },
@@ -93,21 +93,21 @@ fn moment_now<R: Clock>(rt: &R) -> Option<Moment> {
 }
 
 // An empty log, and where its lines are written.
-fn new_log(alloc: Global) -> Result<(Log, LogWriter), AllocError> {
-    let state = State {
+fn new_log(alloc: Global) -> Result<(Log, LinesWriter), AllocError> {
+    let state = QueueState {
         queue: LogQueue::new(alloc)?,
         line: Vec::with_capacity(alloc, LINE)?,
         is_ending: false,
         is_written: false,
     };
-    let shared = Shared {
+    let shared = SharedQueue {
         state: Mutex::new(state),
         changed: Condvar::new(),
     };
     let log = Log {
         shared: Arc::new(alloc, shared)?,
     };
-    let writer = LogWriter {
+    let writer = LinesWriter {
         shared: Arc::try_clone(&log.shared)?,
         lines: room(alloc)?,
     };
@@ -165,7 +165,7 @@ impl Log {
     }
 }
 
-impl LogWriter {
+impl LinesWriter {
     // Writes the lines as they come, until all are written that wait as the program ends.
     fn run<R: Wait + Clock + Eprint>(&mut self, rt: &R) {
         for _ in rt.forever() {

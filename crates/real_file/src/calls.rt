@@ -3,7 +3,7 @@
 ghost use Rattle.std.specs.Prelude.{◌≡◌, ◌≤◌, [], ◌∷◌, length, take, true, false, IfSome, IsNone};
 ghost use Rattle.real_file.specs.Calls.{wrote as was_wrote, cut as was_cut, synced, renamed, folder_synced, read as was_read, measured, side_begun, side_wrote, side_synced, refused as was_refused};
 
-use crate::record::Record;
+use crate::record::CallRecord;
 use std::fs;
 use std::fs::{File, OpenOptions};
 use std::os::fd::AsRawFd;
@@ -38,7 +38,7 @@ fn put(file: &File, at: usize, bytes: &[u8]) -> bool {
 }
 
 /// Writes all the bytes.
-pub(crate) fn write(file: &File, log: &mut Record, at: usize, bytes: &[u8]) -> bool
+pub(crate) fn write(file: &File, log: &mut CallRecord, at: usize, bytes: &[u8]) -> bool
     ensures { log.new.events ≡ was_wrote at result bytes.now ∷ log.old.events }
 {
     let is_ok = put(file, at, bytes);
@@ -50,7 +50,7 @@ pub(crate) fn write(file: &File, log: &mut Record, at: usize, bytes: &[u8]) -> b
     is_ok
 }
 
-pub(crate) fn cut(file: &File, log: &mut Record, len: usize) -> bool
+pub(crate) fn cut(file: &File, log: &mut CallRecord, len: usize) -> bool
     ensures { log.new.events ≡ was_cut len result ∷ log.old.events }
 {
     let is_ok = file.set_len(len as u64).is_ok();
@@ -63,7 +63,7 @@ pub(crate) fn cut(file: &File, log: &mut Record, len: usize) -> bool
 }
 
 /// Syncs what was written, and what is needed to read it.
-pub(crate) fn sync(file: &File, log: &mut Record) -> bool
+pub(crate) fn sync(file: &File, log: &mut CallRecord) -> bool
     ensures { log.new.events ≡ synced result ∷ log.old.events }
 {
     let is_ok = file.sync_data().is_ok();
@@ -77,7 +77,7 @@ pub(crate) fn sync(file: &File, log: &mut Record) -> bool
 
 /// Syncs a file at its opening, and lets go what the kernel has of it: after a sync that failed in another life it may have
 /// other bytes than the disk.
-pub(crate) fn settle(file: &File, log: &mut Record) -> bool
+pub(crate) fn settle(file: &File, log: &mut CallRecord) -> bool
     ensures { log.new.events ≡ synced result ∷ log.old.events }
 {
     let is_ok = file.sync_all().is_ok() && is_let_go(file);
@@ -93,7 +93,7 @@ fn is_let_go(file: &File) -> bool {
     libc::posix_fadvise(file.as_raw_fd(), 0, 0, libc::POSIX_FADV_DONTNEED) == 0
 }
 
-pub(crate) fn sync_folder(folder: &File, log: &mut Record) -> bool
+pub(crate) fn sync_folder(folder: &File, log: &mut CallRecord) -> bool
     ensures { log.new.events ≡ folder_synced result ∷ log.old.events }
 {
     let is_ok = folder.sync_all().is_ok();
@@ -106,7 +106,7 @@ pub(crate) fn sync_folder(folder: &File, log: &mut Record) -> bool
 }
 
 /// Gives the new file the name of the other.
-pub(crate) fn rename(rt: &HostRuntime, log: &mut Record, new: &str, path: &str) -> bool
+pub(crate) fn rename(rt: &HostRuntime, log: &mut CallRecord, new: &str, path: &str) -> bool
     ensures { log.new.events ≡ renamed result ∷ log.old.events }
 {
     let is_ok = fs::rename(rt, new, path).is_ok();
@@ -131,7 +131,7 @@ fn got(file: &File, at: usize, buf: &mut [u8]) -> Option<usize>
 }
 
 /// Reads some bytes; none are the end.
-pub(crate) fn read(file: &File, log: &mut Record, at: usize, buf: &mut [u8]) -> Option<usize>
+pub(crate) fn read(file: &File, log: &mut CallRecord, at: usize, buf: &mut [u8]) -> Option<usize>
     ensures count { IfSome result (λ n. n ≤ length buf.old) }
     ensures some { IfSome result (λ n. log.new.events ≡ was_read at true (take n buf.new) ∷
         log.old.events) }
@@ -157,7 +157,7 @@ fn len_of(file: &File) -> Option<u64> {
 }
 
 /// Whether the file has so many bytes.
-pub(crate) fn has_len(file: &File, log: &mut Record, len: usize) -> bool
+pub(crate) fn has_len(file: &File, log: &mut CallRecord, len: usize) -> bool
     ensures { log.new.events ≡ measured len result ∷ log.old.events }
 {
     let is_so = len_of(file) == Some(len as u64);
@@ -188,7 +188,7 @@ pub(crate) fn make(rt: &HostRuntime, path: &str) -> Option<File> {
     }
 }
 
-pub(crate) fn begin_side(rt: &HostRuntime, log: &mut Record, path: &str) -> Option<File>
+pub(crate) fn begin_side(rt: &HostRuntime, log: &mut CallRecord, path: &str) -> Option<File>
     ensures some { IfSome result (λ _. log.new.events ≡ side_begun true ∷ log.old.events) }
     ensures none { IsNone result → log.new.events ≡ side_begun false ∷ log.old.events }
 {
@@ -204,7 +204,7 @@ pub(crate) fn begin_side(rt: &HostRuntime, log: &mut Record, path: &str) -> Opti
     }
 }
 
-pub(crate) fn write_side(file: &File, log: &mut Record, at: usize, bytes: &[u8]) -> bool
+pub(crate) fn write_side(file: &File, log: &mut CallRecord, at: usize, bytes: &[u8]) -> bool
     ensures { log.new.events ≡ side_wrote at result bytes.now ∷ log.old.events }
 {
     let is_ok = put(file, at, bytes);
@@ -216,7 +216,7 @@ pub(crate) fn write_side(file: &File, log: &mut Record, at: usize, bytes: &[u8])
     is_ok
 }
 
-pub(crate) fn sync_side(file: &File, log: &mut Record) -> bool
+pub(crate) fn sync_side(file: &File, log: &mut CallRecord) -> bool
     ensures { log.new.events ≡ side_synced result ∷ log.old.events }
 {
     let is_ok = file.sync_all().is_ok();
@@ -229,7 +229,7 @@ pub(crate) fn sync_side(file: &File, log: &mut Record) -> bool
 }
 
 /// Makes no call.
-pub(crate) fn refuse(log: &mut Record)
+pub(crate) fn refuse(log: &mut CallRecord)
     ensures { log.new.events ≡ was_refused ∷ log.old.events }
 {
     log.note(&[REFUSED, 0, 0], &[]);

@@ -2,8 +2,8 @@
 ghost use Rattle.std.specs.Prelude.{◌≡◌, [], IfOk, IfSome};
 ghost use Rattle.real_file.specs.Members.{source_got};
 
-use crate::record::Record;
-use crate::source::Parts;
+use crate::record::CallRecord;
+use crate::source::OpenFile;
 use crate::{RealSource, calls};
 use std::alloc::AllocError;
 use std::fs::{File, OpenOptions, TryLockError};
@@ -61,7 +61,7 @@ pub fn open(rt: &HostRuntime, path: &str, first: &[u8]) -> Result<RealSource, Op
     if is_missing(rt, path)? {
         make(rt, path, new_path.as_str(), first)?;
     }
-    let parts = Parts {
+    let parts = OpenFile {
         rt: *rt,
         path: format!(in alloc; "{path}")?,
         new_path,
@@ -76,10 +76,10 @@ pub fn open(rt: &HostRuntime, path: &str, first: &[u8]) -> Result<RealSource, Op
 }
 
 // What is read from now on is on the disk, and the name too.
-fn settled(parts: Parts) -> Option<RealSource>
+fn settled(parts: OpenFile) -> Option<RealSource>
     ensures { IfSome result (λ s. source_got s ≡ []) }
 {
-    let mut log = Record::new();
+    let mut log = CallRecord::new();
     if calls::settle(&parts.file, &mut log) && calls::sync_folder(&parts.folder, &mut log) {
         Some(RealSource { parts, at: 0, log })
     } else {

@@ -4,8 +4,8 @@ ghost use Rattle.real_file.specs.Model.{MayLeave, LeftSince, replay};
 ghost use Rattle.real_file.specs.Past.{counts_now, only_now};
 
 use crate::calls;
-use crate::record::Record;
-use crate::source::Parts;
+use crate::record::CallRecord;
+use crate::source::OpenFile;
 use block_file::{Device, DeviceError};
 use std::fs::File;
 
@@ -13,13 +13,13 @@ use std::fs::File;
 /// to be opened anew.
 #[derive(Drop)]
 pub struct RealFile {
-    pub(crate) parts: Parts,
+    pub(crate) parts: OpenFile,
     pub(crate) side: Option<File>,
     pub(crate) side_len: usize,
     pub(crate) is_usable: bool,
     // the folder was synced since the file got its name
     pub(crate) is_named: bool,
-    pub(crate) log: Record,
+    pub(crate) log: CallRecord,
     pub(crate) ghost whole: { (replay log.events).is_whole ≡ true },
     pub(crate) ghost usable: { is_usable ≡ true → (replay log.events).is_usable ≡ true },
     pub(crate) ghost named: { is_named ≡ true → (c : List ℕ) → (replay log.events).other c → ⊥ },

@@ -6,23 +6,23 @@ ghost use Rattle.real_file.specs.Calls.{Call, call_of};
 use std::marker::{Model, PhantomData};
 
 #[derive(Drop)]
-pub struct Record {
+pub struct CallRecord {
     marker: PhantomData<u8>,
     pub ghost events: { List Call },
 }
 
-impl Model for Record {
+impl Model for CallRecord {
     ghost also_owns = { λ _. ftrue };
 }
 
 // It owns nothing.
-unsafe impl Send for Record {}
+unsafe impl Send for CallRecord {}
 
-impl Record {
-    pub(crate) fn new() -> Record
+impl CallRecord {
+    pub(crate) fn new() -> CallRecord
         ensures { result.events ≡ [] }
     {
-        Record {
+        CallRecord {
             marker: PhantomData,
         }
     }

@@ -4,7 +4,7 @@ ghost use Rattle.block_file.specs.Device.{Only};
 ghost use Rattle.real_file.specs.Calls.{read};
 ghost use Rattle.real_file.specs.Model.{replay};
 
-use crate::record::Record;
+use crate::record::CallRecord;
 use crate::{RealFile, calls};
 use block_file::{ByteSource, DeviceError};
 use std::alloc::{AllocError, Global};
@@ -17,7 +17,7 @@ const LONGEST: usize = 1 << 62;
 
 /// The open file, its folder, its lock, and the names of it and of the new file that may take its place.
 #[derive(Drop)]
-pub(crate) struct Parts {
+pub(crate) struct OpenFile {
     pub(crate) rt: HostRuntime,
     pub(crate) path: String,
     pub(crate) new_path: String,
@@ -29,9 +29,9 @@ pub(crate) struct Parts {
 /// A file that is being read. It was synced when it was opened, and its folder too.
 #[derive(Drop)]
 pub struct RealSource {
-    pub(crate) parts: Parts,
+    pub(crate) parts: OpenFile,
     pub(crate) at: usize,
-    pub(crate) log: Record,
+    pub(crate) log: CallRecord,
     pub(crate) ghost at_is: { at ≡ length (replay log.events).seen },
     pub(crate) ghost settled: { (replay log.events).is_settled ≡ true },
     pub(crate) ghost usable: { (replay log.events).is_usable ≡ true },
@@ -66,7 +66,7 @@ fn zeros(alloc: Global, count: usize) -> Result<Vec<u8>, AllocError> {
 fn chunk(
     alloc: Global,
     file: &File,
-    log: &mut Record,
+    log: &mut CallRecord,
     at: usize,
 ) -> Result<Option<Vec<u8>>, AllocError>
     ensures some { IfOk result (λ got. IfSome got (λ bytes. log.new.events ≡ read at true

@@ -21,7 +21,7 @@ use chat_batch::{Facts, answer};
 use chat_change::{Buffer, MsgId};
 use chat_state::{NoEntry, Peek, State};
 use client_session::{
-    Account, Answered, Directory, Effect, Entry, Network, NoMemory, Session, StepFault,
+    Answered, ConfiguredAccount, Directory, Effect, Entry, Network, NoMemory, Session, StepFault,
 };
 use irc_caps::CapSet;
 use irc_line::{TagLimit, read_line};
@@ -30,7 +30,7 @@ use std::io::Write;
 
 /// A session, with what it is asked beside: a directory, and a state that shows the message m1 in the channel #a.
 #[derive(Drop)]
-struct Player {
+struct SessionPlayer {
     session: Session,
     directory: Directory,
     state: State,
@@ -73,9 +73,14 @@ fn network_of(alloc: Global, word: &str) -> Result<Network, Error> {
 }
 
 // An account of that name and with that secret, which has that network.
-fn account_of(alloc: Global, name: &[u8], secret: &[u8], word: &str) -> Result<Account, Error> {
+fn account_of(
+    alloc: Global,
+    name: &[u8],
+    secret: &[u8],
+    word: &str,
+) -> Result<ConfiguredAccount, Error> {
     let name = Text::new(alloc, name)?;
-    let mut account = Account::new(alloc, name, Text::new(alloc, secret)?);
+    let mut account = ConfiguredAccount::new(alloc, name, Text::new(alloc, secret)?);
     account.add(network_of(alloc, word)?)?;
     Ok(account)
 }
@@ -109,7 +114,7 @@ fn session_of(alloc: Global, word: &str) -> Result<Session, NoMemory> {
     Ok(Session::registered(facts))
 }
 
-fn player_of(alloc: Global, setting: &str) -> Result<Player, Error> {
+fn player_of(alloc: Global, setting: &str) -> Result<SessionPlayer, Error> {
     let (who, standing) = setting.split_once(" ").unwrap_or((setting, ""));
     let mut state = State::new(alloc);
     absorb(
@@ -119,7 +124,7 @@ fn player_of(alloc: Global, setting: &str) -> Result<Player, Error> {
     )?;
     let directory = directory_of(alloc, standing)?;
     let session = session_of(alloc, who)?;
-    Ok(Player {
+    Ok(SessionPlayer {
         session,
         directory,
         state,
@@ -139,7 +144,7 @@ fn tell_effect(alloc: Global, out: &mut Vec<u8>, effect: &Effect) -> Result<(), 
     Ok(())
 }
 
-impl Player {
+impl SessionPlayer {
     // What a line of the client does. None stands for one that was too long.
     fn step(&mut self, alloc: Global, line: Option<&[u8]>) -> Result<Vec<Effect>, StepFault> {
         let Some(line) = line else {

@@ -5,16 +5,16 @@ use std::io::{ErrorKind, Read, Write};
 
 /// A reader that gives these bytes. At first it gives as many a read as there is room for, and never fails.
 #[derive(Drop)]
-pub struct Source<'a> {
+pub struct BytesReader<'a> {
     rest: &'a [u8],
     most: usize,
     reads_left: usize,
 }
 
-impl<'a> Source<'a> {
+impl<'a> BytesReader<'a> {
     /// A reader of all the bytes.
-    pub fn new(bytes: &'a [u8]) -> Source<'a> {
-        Source {
+    pub fn new(bytes: &'a [u8]) -> BytesReader<'a> {
+        BytesReader {
             rest: bytes,
             most: usize::MAX,
             reads_left: usize::MAX,
@@ -22,23 +22,23 @@ impl<'a> Source<'a> {
     }
 
     /// It gives so many bytes a read at most, and at least one while there are some.
-    pub fn at_most(self, most: usize) -> Source<'a> {
-        Source {
+    pub fn at_most(self, most: usize) -> BytesReader<'a> {
+        BytesReader {
             most: most.max(1),
             ..self
         }
     }
 
     /// It fails at each read once it has made so many (`ErrorKind::BrokenPipe`).
-    pub fn failing_after(self, reads: usize) -> Source<'a> {
-        Source {
+    pub fn failing_after(self, reads: usize) -> BytesReader<'a> {
+        BytesReader {
             reads_left: reads,
             ..self
         }
     }
 }
 
-impl<'a> Read for Source<'a> {
+impl<'a> Read for BytesReader<'a> {
     fn read(&mut self, buf: &mut [u8]) -> io::Result<usize> {
         if self.reads_left == 0 {
             return Err(io::Error::from(ErrorKind::BrokenPipe));

@@ -8,7 +8,7 @@
 //! The reader gives so many bytes a read at most, and the writer takes one a write, but all of it where its `whole-writes`
 //! fail. The device fails at once, then after one such call, after two, and so on, until the script is answered. A reader that is
 //! `interrupted` gives nothing, and what stands first is how often it was read. `tables.py` writes this file.
-use crate::devices::{Interrupted, Sink, Source};
+use crate::devices::{BytesReader, Interrupted, Sink};
 use anyhow::Error;
 use bnc_server::{ReplayFault, replay};
 use std::alloc::Global;
@@ -17,7 +17,7 @@ use std::io::Write;
 /// How a script ends, and how many bytes are written by then.
 fn ended(
     alloc: Global,
-    reader: Source<'_>,
+    reader: BytesReader<'_>,
     device: &str,
     count: usize,
 ) -> (Result<(), ReplayFault>, usize) {
@@ -52,7 +52,7 @@ pub fn play(alloc: Global, setting: &str, script: &str, out: &mut Vec<u8>) -> Re
     let most = most.parse::<usize>()?;
     let script = format!(in alloc; "{script}\n")?;
     for count in 0..usize::MAX {
-        let reader = Source::new(script.as_bytes()).at_most(most);
+        let reader = BytesReader::new(script.as_bytes()).at_most(most);
         let (answered, bytes) = ended(alloc, reader, device, count);
         let Err(fault) = answered else {
             write!(out, "{count} {bytes} answered\n")?;

@@ -38,7 +38,7 @@ const PLACE: usize = 1;
 
 /// The node n1 in its incarnation 7, its link with n2, and its connection with that.
 #[derive(Drop)]
-struct Node {
+struct LinkedNode {
     terms: Terms,
     link: Link,
     state: State,
@@ -108,12 +108,12 @@ fn tell_sent(sent: &[u8], out: &mut Vec<u8>) -> Result<(), AllocError> {
     Ok(())
 }
 
-impl Node {
+impl LinkedNode {
     // A node that holds nothing, and has no connection yet.
-    fn new(alloc: Global) -> Result<Node, Error> {
+    fn new(alloc: Global) -> Result<LinkedNode, Error> {
         let terms = terms_of(alloc)?;
         let link = link_of(alloc)?;
-        Ok(Node {
+        Ok(LinkedNode {
             terms,
             link,
             state: State::new(alloc),
@@ -294,6 +294,6 @@ impl Node {
 
 /// Prints what the lines of a script do, one after the other.
 pub fn tell_script(alloc: Global, script: &str, out: &mut Vec<u8>) -> Result<(), Error> {
-    let mut node = Node::new(alloc)?;
+    let mut node = LinkedNode::new(alloc)?;
     node.tell_turns(alloc, script, out)
 }

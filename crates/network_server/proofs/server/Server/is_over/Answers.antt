@@ -1,10 +1,10 @@
 use Rattle.std.proofs.Common.{◌≡◌, ◌≤◌, ◌+◌, ℕ, Option, None, Some, IfSome, sym, ap, ◌∙◌, subst, arith}
 use Rattle.network_server.specs.ServerState.{ServerState, MayEnd, IsOver, IsLost, IsSilent}
-use Rattle.network_server.specs.declared.server.Loss.{Loss}
+use Rattle.network_server.specs.declared.server.ServerLoss.{ServerLoss}
 use Rattle.network_server.specs.declared.server.TheConstants.{QUIET}
 use Rattle.network_server.proofs.server.Server.is_over.Goals as goal
 
-if-lost : (s : ServerState) (now : ℕ) (loss : Option Loss) → s.loss ≡ loss → IfSome loss (λ why. MayEnd s now why)
+if-lost : (s : ServerState) (now : ℕ) (loss : Option ServerLoss) → s.loss ≡ loss → IfSome loss (λ why. MayEnd s now why)
 if-lost s now None e = tt
 if-lost s now (Some why) e = IsLost why e
 

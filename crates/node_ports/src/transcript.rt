@@ -6,36 +6,36 @@ use std::marker::Model;
 
 /// Bytes that went by. A clause reads them as `bytes`.
 #[derive(Drop)]
-pub struct Journal {
+pub struct Transcript {
     pub ghost bytes: { List ℕ },
 }
 
-impl Model for Journal {
+impl Model for Transcript {
     ghost also_owns = { λ _. ftrue };
 }
 
 // It owns nothing.
-unsafe impl Send for Journal {}
+unsafe impl Send for Transcript {}
 
 /// Further bytes.
 #[derive(Clone, Copy)]
-pub struct Piece<'a> {
+pub struct FurtherBytes<'a> {
     pub bytes: &'a [u8],
 }
 
-impl Journal {
+impl Transcript {
     /// Nothing went by.
-    pub fn new() -> Journal
+    pub fn new() -> Transcript
         ensures { result.bytes ≡ [] }
     {
-        Journal {}
+        Transcript {}
     }
 
     /// These too.
     #[inline(always)]
-    pub fn then(&self, _piece: &Piece<'_>) -> Journal
+    pub fn then(&self, _piece: &FurtherBytes<'_>) -> Transcript
         ensures { result.bytes ≡ self.now.bytes ++ _piece.now.bytes.now }
     {
-        Journal {}
+        Transcript {}
     }
 }

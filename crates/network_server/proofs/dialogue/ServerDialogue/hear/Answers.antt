@@ -8,7 +8,7 @@ use Rattle.network_log.specs.Host.{entering, entries_by, has_entered}
 use Rattle.network_server.specs.Effects.{closes}
 use Rattle.network_server.specs.Standing.{IsNoted}
 use Rattle.network_server.proofs.EventLemmas.{entered-same, over-by}
-use Rattle.network_server.proofs.dialogue.Dialogue.hear.Goals as goal
+use Rattle.network_server.proofs.dialogue.ServerDialogue.hear.Goals as goal
 
 pub returns-clause-batch : goal.returns-clause-batch
 returns-clause-batch c =

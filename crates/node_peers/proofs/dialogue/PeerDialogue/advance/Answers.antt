@@ -2,7 +2,7 @@ use Rattle.std.proofs.Common.{ap, ◌∙◌, subst}
 use Rattle.std.specs.Prelude.{OnOk}
 use Rattle.node_peers.specs.Talk.{IsAdvanced, Talk}
 use Rattle.node_peers.proofs.TalkLemmas.{advanced}
-use Rattle.node_peers.proofs.dialogue.Dialogue.advance.Goals as goal
+use Rattle.node_peers.proofs.dialogue.PeerDialogue.advance.Goals as goal
 
 pub returns-in-Ok-clause-made : goal.returns-in-Ok-clause-made
 returns-in-Ok-clause-made g c =

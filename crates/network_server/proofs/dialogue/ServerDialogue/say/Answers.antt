@@ -5,7 +5,7 @@ use Rattle.upstream_session.specs.Refusal.{Session}
 use Rattle.upstream_session.specs.Session.{say}
 use Rattle.network_server.specs.Effects.{closes}
 use Rattle.network_server.proofs.EventLemmas.{over-by}
-use Rattle.network_server.proofs.dialogue.Dialogue.say.Goals as goal
+use Rattle.network_server.proofs.dialogue.ServerDialogue.say.Goals as goal
 
 pub returns-in_default-carry_out-clause-over : goal.returns-in_default-carry_out-clause-over
 returns-in_default-carry_out-clause-over c = λ closed.
