@@ -115,8 +115,9 @@ def what_a_peer_brings_is_published_though_memory_was_short(fixture):
     expect("whether some waited", True, "published later" in counts)
 
 
-# So many floors fall due at once.
-TARGETS = ("#a", "#b", "#c")
+# So many floors fall due at once. Their messages come in two packets, so that the node's room for what one put brings has to grow.
+TARGETS = ("#a", "#b", "#c", "#d", "#e", "#f")
+HALF = len(TARGETS) // 2
 
 
 def shown(node):
@@ -134,7 +135,7 @@ def floors_told(node):
 
 
 def floors_put(fixture, name, passed, refused):
-    """How many floors of three the operator is told of at first, and in how many buffers the message is gone by then, while so
+    """How many floors of six the operator is told of at first, and in how many buffers the message is gone by then, while so
     many requests in a row are refused behind so many. What was told is so a second later though nothing else is put, and an
     hour later all is. None where fewer are made."""
     refusals = Refusals(fixture)
@@ -144,8 +145,10 @@ def floors_put(fixture, name, passed, refused):
     fixture.logs.pop()
     peer = Peer.dial(node, version=2, told=2).greet()
     at = refusals.clocks.now() - (30 * 24 * 60 - 30) * 60_000
-    peer.give(0, *(f"C POST demo net {target} m1 {at} P {target} bob!b@h :hi" for target in TARGETS))
-    peer.hear_acknowledged(len(TARGETS))
+    posts = [f"C POST demo net {target} m1 {at} P {target} bob!b@h :hi" for target in TARGETS]
+    for first in (0, HALF):
+        peer.give(first, *posts[first : first + HALF])
+        peer.hear_acknowledged(first + HALF)
     peer.close()
     expect("how many messages are there", len(TARGETS), shown(node))
     refusals.set(passed, refused)

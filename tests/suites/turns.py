@@ -14,7 +14,7 @@ from harness.server import Server
 
 # How many clients each worker has beside the one that is looked at.
 BESIDE = 20
-# How many lines of a server a client may hear before its answer, of 128 a turn. Some are on their way.
+# How many lines of a server a client may hear before its answer, of 256 a turn. Some are on their way.
 LINES = 1000
 # How often it is asked for.
 ROUNDS = 9

@@ -263,8 +263,8 @@ def soon(what, took):
 
 
 def answered(fixture, which):
-    """A server of that worker says lines without pause, each of which the other worker is told by a mail. There a client is
-    answered, another one lets itself in, and a peer is greeted and acknowledged."""
+    """A server of that worker says lines without pause, which six clients hear. At the other worker a client is answered, another
+    one registers, and a peer is greeted and acknowledged."""
     servers = [Server(fixture), Server(fixture)]
     node = Node(fixture, servers=[it.address for it in servers], peers=[("n0", NOBODY)], bound=1 << 20, places=64).begin()
     sessions = [server.register("message-tags") for server in servers]
@@ -310,7 +310,7 @@ def all_are_answered_beside_a_server_without_pause_at_the_second_worker(fixture)
     answered(fixture, 1)
 
 
-# So many clients hear each line, at the worker that is told it by a mail.
+# So many clients hear each line.
 MANY = 30
 
 
@@ -325,13 +325,11 @@ def times(calls):
 
 
 def sockets_are_looked_at(fixture, which):
-    """A server of that worker says lines without pause. All clients that hear them are at the other worker, which has more to do
-    for each of them, so mail waits there at any time. There a client is answered, another one lets itself in, and those who read
-    what they hear stay."""
+    """A server of that worker says lines without pause, which many clients hear. As many are of the other network, whose worker is
+    the other one. There a client is answered, another one registers, and those who read what they hear stay."""
     servers = [Server(fixture), Server(fixture)]
     node = Node(fixture, servers=[it.address for it in servers], bound=1 << 20, places=2 * MANY + 8).begin()
     sessions, network, other = [it.register() for it in servers], node.networks[which], node.networks[1 - which]
-    # (clients go to the workers in turn)
     quiet = [node.client(f"client {number} of the other network").register(network=other) for number in range(2)]
     for number in range(2 * MANY):
         client = node.client(f"client {number}").register(network=other if number % 2 == which else network)
@@ -339,7 +337,7 @@ def sockets_are_looked_at(fixture, which):
             reads_all(fixture, client)
     says_without_pause(fixture, sessions[which], ":irc.example 372 al :- hi")
     Ear(sessions[which], "nothing").beside()
-    # (until more is said than the other worker has read)
+    # (until more is said than the clients have read)
     time.sleep(1)
     pings, entries = [], []
     for _ in range(ROUNDS):
@@ -352,12 +350,12 @@ def sockets_are_looked_at(fixture, which):
 
 
 @test
-def sockets_are_looked_at_while_mail_of_the_first_worker_comes_without_pause(fixture):
+def sockets_are_looked_at_while_the_first_worker_has_much_to_tell(fixture):
     sockets_are_looked_at(fixture, 0)
 
 
 @test
-def sockets_are_looked_at_while_mail_of_the_second_worker_comes_without_pause(fixture):
+def sockets_are_looked_at_while_the_second_worker_has_much_to_tell(fixture):
     sockets_are_looked_at(fixture, 1)
 
 
