@@ -49,9 +49,10 @@ fn value(digit: u8) -> usize
 }
 
 // The number that eight digits spell, and some number of other bytes.
-fn number(g: u8, f: u8, e: u8, d: u8, c: u8, b: u8, a: u8, n: u8) -> usize
-    ensures { result ≡ decode.number g f e d c b a n }
+fn number(digits: &[u8; 8]) -> usize
+    ensures { result ≡ decode.number digits.now }
 {
+    let [g, f, e, d, c, b, a, n] = *digits;
     let high = ((value(g) * 10 + value(f)) * 10 + value(e)) * 10 + value(d);
     (((high * 10 + value(c)) * 10 + value(b)) * 10 + value(a)) * 10 + value(n)
 }
@@ -65,7 +66,7 @@ pub(crate) fn first_block(bytes: &[u8]) -> Option<(&[u8], &[u8])>
     let [gate, g, f, e, d, c, b, a, n, cr, lf, rest @ ..] = bytes else {
         return None;
     };
-    let length = number(*g, *f, *e, *d, *c, *b, *a, *n);
+    let length = number(&[*g, *f, *e, *d, *c, *b, *a, *n]);
     if length > MOST || rest.len() < length {
         return None;
     }
