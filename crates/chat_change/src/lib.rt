@@ -49,6 +49,6 @@ pub use msg_id::MsgId;
 pub use order::goes_before;
 pub use record::Record;
 pub use words::{
-    ID_LIMIT, NAME_LIMIT, TAGS_LIMIT, TARGET_LIMIT, is_body, is_id, is_name, is_source, is_tags,
-    is_tags_as_written, is_target,
+    ID_LIMIT, NAME_LIMIT, TAGS_LIMIT, TARGET_LIMIT, is_body, is_id, is_name, is_source, is_star,
+    is_tags, is_tags_as_written, is_target,
 };

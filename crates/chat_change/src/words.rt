@@ -34,7 +34,8 @@ fn begins_with_colon(text: &[u8]) -> bool
     begins_with(b':', text)
 }
 
-fn is_star(text: &[u8]) -> bool
+/// Whether the text is `*`, which stands for none and is no target.
+pub fn is_star(text: &[u8]) -> bool
     ensures { result ≡ spec.is_star text.now }
 {
     text.len() == 1 && begins_with(b'*', text)

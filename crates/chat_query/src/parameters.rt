@@ -1,12 +1,11 @@
 //! Reading what a client asks for (IRCv3 draft/chathistory, "CHATHISTORY").
 ghost use Rattle.std.specs.Prelude.{◌≡◌, ◌∷◌, [], map, drop};
 ghost use Rattle.std.specs.Option.{option_copied};
-ghost use Rattle.chat_change.specs.Words.{is_star};
 ghost use Rattle.chat_query.specs.Parameters as spec;
 
 use crate::limit::read_limit;
 use crate::query::{GivenId, Query, Selector, Target};
-use chat_change::Moment;
+use chat_change::{Moment, is_star};
 use irc_line::Line;
 use irc_time::read_time;
 use thiserror::Error;
@@ -66,12 +65,6 @@ fn has_key(word: &[u8]) -> bool
     ensures { result ≡ spec.has_key word.now }
 {
     has_timestamp_key(word) || has_msgid_key(word)
-}
-
-fn is_star(word: &[u8]) -> bool
-    ensures { result ≡ is_star word.now }
-{
-    word.len() == 1 && word[0] == b'*'
 }
 
 /// The text behind the first so many bytes, or nothing of a shorter one.
