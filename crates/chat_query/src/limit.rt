@@ -1,25 +1,19 @@
 //! How many records a client asks for at most.
-ghost use Rattle.std.specs.Prelude.{◌≡◌, ◌≤◌, ◌-◌, min};
-ghost use Rattle.byte_text.specs.Number.{value};
+ghost use Rattle.std.specs.Prelude.{◌≡◌, true, min};
+ghost use Rattle.std.specs.List.{list_all};
+ghost use Rattle.byte_text.specs.Number.{is_digit, value};
 ghost use Rattle.chat_query.specs.Limit as spec;
 
 use byte_text::is_digits;
 
-/// What a digit counts.
-fn digit_value(byte: u8) -> usize
-    ensures value { result ≡ byte - 48 }
-    ensures bound { result ≤ 255 }
-{
-    byte.saturating_sub(b'0') as usize
-}
-
 /// The value of the digits, or the greatest number where it is above that.
 fn decimal_value(text: &[u8]) -> usize
+    requires { list_all is_digit text.now ≡ true }
     ensures { result ≡ min usize.MAX (value text.now) }
 {
     let mut n = 0usize;
     'digits: for byte in text {
-        n = n.saturating_mul(10).saturating_add(digit_value(*byte));
+        n = n.saturating_mul(10).saturating_add((*byte - b'0') as usize);
     }
     n
 }

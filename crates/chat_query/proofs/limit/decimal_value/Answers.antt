@@ -11,4 +11,4 @@ one_more text i d most n m k digit h e f g j =
     omega (arith, next)
 
 pub digits-preserved : goal.digits-preserved
-digits-preserved c = one_more c.args.text.now c.digits.byte-index 0 greatest_limit c.digits.n _ c.saturating_mul.result c.digit_value.result c.digits-test.true c.digits.invariant c.digit_value.ensures.value c.saturating_mul.ensures c.saturating_add-n.ensures
+digits-preserved c = one_more c.args.text.now c.digits.byte-index 0 greatest_limit c.digits.n _ c.saturating_mul.result _ c.digits-test.true c.digits.invariant refl c.saturating_mul.ensures c.saturating_add-n.ensures
