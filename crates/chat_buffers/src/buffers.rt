@@ -222,7 +222,6 @@ impl Buffers {
         };
         let Some(held) = self.held.get_mut(buffer) else {
             let Ok(buffer) = buffer.try_clone() else {
-                drop(change);
                 return Err(AllocError);
             };
             self.enter_first(buffer, number, change)?;
@@ -242,8 +241,6 @@ impl Buffers {
     {
         let mut held = nothing_held(self.alloc);
         let Ok(_) = settle(&mut held, number, change) else {
-            drop(buffer);
-            drop(held);
             return Err(AllocError);
         };
         if !put(&mut self.held, buffer, held) {

@@ -107,18 +107,13 @@ pub(crate) fn settle(
 {
     match change {
         Change::Post(post) => held.messages.post(post, number),
-        Change::Redact { buffer, id, at } => {
-            drop(buffer);
-            held.messages.redact(id, at, number)
-        }
-        Change::Mark { buffer, at } => {
-            drop(buffer);
+        Change::Redact { buffer: _, id, at } => held.messages.redact(id, at, number),
+        Change::Mark { buffer: _, at } => {
             let before = number_of(&held.marker);
             held.marker = Some(Stamp { at, number });
             Ok(before)
         }
-        Change::Floor { buffer, at } => {
-            drop(buffer);
+        Change::Floor { buffer: _, at } => {
             let before = number_of(&held.floor);
             held.floor = Some(Stamp { at, number });
             Ok(before)

@@ -137,8 +137,6 @@ impl Messages {
         ensures refused { OnErr result (self.new ≡ self.old) }
     {
         let at = post.at();
-        // without it nothing says that the moment is at most the greatest, as the maps' agreement does of each record
-        let _bound = at.ms();
         let Ok(
             Copies {
                 spot,
@@ -148,18 +146,13 @@ impl Messages {
             },
         ) = copies_of(&post)
         else {
-            drop(post);
             return Err(AllocError);
         };
         let Ok(before) = self.by_id.exchange(id, HeldMessage::Kept(post, number)) else {
-            drop(spot);
-            drop(name);
-            drop(copy);
             return Err(AllocError);
         };
         if !self.by_spot.put(spot, copy) {
             restore(&mut self.by_id, &name, before);
-            drop(name);
             return Err(AllocError);
         }
         let earlier = number_in(&before);
@@ -216,7 +209,6 @@ impl Messages {
             id: Some(id),
         };
         self.by_spot.take_out(&spot);
-        drop(spot);
     }
 
     /// Takes the oldest record out where it stands before a floor, and answers the number of its piece. None where no
@@ -233,11 +225,9 @@ impl Messages {
         if at.ms() >= floor.ms() {
             return None;
         }
-        let (spot, post) = self.by_spot.pop_last()?;
-        drop(spot);
+        let (_spot, post) = self.by_spot.pop_last()?;
         let number = number_of(&self.by_id, post.id());
         self.by_id.take_out(post.id());
-        drop(post);
         number
     }
 }
@@ -300,8 +290,7 @@ fn leave_place(by_spot: &mut RecordMap, before: Option<Moment>, id: MsgId, at: M
                 id: Some(id),
             };
             by_spot.take_out(&spot);
-            drop(spot);
         }
-        _ => drop(id),
+        _ => {}
     }
 }

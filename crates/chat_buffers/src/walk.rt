@@ -212,6 +212,7 @@ impl Messages {
         requires { greatest < at + 1 }
         ensures { AreKept by_spot (λ r. nat_lt at r.at) self.now result }
     {
+        // without it the invariant isn't at hand, by which no record stands past the greatest moment
         let _ = &self.by_spot;
         Up::empty()
     }
@@ -221,6 +222,7 @@ impl Messages {
         requires { greatest < at + 1 }
         ensures { AreKept (flip_args by_spot) (λ r. not (nat_lt at r.at)) self.now result }
     {
+        // without it the invariant isn't at hand, by which no record stands past the greatest moment
         let _ = &self.by_spot;
         self.down_from(Bound::Unbounded)
     }

@@ -24,24 +24,24 @@ returns-then-ms-clause-done c _ =
 pub invariant_of-self-2 : goal.invariant_of-self-2
 invariant_of-self-2 c =
     let ids = c.self.inside.by_id in
-    let r = c.in_ok-spot.post in
+    let r = c.in_ok-_spot.post in
     let stands : IsWithout id_cmp ids r.id c.take_out.new.self = subst (λ x. IsWithout id_cmp ids x c.take_out.new.self) c.id-2.ensures c.take_out.ensures in
-    taken_agree c.self.inside.by_spot c.pop_last.new.self ids c.take_out.new.self c.self.invariant c.in_ok-spot.spot r c.in_ok-spot.ensures.greatest.value c.in_ok-spot.ensures.without stands
+    taken_agree c.self.inside.by_spot c.pop_last.new.self ids c.take_out.new.self c.self.invariant c.in_ok-_spot._spot r c.in_ok-_spot.ensures.greatest.value c.in_ok-_spot.ensures.without stands
 
 pub returns-clause-one : goal.returns-clause-one
 returns-clause-one c =
     let m = c.self.inside.by_spot in
     let ids = c.self.inside.by_id in
-    let k = c.in_ok-spot.spot in
-    let r = c.in_ok-spot.post in
+    let k = c.in_ok-_spot._spot in
+    let r = c.in_ok-_spot.post in
     let new = c.take_out.new.self in
-    let at = c.in_ok-spot.ensures.greatest.value in
-    let out = c.in_ok-spot.ensures.without in
+    let at = c.in_ok-_spot.ensures.greatest.value in
+    let out = c.in_ok-_spot.ensures.without in
     let stands : IsWithout id_cmp ids r.id new = subst (λ x. IsWithout id_cmp ids x new) c.id-2.ensures c.take_out.ensures in
     let number : option_map number_of (get id_cmp ids r.id) ≡ c.number_of-number.result =
     ap (λ x. option_map number_of (get id_cmp ids x)) (sym c.id.ensures) ∙ sym c.number_of-number.ensures in
     let low : c.in-Some.spot.now.at < c.args.floor = search rules in
-    let under = not_after k c.in-Some.spot.now (c.in_ok-spot.ensures.greatest.above c.in-Some.spot.now (search rules)) in
+    let under = not_after k c.in-Some.spot.now (c.in_ok-_spot.ensures.greatest.above c.in-Some.spot.now (search rules)) in
     let same : k.at ≡ r.at = ap (λ s. s.at) (its_place m ids c.self.invariant k r at) in
     elim c.number_of-number.result as (λ o. c.number_of-number.result ≡ o → IfSome o (λ n. TakesOne c.args.self.now c.args.floor n (held_by new))) [
       | None ↦ λ _. tt
@@ -57,22 +57,22 @@ pub returns-clause-done : goal.returns-clause-done
 returns-clause-done c none =
     let m = c.self.inside.by_spot in
     let ids = c.self.inside.by_id in
-    let k = c.in_ok-spot.spot in
-    let r = c.in_ok-spot.post in
+    let k = c.in_ok-_spot._spot in
+    let r = c.in_ok-_spot.post in
     let new = c.take_out.new.self in
     let stands : IsWithout id_cmp ids r.id new = subst (λ x. IsWithout id_cmp ids x new) c.id-2.ensures c.take_out.ensures in
     let number : option_map number_of (get id_cmp ids r.id) ≡ c.number_of-number.result =
     ap (λ x. option_map number_of (get id_cmp ids x)) (sym c.id.ensures) ∙ sym c.number_of-number.ensures in
-    absurd (was_known m c.pop_last.new.self ids new c.self.invariant k r c.in_ok-spot.ensures.greatest.value c.in_ok-spot.ensures.without stands (get id_cmp ids r.id) refl (number ∙ none))
+    absurd (was_known m c.pop_last.new.self ids new c.self.invariant k r c.in_ok-_spot.ensures.greatest.value c.in_ok-_spot.ensures.without stands (get id_cmp ids r.id) refl (number ∙ none))
 
 pub returns-clause-kept : goal.returns-clause-kept
 returns-clause-kept c none =
     let m = c.self.inside.by_spot in
     let ids = c.self.inside.by_id in
-    let k = c.in_ok-spot.spot in
-    let r = c.in_ok-spot.post in
+    let k = c.in_ok-_spot._spot in
+    let r = c.in_ok-_spot.post in
     let new = c.take_out.new.self in
     let stands : IsWithout id_cmp ids r.id new = subst (λ x. IsWithout id_cmp ids x new) c.id-2.ensures c.take_out.ensures in
     let number : option_map number_of (get id_cmp ids r.id) ≡ c.number_of-number.result =
     ap (λ x. option_map number_of (get id_cmp ids x)) (sym c.id.ensures) ∙ sym c.number_of-number.ensures in
-    absurd (was_known m c.pop_last.new.self ids new c.self.invariant k r c.in_ok-spot.ensures.greatest.value c.in_ok-spot.ensures.without stands (get id_cmp ids r.id) refl (number ∙ none))
+    absurd (was_known m c.pop_last.new.self ids new c.self.invariant k r c.in_ok-_spot.ensures.greatest.value c.in_ok-_spot.ensures.without stands (get id_cmp ids r.id) refl (number ∙ none))
