@@ -1,5 +1,6 @@
 -- What the code answers for the parts of a line.
 use Rattle.std.specs.Prelude.{ℕ, ◌≡◌, Bool, Option, Result, Ok, Err, None, if◌then◌else◌}
+use Rattle.chat_change.specs.Buffer.{Buffer}
 use Rattle.chat_change.specs.declared.change.Change.{Change}
 use Rattle.change_lines.specs.ChangeLine.{or_bad_field, fault_or_no_memory}
 use Rattle.change_lines.specs.declared.fault.ChangeLineFault.{ChangeLineFault}
@@ -15,7 +16,7 @@ abbrev pub checked : Bool → Bool → Option Change → Result Change ChangeLin
 checked form names change =
     if form then or_bad_field (if names then change else None) else Err BadForm
 
--- the same of a moment, and what change is made of it
-abbrev pub moment_or_fault : (ℕ → Change) → Result ℕ ChangeLineFault → Result Change ChangeLineFault
-moment_or_fault make (Ok at) = Ok (make at)
-moment_or_fault make (Err fault) = Err fault
+-- the change that is made of a buffer and a moment; or why there are none
+abbrev pub made_or_fault : (Buffer → ℕ → Change) → Result (Buffer × ℕ) ChangeLineFault → Result Change ChangeLineFault
+made_or_fault make (Ok found) = Ok (make found.0 found.1)
+made_or_fault make (Err fault) = Err fault

@@ -1,9 +1,10 @@
 //! The change that a line says behind its first word. All parts are judged before memory is asked for, so that want of memory is
 //! told only of a change.
-ghost use Rattle.std.specs.Prelude.{◌≡◌, ℕ, true, IfOk, OnOk};
+ghost use Rattle.std.specs.Prelude.{◌≡◌, ℕ, true, IfOk};
 ghost use Rattle.std.specs.Option.{option_map};
 ghost use Rattle.std.specs.Map.Iter.{deref};
 ghost use Rattle.chat_change.specs.Words.{is_id};
+ghost use Rattle.chat_change.specs.Buffer as buffers;
 ghost use Rattle.chat_change.specs.declared.change.Change as value;
 ghost use Rattle.chat_change.specs.declared.change.Change.TheVariants as change;
 ghost use Rattle.change_lines.specs.Words as words;
@@ -12,7 +13,7 @@ ghost use Rattle.change_lines.specs.ChangeLine as spec;
 ghost use Rattle.change_lines.specs.BufferFields as fields;
 ghost use Rattle.change_lines.specs.NamedBuffer.{IsNamed};
 ghost use Rattle.change_lines.specs.PostLine as post;
-ghost use Rattle.change_lines.specs.Reading.{IsAnswer, checked, moment_or_fault};
+ghost use Rattle.change_lines.specs.Reading.{IsAnswer, checked, made_or_fault};
 
 use crate::fault::ChangeLineFault;
 use crate::fields::{BufferFields, ChangeKind, buffer_fields, change_kind, has_names};
@@ -120,13 +121,18 @@ fn read_redaction(
     }
 }
 
-// The moment behind the names, as a marker and a floor have it.
-fn read_moment(known: Option<&Buffer>, names: &BufferFields<'_>) -> Result<Moment, ChangeLineFault>
+// The buffer of the names and the moment behind them, as a marker and a floor have them.
+fn read_moment(
+    alloc: Global,
+    known: Option<&Buffer>,
+    names: &BufferFields<'_>,
+) -> Result<(Buffer, Moment), ChangeLineFault>
     requires { IsNamed (option_map deref known) (fields.value_of names.now) }
-    ensures value { (make : ℕ → value.Change) → moment_or_fault make result ≡ checked
-        (words.is_last_word names.now.rest.now) (spec.is_buffer (fields.value_of names.now))
-        (option_map make (moments.moment_of names.now.rest.now)) }
-    ensures lawful { OnOk result (spec.is_buffer (fields.value_of names.now) ≡ true) }
+    ensures { (make : buffers.Buffer → ℕ → value.Change) → IsAnswer (checked
+        (words.is_last_word names.now.rest.now)
+        (spec.is_buffer (fields.value_of names.now))
+        (option_map (make (spec.buffer_named (fields.value_of names.now)))
+        (moments.moment_of names.now.rest.now))) (made_or_fault make result) }
 {
     if !is_last_word(names.rest) {
         return Err(ChangeLineFault::BadForm);
@@ -134,9 +140,12 @@ fn read_moment(known: Option<&Buffer>, names: &BufferFields<'_>) -> Result<Momen
     if !names_buffer(known, names) {
         return Err(ChangeLineFault::BadField);
     }
-    match moment_of(names.rest) {
-        None => Err(ChangeLineFault::BadField),
-        Some(at) => Ok(at),
+    let Some(at) = moment_of(names.rest) else {
+        return Err(ChangeLineFault::BadField);
+    };
+    match buffer_for(alloc, known, names) {
+        Ok(buffer) => Ok((buffer, at)),
+        Err(_) => Err(ChangeLineFault::NoMemory),
     }
 }
 
@@ -153,13 +162,9 @@ fn read_mark(
         (spec.change_in ChangeKind.Mark (spec.buffer_named (fields.value_of names.now))
         names.now.rest.now)) result }
 {
-    let at = match read_moment(known, names) {
-        Ok(at) => at,
-        Err(fault) => return Err(fault),
-    };
-    match buffer_for(alloc, known, names) {
-        Ok(buffer) => Ok(Change::Mark { buffer, at }),
-        Err(_) => Err(ChangeLineFault::NoMemory),
+    match read_moment(alloc, known, names) {
+        Ok((buffer, at)) => Ok(Change::Mark { buffer, at }),
+        Err(fault) => Err(fault),
     }
 }
 
@@ -176,13 +181,9 @@ fn read_floor(
         (spec.change_in ChangeKind.Floor (spec.buffer_named (fields.value_of names.now))
         names.now.rest.now)) result }
 {
-    let at = match read_moment(known, names) {
-        Ok(at) => at,
-        Err(fault) => return Err(fault),
-    };
-    match buffer_for(alloc, known, names) {
-        Ok(buffer) => Ok(Change::Floor { buffer, at }),
-        Err(_) => Err(ChangeLineFault::NoMemory),
+    match read_moment(alloc, known, names) {
+        Ok((buffer, at)) => Ok(Change::Floor { buffer, at }),
+        Err(fault) => Err(fault),
     }
 }
 

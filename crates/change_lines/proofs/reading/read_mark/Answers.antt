@@ -1,0 +1,8 @@
+use Rattle.chat_change.specs.declared.change.Change.TheVariants.{Mark}
+use Rattle.change_lines.proofs.reading.read_mark.Goals as goal
+
+pub returns-in-Ok : goal.returns-in-Ok
+returns-in-Ok c = c.in-Ok.ensures Mark
+
+pub returns-in-Err : goal.returns-in-Err
+returns-in-Err c = c.in-Err.ensures Mark
