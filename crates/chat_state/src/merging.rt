@@ -15,6 +15,7 @@ impl State {
         ensures refused { IfErr result (λ e. TakesFirst self.old other.now self.new e.taken
             (e.cause ≡ fault.Exhausted)) }
     {
+        // it shows that each piece stands under its own key
         let _ = &self.store;
         let mut taken: usize = 0;
         let mut last: u64 = 0;

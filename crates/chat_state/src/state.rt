@@ -79,9 +79,7 @@ impl State {
     {
         // without it the borrow checker can't plan the call
         let _extent: Option<Extent<'_>> = None;
-        let taken = self.absorb_copy(&ChangeRef::of(&change));
-        drop(change);
-        taken
+        self.absorb_copy(&ChangeRef::of(&change))
     }
 
     /// The same of a change that is lent, whose texts it shares.
@@ -189,6 +187,7 @@ impl State {
         ensures exhausted { IfErr result (λ e. IsStoppedAt self.new changes.now e.taken (e.cause ≡
             fault.Exhausted)) }
     {
+        // without it the proof has no invariant before the loop
         let _ = &self.store;
         // without it the borrow checker can't plan the call
         let _extent: Option<Extent<'_>> = None;

@@ -130,15 +130,12 @@ impl Store {
         // it shows that each piece stands under its own key
         let _ = &self.buffers;
         let Ok(floored) = buffer.try_clone() else {
-            drop(buffer);
             return false;
         };
         if !self.enter(number, Change::Floor { buffer, at }) {
-            drop(floored);
             return false;
         }
         self.sweep(&floored, at);
-        drop(floored);
         true
     }
 
@@ -149,25 +146,16 @@ impl Store {
             spec.Places self.old number (value.AccountFloor account at) self.new }
         ensures refused { result ≡ false → self.new ≡ self.old }
     {
-        // it shows that each piece stands under its own key
-        let _ = &self.buffers;
         let Ok(buffers) = self.buffers.buffers_of(self.alloc, &account) else {
-            drop(account);
             return false;
         };
         let Ok(floored) = account.try_clone() else {
-            drop(account);
-            drop(buffers);
             return false;
         };
         if !self.enter(number, Change::AccountFloor { account, at }) {
-            drop(buffers);
-            drop(floored);
             return false;
         }
         self.sweep_account(&floored, &buffers, at);
-        drop(buffers);
-        drop(floored);
         true
     }
 
@@ -179,11 +167,9 @@ impl Store {
         ensures refused { result ≡ false → self.new ≡ self.old }
     {
         let Ok(name) = name_of(self.alloc, &change) else {
-            drop(change);
             return false;
         };
         if !self.index.put(Number::of(number), name) {
-            drop(change);
             return false;
         }
         let Ok(before) = self.buffers.enter(number, change) else {
