@@ -1,11 +1,12 @@
 -- A line by which a session doesn't say that it joins a channel joins none.
 use Rattle.std.proofs.Common.{◌≡◌, ◌==◌, ℕ, ◌&&◌, Bool, true, false, List, [], ◌∷◌, Option, None, Some, Result, Ok, Err, refl, inl, inr, codes}
 use Rattle.std.specs.Prelude.{if◌then◌else◌, nat_lt}
-use Rattle.std.specs.Str.{str_eq_ignore_ascii_case, bytes_eq}
+use Rattle.std.specs.Str.{str_eq_ignore_ascii_case}
 use Rattle.irc_line.specs.declared.line.LineFault.{LineFault}
 use Rattle.irc_line.specs.declared.line.TagLimit.TheVariants.{Server}
 use Rattle.irc_line.specs.Line.{Reading}
 use Rattle.irc_line.specs.Read.{read}
+use Rattle.chat_change.specs.Words.{is_star}
 use Rattle.chat_change.specs.Message.{Message}
 use Rattle.chat_change.specs.declared.message.Kind.{Kind}
 use Rattle.chat_change.specs.declared.message.Kind.TheVariants as kind
@@ -34,7 +35,7 @@ module _ (u : ServerSession) where
   ls_row : (ps : List (List ℕ)) → StepStays (ls u ps)
   ls_row [] = inl refl
   ls_row (a ∷ []) = inl refl
-  ls_row (a ∷ b ∷ more) = either StepStays (bytes_eq a (codes "*")) (inl refl) (inl refl)
+  ls_row (a ∷ b ∷ more) = either StepStays (is_star a) (inl refl) (inl refl)
 
   cap_row : (ps : List (List ℕ)) → StepStays (cap u ps)
   cap_row [] = inl refl

@@ -2,13 +2,13 @@
 use Rattle.std.proofs.Common.{◌≡◌, ℕ, ◌+◌, ◌==◌, Bool, true, false, ◌&&◌, not, List, [], ◌∷◌, ◌++◌, Option, None, Some, Ok, Err, Result, refl, sym, ap, ◌∙◌, ◌⊎◌, inl, inr, codes}
 use Rattle.std.specs.List.{AllByRecursion}
 use Rattle.std.specs.Prelude.{if◌then◌else◌}
-use Rattle.std.specs.Str.{str_eq_ignore_ascii_case, bytes_eq}
+use Rattle.std.specs.Str.{str_eq_ignore_ascii_case}
 use Rattle.std.proofs.lemmas.Bool.{eqb-false}
 use Rattle.irc_line.specs.declared.line.LineFault.{LineFault}
 use Rattle.irc_line.specs.Line.{Reading}
 use Rattle.irc_caps.specs.declared.capability.Capability.TheVariants.{MessageRedaction, MessageTags}
 use Rattle.irc_caps.specs.Negotiation.{list_in}
-use Rattle.chat_change.specs.Words.{is_id}
+use Rattle.chat_change.specs.Words.{is_star, is_id}
 use Rattle.chat_change.specs.Message.{Message}
 use Rattle.chat_change.specs.declared.message.Kind.{Kind}
 use Rattle.chat_change.specs.declared.message.Kind.TheVariants as kind
@@ -110,7 +110,7 @@ module _ (W : Type 0) (id_of : Option (List ℕ)) (borne : List ℕ) (u : Server
   ls_row [] = quiet (record { home = refl; serial = refl; over = refl; up = λ h. inl h }) (tt, tt)
   ls_row (a ∷ []) = quiet (record { home = refl; serial = refl; over = refl; up = λ h. inl h }) (tt, tt)
   ls_row (a ∷ b ∷ more) =
-      either (λ (s : ServerStep). Course W id_of borne u s) (bytes_eq a (codes "*"))
+      either (λ (s : ServerStep). Course W id_of borne u s) (is_star a)
       (quiet (record { home = refl; serial = refl; over = refl; up = λ h. inl h }) tt)
       (quiet (record { home = refl; serial = refl; over = refl; up = λ h. inl h }) (tt, tt))
 

@@ -2,7 +2,7 @@
 use Rattle.std.proofs.Common.{◌≡◌, ℕ, ◌+◌, Bool, true, false, ◌&&◌, ◌||◌, ◌==◌, not, nat_lt, List, [], ◌∷◌, ◌++◌, take, drop, filter, map, codes, Option, None, Some, Result, Ok, Err, refl, sym, ap, ◌∙◌, subst, take-append-drop, append_assoc}
 use Rattle.std.specs.Prelude.{if◌then◌else◌, IfSome, IfOk}
 use Rattle.std.specs.List.{AllByRecursion, list_any, list_all}
-use Rattle.std.specs.Str.{str_eq_ignore_ascii_case, bytes_eq}
+use Rattle.std.specs.Str.{str_eq_ignore_ascii_case}
 use Rattle.std.proofs.lemmas.Bool.{and_parts, and_from, or_parts, or_from, not-true, false_from_ne_true}
 use Rattle.std.proofs.lemmas.List.Folds.{list_any-append, list_all-append}
 use Rattle.std.proofs.lemmas.List.Elements.{All-from_recursion, recursion_from_All}
@@ -299,7 +299,7 @@ module _ (u : ServerSession) (s : Stands u) where
   ls_row [] = ask_row []
   ls_row (a ∷ []) = ask_row a
   ls_row (a ∷ b ∷ more) =
-      either StepStands (bytes_eq a (codes "*")) (with_caps (with_offers u.offered (parts_of b)) u.held u.entry.takes_redact [] tt) (ask_row a)
+      either StepStands (is_star a) (with_caps (with_offers u.offered (parts_of b)) u.held u.entry.takes_redact [] tt) (ask_row a)
 
   ack_row : (list : List ℕ) → StepStands (ack u list)
   ack_row list = with_caps u.offered (with_words u.held (parts_of list)) (with_words u.held (parts_of list)).message_redaction _ (cap_end_is_line, tt)

@@ -1,12 +1,12 @@
 -- What each line of a server does (RFC 2812, sections 3 and 5; IRCv3 capability negotiation, message-tags, server-time
 -- and draft/message-redaction).
 use Rattle.std.specs.Prelude.{ℕ, Bool, ◌+◌, ◌==◌, ◌&&◌, nat_lt, true, List, [], ◌∷◌, ◌++◌, codes, Option, None, Some, if◌then◌else◌}
-use Rattle.std.specs.Str.{str_eq_ignore_ascii_case, bytes_eq}
+use Rattle.std.specs.Str.{str_eq_ignore_ascii_case}
 use Rattle.irc_line.specs.Line.{Reading}
 use Rattle.irc_caps.specs.declared.capability.Capability.TheVariants.{MessageRedaction, MessageTags}
 use Rattle.irc_caps.specs.Words.{with_words, parts_of}
 use Rattle.irc_caps.specs.Negotiation.{list_in}
-use Rattle.chat_change.specs.Words.{is_target, is_id}
+use Rattle.chat_change.specs.Words.{is_star, is_target, is_id}
 use Rattle.chat_change.specs.Buffer.{buffer_of}
 use Rattle.chat_change.specs.Message.{Message}
 use Rattle.chat_change.specs.declared.message.Kind.{Kind}
@@ -49,7 +49,7 @@ ask u list =
 
 -- without a list nothing is offered
 abbrev pub ls : ServerSession → List (List ℕ) → ServerStep
-ls u (first ∷ list ∷ more) = if bytes_eq first (codes "*") then gather u list else ask u first
+ls u (first ∷ list ∷ more) = if is_star first then gather u list else ask u first
 ls u parameters = ask u (list_in parameters)
 
 -- `CAP * ACK :names`: each name is held now, and each that `-` stands before isn't

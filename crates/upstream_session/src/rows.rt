@@ -1,7 +1,6 @@
 //! What each line of a server does.
 ghost use Rattle.std.specs.Prelude.{◌≡◌, ◌++◌, ◌∷◌, [], map, true, IfOk, OnErr};
 ghost use Rattle.std.specs.Option.{option_copied, option_map};
-ghost use Rattle.std.specs.Str.{bytes_eq};
 ghost use Rattle.irc_caps.specs.Negotiation.{list_in};
 ghost use Rattle.irc_tags.specs.TagList.{tag_list};
 ghost use Rattle.chat_change.specs.Message.{value_of};
@@ -20,21 +19,13 @@ use crate::heard::HeardLine;
 use crate::messages::{MessageStamp, TaggedMessage, has_buffer, is_same_nick, made_id, stamp_of};
 use crate::scratch::Scratch;
 use byte_text::{NoMemory, Text};
-use chat_change::{Change, Kind, Message, MsgId, is_id, is_target, lawful_id};
+use chat_change::{Change, Kind, Message, MsgId, is_id, is_star, is_target, lawful_id};
 use irc_caps::{Capability, Recipients, request, with_acknowledged, with_offers};
 use irc_line::Line;
 use irc_reply::to_client::{relayed_line, tagged_line};
 use irc_reply::to_server::{cap_end, join_line, nick_line, pong_line, with_underscores};
 use irc_tags::line_tags;
 use std::alloc::Global;
-
-fn is_star(word: &[u8]) -> bool
-    ensures { result ≡ bytes_eq word.now (codes "*") }
-{
-    word == b"*".as_slice()
-}
-
-ghost use Rattle.std.specs.Prelude.{codes};
 
 /// The list behind a subcommand of CAP; empty where there is none.
 fn list_in<'a>(parameters: &[&'a [u8]]) -> &'a [u8]
