@@ -19,8 +19,8 @@ use crate::fault::ReplayFault;
 use crate::node::{Node, all_hear, lives_of, push};
 use crate::reply::{put_bad_field, put_bad_form, put_link_fault};
 use byte_text::{NoMemory, Text, begins_with};
-use chat_batch::Facts;
 use chat_change::{Buffer, Change, Extent};
+use chat_query::{Facts, Identity};
 use client_session::{ConfiguredAccount, Directory, Entry, Network};
 use gossip_delta::{ChangeLineFault, is_text, read_change_in};
 use gossip_link::{Ack, Life, LinkFault, NodeName};
@@ -113,29 +113,24 @@ fn facts_of(alloc: Global, account: &[u8], network: &[u8], nick: &[u8]) -> Resul
     ensures { IfOk result
         (λ facts. facts ≡ spec.facts_of account.now network.now nick.now) }
 {
-    Facts::new(
-        alloc,
+    let identity = Identity {
         account,
         network,
         nick,
-        CapSet::all(),
-        b"bnc.example",
-        100,
-    )
+    };
+    Facts::new(alloc, identity, CapSet::all(), b"bnc.example", 100)
 }
 
 fn copy_of(alloc: Global, facts: &Facts) -> Result<Facts, NoMemory>
     ensures { IfOk result (λ copy. copy ≡ facts.now) }
 {
-    let mut copy = Facts::new(
-        alloc,
-        facts.account.as_bytes(),
-        facts.network.as_bytes(),
-        facts.nick.as_bytes(),
-        facts.caps,
-        facts.cluster.as_bytes(),
-        facts.maximum,
-    )?;
+    let identity = Identity {
+        account: facts.account.as_bytes(),
+        network: facts.network.as_bytes(),
+        nick: facts.nick.as_bytes(),
+    };
+    let cluster = facts.cluster.as_bytes();
+    let mut copy = Facts::new(alloc, identity, facts.caps, cluster, facts.maximum)?;
     copy.reference = facts.reference;
     Ok(copy)
 }

@@ -14,7 +14,7 @@ mod refusal;
 
 pub use answers::{AnswerFault, answer};
 pub use chat_query::{
-    Answered, AskFault, Facts, ListedBuffer, Past, next_reference, write_live, write_page,
-    write_targets,
+    Answered, AskFault, Facts, Identity, ListedBuffer, Past, next_reference, write_live,
+    write_page, write_targets,
 };
 pub use irc_reply::{Context, write_fail, write_mark, write_unknown};

@@ -8,6 +8,17 @@ use chat_change::{Buffer, has_buffer, lawful_buffer};
 use irc_caps::CapSet;
 use std::alloc::Global;
 
+/// Who a session is: its account, its network, and its nick there.
+#[derive(Clone, Copy)]
+pub struct Identity<'a> {
+    /// The name of the account.
+    pub account: &'a [u8],
+    /// The name of the network.
+    pub network: &'a [u8],
+    /// The nick of the session.
+    pub nick: &'a [u8],
+}
+
 /// What is known of a session that asks.
 #[derive(Drop)]
 pub struct Facts {
@@ -31,17 +42,15 @@ impl Facts {
     /// The facts of a session that has asked nothing yet: its next batch is the first.
     pub fn new(
         alloc: Global,
-        account: &[u8],
-        network: &[u8],
-        nick: &[u8],
+        identity: Identity<'_>,
         caps: CapSet,
         cluster: &[u8],
         maximum: u32,
     ) -> Result<Facts, NoMemory>
         ensures { IfOk result (λ facts. facts ≡ record {
-          account = account.now;
-          network = network.now;
-          nick = nick.now;
+          account = identity.entry.account.now;
+          network = identity.entry.network.now;
+          nick = identity.entry.nick.now;
           caps = caps;
           reference = 1;
           cluster = cluster.now;
@@ -49,9 +58,9 @@ impl Facts {
         }) }
     {
         Ok(Facts {
-            account: Text::new(alloc, account)?,
-            network: Text::new(alloc, network)?,
-            nick: Text::new(alloc, nick)?,
+            account: Text::new(alloc, identity.account)?,
+            network: Text::new(alloc, identity.network)?,
+            nick: Text::new(alloc, identity.nick)?,
             caps,
             reference: 1,
             cluster: Text::new(alloc, cluster)?,

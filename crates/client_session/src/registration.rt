@@ -11,7 +11,7 @@ use crate::naming::split_user;
 use crate::shared::{answer, closing, nick_refusal, ping, push, refusal};
 use crate::stage::{Stage, Waiting};
 use byte_text::{NoMemory, Text};
-use chat_query::Facts;
+use chat_query::{Facts, Identity};
 use cluster_directory::{Directory, Entry};
 use irc_caps::CapSet;
 use irc_line::LineFault;
@@ -143,15 +143,12 @@ impl Waiting {
         let (account, network) = split_user(user);
         let caps = self.negotiation.caps();
         let cluster = self.cluster.as_bytes();
-        Facts::new(
-            alloc,
+        let identity = Identity {
             account,
             network,
-            entry.nick(),
-            caps,
-            cluster,
-            self.maximum,
-        )
+            nick: entry.nick(),
+        };
+        Facts::new(alloc, identity, caps, cluster, self.maximum)
     }
 
     fn let_in(

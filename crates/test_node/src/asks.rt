@@ -1,7 +1,7 @@
 //! What is asked, and what the answers say.
 use crate::changes::buffer_of;
 use crate::fault::RowFault;
-use chat_batch::Facts;
+use chat_batch::{Facts, Identity};
 use chat_change::{Change, Moment, MsgId};
 use chat_state::{NoEntry, Peek};
 use gossip_delta::Source;
@@ -46,7 +46,12 @@ pub const THREE: [Channel; 3] = [
 
 /// The session of `al`, which holds every capability.
 pub fn facts(alloc: Global) -> Option<Facts> {
-    Facts::new(alloc, b"demo", b"net", b"al", CapSet::all(), b"~", 100).ok()
+    let identity = Identity {
+        account: b"demo",
+        network: b"net",
+        nick: b"al",
+    };
+    Facts::new(alloc, identity, CapSet::all(), b"~", 100).ok()
 }
 
 // Milliseconds in the form 05.123.

@@ -17,7 +17,7 @@
 use crate::telling::{absorb, tell_change, tell_row, without_ending};
 use anyhow::Error;
 use byte_text::Text;
-use chat_batch::{Facts, answer};
+use chat_batch::{Facts, Identity, answer};
 use chat_change::{Buffer, MsgId};
 use chat_state::{NoEntry, Peek, State};
 use client_session::{
@@ -109,7 +109,12 @@ fn session_of(alloc: Global, word: &str) -> Result<Session, NoMemory> {
         "wide" => return newcomer(alloc, 1000),
         _ => return newcomer(alloc, 100),
     };
-    let mut facts = Facts::new(alloc, b"demo", b"net", b"al", caps, b"~", 100)?;
+    let identity = Identity {
+        account: b"demo",
+        network: b"net",
+        nick: b"al",
+    };
+    let mut facts = Facts::new(alloc, identity, caps, b"~", 100)?;
     facts.reference = reference;
     Ok(Session::registered(facts))
 }

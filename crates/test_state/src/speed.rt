@@ -7,7 +7,7 @@
 //! HELD bytes (`streams`). `bench/plain/state.rs` and `bench/plain/lines.rs` do the same in plain Rust. Read `done` first.
 mod streams;
 
-use chat_batch::{Facts, answer};
+use chat_batch::{Facts, Identity, answer};
 use chat_change::{Account, Buffer, Change, Moment};
 use chat_state::State;
 use gossip_delta::{delta_since, read_change_in};
@@ -217,16 +217,12 @@ fn measured_over(
     let posts = further_posts(rt.alloc(), buffers, task)?;
     // (the session holds every capability)
     let held = CapSet::all();
-    let facts = Facts::new(
-        rt.alloc(),
-        b"demo",
-        b"net",
-        b"al",
-        held,
-        b"bnc.example",
-        100,
-    )
-    .ok()?;
+    let identity = Identity {
+        account: b"demo",
+        network: b"net",
+        nick: b"al",
+    };
+    let facts = Facts::new(rt.alloc(), identity, held, b"bnc.example", 100).ok()?;
     timed(rt, state, &facts, posts, task)
 }
 

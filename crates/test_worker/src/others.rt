@@ -1,5 +1,5 @@
 //! What two passes that no worker has see once the workers have ended.
-use chat_batch::Facts;
+use chat_batch::{Facts, Identity};
 use chat_change::Change;
 use gossip_delta::{Delta, read_change, write_change};
 use irc_caps::CapSet;
@@ -26,16 +26,12 @@ fn tell_marker<J: Naming>(
     pass: &mut Pass<J>,
     told: &mut Vec<u8>,
 ) -> Option<()> {
-    let facts = Facts::new(
-        alloc,
-        b"demo",
-        b"net",
-        b"al",
-        CapSet::all(),
-        b"bnc.example",
-        100,
-    )
-    .ok()?;
+    let identity = Identity {
+        account: b"demo",
+        network: b"net",
+        nick: b"al",
+    };
+    let facts = Facts::new(alloc, identity, CapSet::all(), b"bnc.example", 100).ok()?;
     let line = read_line(b"MARKREAD #a", TagLimit::Client).ok()?;
     let mut answer = Vec::new(alloc);
     pass.ask(alloc, &facts, &line, &mut answer).ok()?;
