@@ -1,8 +1,7 @@
 -- Pages, from the records between two cuts.
-use Rattle.std.proofs.Common.{◌≡◌, ◌-◌, ℕ, zero, suc, Bool, true, false, not, cond, Option, Some, None, Result, Ok, Err, List, [], ◌∷◌, length, take, filter, map, min, refl, sym, ◌∙◌, ap, subst, arith, length-drop}
-use Rattle.std.specs.Prelude.{◌&&◌, ◌==◌, Vec, IfOk, OnErr, IsSome}
+use Rattle.std.proofs.Common.{◌≡◌, ◌-◌, ℕ, zero, suc, Bool, true, false, not, cond, Option, Some, None, List, [], ◌∷◌, length, take, filter, map, min, refl, sym, ◌∙◌, ap, arith, length-drop}
+use Rattle.std.specs.Prelude.{◌&&◌, ◌==◌, IsSome}
 use Rattle.std.specs.Option.{option_map, option_and_then}
-use Rattle.std.specs.Borrow.{Bor}
 use Rattle.std.proofs.lemmas.Bool.{false≢true, cond-false}
 use Rattle.std.proofs.lemmas.Bool.Decides.{nat_tests}
 use Rattle.chat_change.specs.Record.{Record}
@@ -15,11 +14,9 @@ use Rattle.chat_history.specs.History.{norm}
 use Rattle.chat_query.specs.Scope.{Scope}
 use Rattle.chat_query.specs.declared.query.Selector.{Selector}
 use Rattle.chat_query.specs.declared.query.Query.TheVariants as queries
-use Rattle.chat_page.specs.declared.answer.SelectorSide.TheVariants.{LatestAfter, Before, After, Around}
+use Rattle.chat_page.specs.declared.pager.SelectorSide.TheVariants.{LatestAfter, Before, After, Around}
 use Rattle.chat_query.specs.Page.{Point, is_before, is_after, last, page, page_in, of_records, buffer_of, point_of}
-use Rattle.chat_page.specs.Answer.{AreRecords, side_of, between_of}
-use Rattle.chat_page.specs.declared.pages.PageFault.{PageFault}
-use Rattle.chat_page.specs.declared.pages.PageFault.TheVariants.{NoMemory}
+use Rattle.chat_page.specs.Answer.{side_of, between_of}
 use Rattle.chat_page.proofs.CutLemmas.{filter_alike}
 
 and_true : (b : Bool) → (b && true) ≡ b
@@ -71,29 +68,23 @@ module _ {A : Type 0} (n : ℕ) (page rising falling : List A) (size : ℕ) (emp
     go (suc k) [] h = absurd (h refl)
     go k (x ∷ up) h = sym (cond-false _ _ _ (some (length up)))
 
--- ---- refusals
+-- ---- the points that were found
 
-pub shown : {Z E : Type 0} (found : Result (Vec (Bor Record) Z) E) (result : Result (Vec (Bor Record) Z) PageFault) (records : List Record)
-    → IfOk found (λ page. map (λ r. r.now) page.items ≡ records) → IfOk found (λ page. result ≡ Ok page) → OnErr found (result ≡ Err NoMemory) → AreRecords (Some records) result
-shown (Ok page) result records e o n = subst (λ r. AreRecords (Some records) r) (sym o) (ap Some (sym e))
-shown (Err x) result records e o n = subst (λ r. AreRecords (Some records) r) (sym n) tt
+pub at_point : (cut : Point → List Record) (wanted point : Option Point) (records : List Record)
+    → wanted ≡ point → IsSome point → ((p : Point) → point ≡ Some p → records ≡ cut p)
+    → option_map of_records (option_map cut wanted) ≡ Some (of_records records)
+at_point cut wanted None records e some is = absurd (false≢true some)
+at_point cut wanted (Some p) records e some is =
+    ap (λ w. option_map of_records (option_map cut w)) e ∙ ap (λ l. Some (of_records l)) (sym (is p refl))
 
--- the records that a point asks for, at the point that was found
-pub at_point : {Z E : Type 0} (cut : Point → List Record) (wanted point : Option Point) (found : Result (Vec (Bor Record) Z) E) (result : Result (Vec (Bor Record) Z) PageFault)
-    → wanted ≡ point → IsSome point → ((p : Point) → point ≡ Some p → IfOk found (λ page. map (λ r. r.now) page.items ≡ cut p))
-    → IfOk found (λ page. result ≡ Ok page) → OnErr found (result ≡ Err NoMemory) → AreRecords (option_map cut wanted) result
-at_point cut wanted None found result e some is o n = absurd (false≢true some)
-at_point cut wanted (Some p) found result e some is o n =
-    subst (λ w. AreRecords (option_map cut w) result) (sym e) (shown found result (cut p) (is p refl) o n)
-
-pub at_points : {Z E : Type 0} (cut : Point → Point → List Record) (first second one other : Option Point) (found : Result (Vec (Bor Record) Z) E) (result : Result (Vec (Bor Record) Z) PageFault)
+pub at_points : (cut : Point → Point → List Record) (first second one other : Option Point) (records : List Record)
     → first ≡ one → IsSome one → second ≡ other → IsSome other
-    → ((p q : Point) → one ≡ Some p → other ≡ Some q → IfOk found (λ page. map (λ r. r.now) page.items ≡ cut p q))
-    → IfOk found (λ page. result ≡ Ok page) → OnErr found (result ≡ Err NoMemory) → AreRecords (option_and_then (λ p. option_map (cut p) second) first) result
-at_points cut first second None other found result e some f other_some is o n = absurd (false≢true some)
-at_points cut first second (Some p) other found result e some f other_some is o n =
-    subst (λ w. AreRecords (option_and_then (λ p. option_map (cut p) second) w) result) (sym e)
-    (at_point (cut p) second other found result f other_some (λ q g. is p q refl g) o n)
+    → ((p q : Point) → one ≡ Some p → other ≡ Some q → records ≡ cut p q)
+    → option_map of_records (option_and_then (λ p. option_map (cut p) second) first) ≡ Some (of_records records)
+at_points cut first second None other records e some f other_some is = absurd (false≢true some)
+at_points cut first second (Some p) other records e some f other_some is =
+    ap (λ w. option_map of_records (option_and_then (λ p. option_map (cut p) second) w)) e
+    ∙ at_point (cut p) second other records f other_some (λ q g. is p q refl g)
 
 -- ---- the page of each query
 

@@ -1,15 +1,14 @@
 -- Whether a page, or a refusal, is the answer of the definition.
-use Rattle.std.specs.Prelude.{◌≡◌, ⊤, ℕ, Option, Some, None, IsSome, List, map, filter, take, Vec, Result, Ok, Err}
+use Rattle.std.specs.Prelude.{◌≡◌, ⊤, ℕ, Option, Some, None, IsSome, List, map, filter, take, Result, Ok, Err}
 use Rattle.std.specs.Option.{option_map, option_and_then}
-use Rattle.std.specs.Borrow.{Bor}
 use Rattle.chat_change.specs.Record.{Record}
 use Rattle.chat_query.specs.Page as spec
 use Rattle.chat_change.specs.Buffer.{Buffer}
 use Rattle.chat_history.specs.History.{History}
 use Rattle.chat_history.specs.Visible.{records_in}
 use Rattle.chat_query.specs.declared.query.Selector.{Selector}
-use Rattle.chat_page.specs.declared.answer.SelectorSide.{SelectorSide}
-use Rattle.chat_page.specs.declared.answer.SelectorSide.TheVariants.{LatestAfter, Before, After, Around}
+use Rattle.chat_page.specs.declared.pager.SelectorSide.{SelectorSide}
+use Rattle.chat_page.specs.declared.pager.SelectorSide.TheVariants.{LatestAfter, Before, After, Around}
 use Rattle.chat_page.specs.declared.pages.Page.{Page}
 use Rattle.chat_page.specs.declared.pages.Page.TheVariants.{Records, Buffers}
 use Rattle.chat_page.specs.declared.pages.PageFault.{PageFault}
@@ -34,13 +33,6 @@ abbrev pub IsAnswerIfMemory : Option spec.Page → Result Page PageFault → Typ
 IsAnswerIfMemory wanted (Ok page) = wanted ≡ Some (value_of page)
 IsAnswerIfMemory wanted (Err UnknownMessage) = wanted ≡ None
 IsAnswerIfMemory wanted (Err NoMemory) = ⊤
-
--- the same of the records of a page
-abbrev pub AreRecords : {Z : Type 0} → Option (List Record) → Result (Vec (Bor Record) Z) PageFault
-    → Type 0
-AreRecords wanted (Ok records) = wanted ≡ Some (map (λ r. r.now) records.items)
-AreRecords wanted (Err UnknownMessage) = wanted ≡ None
-AreRecords wanted (Err NoMemory) = ⊤
 
 -- the records on a side of a point
 abbrev pub side_cut : SelectorSide → ℕ → List Record → spec.Point → List Record

@@ -1,171 +1,20 @@
 //! Answering queries.
-ghost use Rattle.std.specs.Prelude.{◌≡◌, Some, Ok, Err, IfOk, IfErr, OnErr, Option, List, map, min};
+ghost use Rattle.std.specs.Prelude.{◌≡◌, Some, IfOk, IfErr, List, min};
 ghost use Rattle.std.specs.Option.{option_map};
 ghost use Rattle.chat_change.specs.declared.change.Change.{Change};
 ghost use Rattle.chat_history.specs.History.{norm};
 ghost use Rattle.chat_history.specs.Visible.{records_in};
 ghost use Rattle.chat_query.specs.Page as spec;
-ghost use Rattle.chat_page.specs.Answer.{IsAnswer, IsRefusal, IsAnswerIfMemory, AreRecords, side_of, between_of};
+ghost use Rattle.chat_page.specs.Answer.{IsAnswer, IsRefusal, IsAnswerIfMemory, side_of, between_of};
 
 use crate::known::has_page;
 use crate::listed_buffer::listed_between;
+use crate::pager::{Pager, SelectorSide};
 use crate::pages::{Page, PageFault};
-use crate::point::{SelectorPoint, over, point_of, under};
-use crate::walk::{first_between, last_between};
-use chat_change::{Buffer, ChangeFault, Moment, Record};
+use chat_change::{Buffer, Moment};
 use chat_query::{Query, Scope, Selector, Target};
-use chat_state::{Cut, Spot, State};
-use std::alloc::{AllocError, Global};
-
-/// Which records of a buffer are asked for by one selector.
-#[derive(Clone, Copy)]
-enum SelectorSide {
-    /// The last of those after it.
-    LatestAfter,
-    /// The last of those before it.
-    Before,
-    /// The first of those after it.
-    After,
-    /// At most half from before it, and the others from it on.
-    Around,
-}
-
-ghost use Rattle.chat_page.specs.Point.{value_of};
-ghost use Rattle.chat_page.specs.Answer.{side_cut};
-
-/// The records around a point.
-fn around<'a>(
-    alloc: Global,
-    state: &'a State,
-    buffer: &Buffer,
-    point: &SelectorPoint,
-    n: usize,
-) -> Result<Vec<&'a Record>, AllocError>
-    ensures { (p : spec.Point) → value_of point.now ≡ Some p → IfOk result (λ page.
-        map (λ r. r.now) page.items ≡ spec.around_cut n
-        (records_in state.now.history buffer.now) p) }
-{
-    // Without it the prover doesn't find the types that a cut may hold.
-    let _held: (Option<Moment>, Option<&Spot>) = (None, None);
-    let cut = under(point);
-    let mut page = last_between(alloc, state, buffer, &Cut::Bottom, &cut, n / 2)?;
-    let mut rest = first_between(alloc, state, buffer, &cut, &Cut::Top, n - n / 2)?;
-    page.append(&mut rest)?;
-    Ok(page)
-}
-
-/// The records on a side of a point.
-fn beside<'a>(
-    alloc: Global,
-    state: &'a State,
-    buffer: &Buffer,
-    point: &SelectorPoint,
-    side: SelectorSide,
-    n: usize,
-) -> Result<Vec<&'a Record>, AllocError>
-    ensures { (p : spec.Point) → value_of point.now ≡ Some p → IfOk result (λ page.
-        map (λ r. r.now) page.items ≡ side_cut side n (records_in state.now.history buffer.now) p) }
-{
-    // Without it the prover doesn't find the type of the spots that a cut may hold.
-    let _held: Option<&Spot> = None;
-    match side {
-        SelectorSide::LatestAfter => last_between(alloc, state, buffer, &over(point), &Cut::Top, n),
-        SelectorSide::Before => last_between(alloc, state, buffer, &Cut::Bottom, &under(point), n),
-        SelectorSide::After => first_between(alloc, state, buffer, &over(point), &Cut::Top, n),
-        SelectorSide::Around => around(alloc, state, buffer, point, n),
-    }
-}
-
-/// The records between two points.
-fn between_points<'a>(
-    alloc: Global,
-    state: &'a State,
-    buffer: &Buffer,
-    one: &SelectorPoint,
-    other: &SelectorPoint,
-    n: usize,
-) -> Result<Vec<&'a Record>, AllocError>
-    ensures { (p q : spec.Point) → value_of one.now ≡ Some p → value_of other.now ≡ Some q
-        → IfOk result (λ page.
-        map (λ r. r.now) page.items ≡ spec.between_cut n
-        (records_in state.now.history buffer.now) p q) }
-{
-    // Without it the prover doesn't find the types that a cut may hold.
-    let _held: (Option<Moment>, Option<&Spot>) = (None, None);
-    let rising = first_between(alloc, state, buffer, &over(one), &under(other), n)?;
-    if rising.is_empty() {
-        last_between(alloc, state, buffer, &over(other), &under(one), n)
-    } else {
-        Ok(rising)
-    }
-}
-
-fn or_no_memory<'a>(
-    found: Result<Vec<&'a Record>, AllocError>,
-) -> Result<Vec<&'a Record>, PageFault>
-    ensures ok { IfOk found.entry (λ records. result ≡ Ok records) }
-    ensures err { OnErr found.entry (result ≡ Err PageFault.NoMemory) }
-{
-    match found {
-        Ok(records) => Ok(records),
-        Err(_) => Err(PageFault::NoMemory),
-    }
-}
-
-/// The records on a side of a selector.
-fn selected<'a>(
-    alloc: Global,
-    state: &'a State,
-    buffer: &Buffer,
-    selector: &Selector<'_>,
-    side: SelectorSide,
-    n: usize,
-) -> Result<Vec<&'a Record>, PageFault>
-    ensures { (changes : List Change) → state.now.history ≡ norm changes
-        → AreRecords (side_of (norm changes) buffer.now selector.now side n) result }
-{
-    let point = point_of(alloc, state, buffer, selector)?;
-    let found = beside(alloc, state, buffer, &point, side, n);
-    drop(point);
-    or_no_memory(found)
-}
-
-/// The records between two selectors.
-fn between<'a>(
-    alloc: Global,
-    state: &'a State,
-    buffer: &Buffer,
-    one: &Selector<'_>,
-    other: &Selector<'_>,
-    n: usize,
-) -> Result<Vec<&'a Record>, PageFault>
-    ensures { (changes : List Change) → state.now.history ≡ norm changes
-        → AreRecords (between_of (norm changes) buffer.now one.now other.now n) result }
-{
-    let point = point_of(alloc, state, buffer, one)?;
-    let point_after = match point_of(alloc, state, buffer, other) {
-        Ok(found) => found,
-        Err(fault) => {
-            drop(point);
-            return Err(fault);
-        }
-    };
-    let found = between_points(alloc, state, buffer, &point, &point_after, n);
-    drop(point);
-    drop(point_after);
-    or_no_memory(found)
-}
-
-/// The page of those records, if there are any.
-fn page_of<'a>(found: Result<Vec<&'a Record>, PageFault>) -> Result<Page<'a>, PageFault>
-    ensures { (wanted : Option (List Record)) → AreRecords wanted found.entry → IsAnswerIfMemory
-        (option_map spec.of_records wanted) result }
-{
-    match found {
-        Ok(records) => Ok(Page::Records(records)),
-        Err(fault) => Err(fault),
-    }
-}
+use chat_state::State;
+use std::alloc::Global;
 
 /// The state that is asked, and who asks it.
 #[derive(Clone, Copy)]
@@ -176,15 +25,23 @@ struct Asked<'a, 'b> {
 }
 
 impl<'a, 'b> Asked<'a, 'b> {
-    /// The buffer of a target.
-    fn buffer(&self, target: &Target<'_>) -> Result<Buffer, PageFault>
-        ensures ok { IfOk result (λ buffer. buffer
+    /// The pager of a target's buffer, with the lower one of a limit and the scope's maximum.
+    fn pager(&self, target: &Target<'_>, limit: usize) -> Result<Pager<'a>, PageFault>
+        ensures state { IfOk result (λ pager. pager.state.now ≡ self.now.state.now) }
+        ensures buffer { IfOk result (λ pager. pager.buffer
             ≡ spec.buffer_of self.now.scope.now target.now) }
+        ensures limit { IfOk result (λ pager. pager.limit
+            ≡ min limit self.now.scope.now.maximum) }
         ensures err { IfErr result (λ fault. fault ≡ PageFault.NoMemory) }
     {
         let scope = self.scope;
         match Buffer::new(self.alloc, scope.account(), scope.network(), target.given()) {
-            Ok(buffer) => Ok(buffer),
+            Ok(buffer) => Ok(Pager {
+                alloc: self.alloc,
+                state: self.state,
+                buffer,
+                limit: limit.min(scope.maximum()),
+            }),
             // Names and targets are lawful by their types.
             Err(_) => Err(PageFault::NoMemory),
         }
@@ -203,9 +60,9 @@ impl<'a, 'b> Asked<'a, 'b> {
             (spec.buffer_of self.now.scope.now target.now) selector.now side
             (min limit self.now.scope.now.maximum))) result }
     {
-        let buffer = self.buffer(target)?;
-        let n = limit.min(self.scope.maximum());
-        page_of(selected(self.alloc, self.state, &buffer, selector, side, n))
+        let pager = self.pager(target, limit)?;
+        let point = pager.point_of(selector)?;
+        Ok(Page::Records(pager.beside(&point, side)?))
     }
 
     /// A page between two selectors.
@@ -221,9 +78,10 @@ impl<'a, 'b> Asked<'a, 'b> {
             (spec.buffer_of self.now.scope.now target.now) one.now other.now
             (min limit self.now.scope.now.maximum))) result }
     {
-        let buffer = self.buffer(target)?;
-        let n = limit.min(self.scope.maximum());
-        page_of(between(self.alloc, self.state, &buffer, one, other, n))
+        let pager = self.pager(target, limit)?;
+        let point = pager.point_of(one)?;
+        let other_point = pager.point_of(other)?;
+        Ok(Page::Records(pager.between(&point, &other_point)?))
     }
 
     /// The page of the latest records.
@@ -233,33 +91,8 @@ impl<'a, 'b> Asked<'a, 'b> {
             (records_in self.now.state.now.history
             (spec.buffer_of self.now.scope.now target.now))))) result }
     {
-        let buffer = self.buffer(target)?;
-        // Without it the prover doesn't find the types that a cut may hold.
-        let _held: (Option<Moment>, Option<&Spot>) = (None, None);
-        let n = limit.min(self.scope.maximum());
-        match last_between(self.alloc, self.state, &buffer, &Cut::Bottom, &Cut::Top, n) {
-            Ok(records) => Ok(Page::Records(records)),
-            Err(_) => Err(PageFault::NoMemory),
-        }
-    }
-
-    /// The page of LATEST.
-    fn latest_or_after(
-        &self,
-        target: &Target<'_>,
-        after: &Option<Selector<'_>>,
-        limit: usize,
-    ) -> Result<Page<'a>, PageFault>
-        ensures { (changes : List Change) → self.now.state.now.history ≡ norm changes
-            → IsAnswerIfMemory (spec.page changes self.now.scope.now
-            (Query.Latest target.now after.now limit)) result }
-    {
-        match after {
-            None => self.latest_page(target, limit),
-            Some(selector) => {
-                self.selected_page(target, selector, SelectorSide::LatestAfter, limit)
-            }
-        }
+        let pager = self.pager(target, limit)?;
+        Ok(Page::Records(pager.latest()?))
     }
 
     /// The page of a list of buffers.
@@ -269,10 +102,8 @@ impl<'a, 'b> Asked<'a, 'b> {
             (spec.buffers_in self.now.state.now.history self.now.scope.now)))) result }
     {
         let n = limit.min(self.scope.maximum());
-        match listed_between(self.alloc, self.state, self.scope, one, other, n) {
-            Ok(buffers) => Ok(Page::Buffers(buffers)),
-            Err(_) => Err(PageFault::NoMemory),
-        }
+        let buffers = listed_between(self.alloc, self.state, self.scope, one, other, n)?;
+        Ok(Page::Buffers(buffers))
     }
 
     /// The page of a query. Want of memory is answered wherever some was refused.
@@ -285,7 +116,12 @@ impl<'a, 'b> Asked<'a, 'b> {
                 target,
                 after,
                 limit,
-            } => self.latest_or_after(target, after, *limit),
+            } => match after {
+                None => self.latest_page(target, *limit),
+                Some(selector) => {
+                    self.selected_page(target, selector, SelectorSide::LatestAfter, *limit)
+                }
+            },
             Query::Before {
                 target,
                 selector,
@@ -310,17 +146,17 @@ impl<'a, 'b> Asked<'a, 'b> {
             Query::Targets { one, other, limit } => self.targets_page(*one, *other, *limit),
         }
     }
-}
 
-/// Why a query for which there was no memory is refused.
-fn refusal_of(state: &State, scope: &Scope<'_>, query: &Query<'_>) -> PageFault
-    ensures { (changes : List Change) → state.now.history ≡ norm changes
-        → IsRefusal (spec.page changes scope.now query.now) result }
-{
-    if has_page(state, scope, query) {
-        PageFault::NoMemory
-    } else {
-        PageFault::UnknownMessage
+    /// Why a query for which there was no memory is refused.
+    fn refusal_of(&self, query: &Query<'_>) -> PageFault
+        ensures { (changes : List Change) → self.now.state.now.history ≡ norm changes
+            → IsRefusal (spec.page changes self.now.scope.now query.now) result }
+    {
+        if has_page(self.state, self.scope, query) {
+            PageFault::NoMemory
+        } else {
+            PageFault::UnknownMessage
+        }
     }
 }
 
@@ -348,6 +184,6 @@ pub fn page<'a>(
     match asked.page_if_memory(query) {
         Ok(page) => Ok(page),
         Err(PageFault::UnknownMessage) => Err(PageFault::UnknownMessage),
-        Err(PageFault::NoMemory) => Err(refusal_of(state, scope, query)),
+        Err(PageFault::NoMemory) => Err(asked.refusal_of(query)),
     }
 }

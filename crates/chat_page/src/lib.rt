@@ -10,9 +10,9 @@ mod answer;
 mod known;
 pub mod laws;
 mod listed_buffer;
+mod pager;
 mod pages;
 mod point;
-mod walk;
 
 pub use answer::page;
 pub use chat_query::{

@@ -2,6 +2,7 @@
 
 use chat_change::Record;
 use chat_query::ListedBuffer;
+use std::alloc::AllocError;
 use thiserror::Error;
 
 /// Why there is no page.
@@ -13,6 +14,17 @@ pub enum PageFault {
     /// There was no memory.
     #[error("no memory")]
     NoMemory,
+}
+
+impl From<AllocError> for PageFault {
+    ghost use Rattle.std.specs.Prelude.{◌≡◌};
+    ghost use Rattle.chat_page.specs.declared.pages.PageFault.{PageFault};
+
+    ghost from_gives = { λ _ fault. fault ≡ PageFault.NoMemory };
+
+    fn from(_: AllocError) -> PageFault {
+        PageFault::NoMemory
+    }
 }
 
 /// The answer to a query. It lends what the state holds.

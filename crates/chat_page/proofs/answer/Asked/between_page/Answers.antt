@@ -1,5 +1,18 @@
+use Rattle.std.proofs.Common.{◌≡◌, ◌∙◌, ap}
+use Rattle.chat_history.specs.History.{norm}
+use Rattle.chat_history.specs.Visible.{records_in}
+use Rattle.chat_query.specs.Page.{point_of, between_cut}
+use Rattle.chat_page.specs.Point.{value_of}
+use Rattle.chat_page.proofs.AnswerLemmas.{at_points}
 use Rattle.chat_page.proofs.answer.Asked.between_page.Goals as goal
 
 pub returns : goal.returns
 returns c changes h =
-    rw (← c.in_ok-buffer.ensures.ok, ← c.maximum.ensures, ← c.min-n.ensures) (c.page_of.ensures _ (c.between.ensures changes h))
+    let pager = c.in_ok-pager.pager in
+    let g : pager.state.now.history ≡ norm changes = ap (λ s. s.history) c.in_ok-pager.ensures.state ∙ h in
+    rw (← c.in_ok-pager.ensures.buffer, ← c.in_ok-pager.ensures.limit)
+    (at_points (between_cut pager.limit (records_in (norm changes) pager.buffer)) (point_of (norm changes) pager.buffer c.args.one.now)
+    (point_of (norm changes) pager.buffer c.args.other.now) (value_of c.in_ok-point.point) (value_of c.in_ok-other_point.other_point) _
+    (c.in_ok-point.ensures.point changes g) c.in_ok-point.ensures.some
+    (c.in_ok-other_point.ensures.point changes g) c.in_ok-other_point.ensures.some
+    (λ p q e f. c.in_ok-between.ensures p q e f ∙ ap (λ x. between_cut pager.limit (records_in x pager.buffer) p q) g))

@@ -9,7 +9,7 @@ use Rattle.chat_history.proofs.CallerLemmas.{records_sorted}
 use Rattle.chat_page.specs.Cuts.{between_cuts}
 use Rattle.chat_page.proofs.CutLemmas.{down_between}
 use Rattle.chat_page.proofs.LastLemmas.{map_reverse, last_from_end}
-use Rattle.chat_page.proofs.walk.last_between.Goals as goal
+use Rattle.chat_page.proofs.pager.Pager.last_between.Goals as goal
 
 pub returns : goal.returns
 returns c =
@@ -17,7 +17,7 @@ returns c =
     ∙ ap reverse (map_from_collect {E = Unit {0}} (Ok c.in_ok-page.page) c.in_ok-page.ensures.ran
     (YieldsList-from_take c.args.n (YieldsList-at c.take.ensures.source
     (YieldsList-from_take_while _ (is_after_cut c.args.low.now)
-    (YieldsList-at c.take_while.ensures.source (YieldsList-from_first deref (λ s. s) (reverse (before_cut c.args.high.now (records_in c.args.state.now.history c.args.buffer.now))) (c.down.ensures ∙ ap (λ cut. reverse (before_cut cut (records_in c.args.state.now.history c.args.buffer.now))) c.copy_of.ensures)))
+    (YieldsList-at c.take_while.ensures.source (YieldsList-from_first deref (λ s. s) (reverse (before_cut c.args.high.now (records_in c.args.self.now.state.now.history c.args.self.now.buffer))) (c.down.ensures ∙ ap (λ cut. reverse (before_cut cut (records_in c.args.self.now.state.now.history c.args.self.now.buffer))) c.copy_of.ensures)))
     c.take_while.ensures.closure c.take_while.ensures.done (λ x r q k. search rules))) c.take.ensures.count))
-    ∙ ap (λ l. reverse (take c.args.n l)) (down_between c.args.low.now c.args.high.now (records_in c.args.state.now.history c.args.buffer.now) (records_sorted c.args.state.now.history c.args.buffer.now))
-    ∙ last_from_end c.args.n (between_cuts c.args.low.now c.args.high.now (records_in c.args.state.now.history c.args.buffer.now))
+    ∙ ap (λ l. reverse (take c.args.n l)) (down_between c.args.low.now c.args.high.now (records_in c.args.self.now.state.now.history c.args.self.now.buffer) (records_sorted c.args.self.now.state.now.history c.args.self.now.buffer))
+    ∙ last_from_end c.args.n (between_cuts c.args.low.now c.args.high.now (records_in c.args.self.now.state.now.history c.args.self.now.buffer))
