@@ -89,6 +89,7 @@ impl<C: Connection> Client<C> {
         ensures given { N.given pass.new ≡ N.given pass.old }
     {
         let Ok(_) = self.input.look() else {
+            // before the call, since its unread bytes are lost: only who is gone may stand so
             self.is_gone = true;
             self.fall(Fall::NoMemory);
             return Err(StepFault::NoMemory);

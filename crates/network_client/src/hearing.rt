@@ -65,6 +65,7 @@ impl<C: Connection> Client<C> {
         let Filled::NoMemory = filled else {
             return filled;
         };
+        // before the call, since its unread bytes are lost: only who is gone may stand so
         self.is_gone = true;
         self.fall(Fall::NoMemory);
         filled
@@ -86,6 +87,7 @@ impl<C: Connection> Client<C> {
         match self.input.look() {
             Ok(is_there) => is_there,
             Err(NoMemory) => {
+                // before the call, since its unread bytes are lost: only who is gone may stand so
                 self.is_gone = true;
                 self.fall(Fall::NoMemory);
                 false
@@ -103,6 +105,7 @@ impl<C: Connection> Client<C> {
         ensures fell { OnErr result (self.new ≡ fallen self.old) }
     {
         let Ok(_) = self.input.look() else {
+            // before the call, since its unread bytes are lost: only who is gone may stand so
             self.is_gone = true;
             self.fall(Fall::NoMemory);
             return Err(NoMemory);
@@ -120,6 +123,7 @@ impl<C: Connection> Client<C> {
         ensures fell { OnErr result (self.new ≡ fallen self.old) }
     {
         let Ok(_) = self.input.look() else {
+            // before the call, since its unread bytes are lost: only who is gone may stand so
             self.is_gone = true;
             self.fall(Fall::NoMemory);
             return Err(NoMemory);
@@ -150,6 +154,7 @@ impl<C: Connection> Client<C> {
             return Err(NoMemory);
         };
         let Ok(_) = self.input.look() else {
+            // before the call, since its unread bytes are lost: only who is gone may stand so
             self.is_gone = true;
             self.fall(Fall::NoMemory);
             return Err(NoMemory);
@@ -164,6 +169,7 @@ impl<C: Connection> Client<C> {
                 Ok(true)
             }
             Err(NoMemory) => {
+                // before the call, since its unread bytes are lost: only who is gone may stand so
                 self.is_gone = true;
                 self.fall(Fall::NoMemory);
                 Err(NoMemory)
