@@ -1,4 +1,5 @@
 //! The work of one worker, and of all of a node, each on a thread of its own.
+ghost use Rattle.std.specs.Prelude.{◌≡◌};
 ghost use Rattle.bnc_work.specs.Settings.{AreSettingsOf};
 
 use crate::clock::read_time;
@@ -10,7 +11,7 @@ use node_events::{StartFault, each_in_a_thread};
 use shared_node::{Ends, Naming, NodeTaker, Pass, SharedNode};
 use std::sync::Wait;
 use std::thread::Threads;
-use worker_pass::{Gate, Witness, WorkerPass};
+use worker_pass::{Gate, Witness, WorkPass, WorkerPass};
 
 /// Serves the connections of the port as worker `worker` of those that the port counts, until the gate shuts or the port ends or
 /// fails. Where there is no memory to begin, or the clocks aren't read, that is a failure too.
@@ -35,38 +36,33 @@ where
     G: Gate,
     requires { AreSettingsOf P.Connection.facts config.settings.now }
 {
-    match try_work(rt, worker, node, pass, config, port, gate) {
+    let taker = NodeTaker::new(node, pass, rt);
+    let pass = WorkerPass::new(rt.alloc(), taker, gate, worker, config.settings.retain_days);
+    match try_work(rt, worker, config, port, pass) {
         Ok(end) => end,
         Err(NoMemory) => WorkEnd::Failed,
     }
 }
 
 // Serves as [`work`] does, and tells where there is no memory to begin.
-fn try_work<J, R, W, P, G>(
+fn try_work<W, P, N>(
     rt: &W,
     worker: usize,
-    node: &SharedNode<J, R>,
-    pass: Pass<J>,
     config: WorkerConfig<'_>,
     port: P,
-    gate: &G,
+    pass: N,
 ) -> Result<WorkEnd, NoMemory>
 where
-    J: Naming,
-    R: Ends,
     W: Wait + AllocGlobal,
     P: Port,
-    P::Connection: Witness<J>,
-    G: Gate,
-    requires { AreSettingsOf P.Connection.facts config.settings.now }
+    N: WorkPass<Connection = P::Connection>,
+    requires own { AreSettingsOf P.Connection.facts config.settings.now }
+    requires given { N.given pass ≡ 0 }
 {
     let mut port = port;
     let Some(time) = read_time(&mut port) else {
         return Ok(WorkEnd::Failed);
     };
-    let taker = NodeTaker::new(node, pass, rt);
-    let days = config.settings.retain_days;
-    let pass = WorkerPass::new(rt.alloc(), taker, gate, worker, days);
     let mut worker = Worker::new(rt.alloc(), worker, config, port, pass, time)?;
     worker.begin();
     for _ in rt.forever() {
@@ -107,7 +103,10 @@ where
                 settings,
                 waiting: waiting.try_clone()?,
             };
-            try_work(rt, worker, node, pass, config, port, gate)
+            let taker = NodeTaker::new(node, pass, rt);
+            let days = settings.retain_days;
+            let pass = WorkerPass::new(rt.alloc(), taker, gate, worker, days);
+            try_work(rt, worker, config, port, pass)
         },
     )
 }
