@@ -1,7 +1,7 @@
 //! What has to be shown in one process. What the passes of a shared node see of one another's changes: in one thread, also
 //! where memory is refused, and with puts beside asks in two threads and in four (`shared_node`). Places and clients at their
-//! stands (`attach`), further kinds of clients and halls (`attach`). And calls that no program makes: tags as a list, and
-//! a record with tags.
+//! stands (`attach`), further kinds of clients and halls (`attach`). A file that one process alone opens (`real_file`). And calls
+//! that no program makes: tags as a list, and a record with tags.
 //!
 //! The contracts of these crates say what most calls do. Here is what no clause promises: that there is memory at the greatest
 //! sizes, that a pass is let in, that the lowest free place is given, also after it was freed in another thread, and what
@@ -20,6 +20,8 @@ mod changes;
 mod clients;
 #[cfg(test)]
 mod fault;
+#[cfg(test)]
+mod files;
 #[cfg(test)]
 mod growth;
 #[cfg(test)]
