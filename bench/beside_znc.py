@@ -21,7 +21,6 @@ the bouncers inherit:
 """
 import os
 import selectors
-import shutil
 import socket
 import statistics
 import subprocess
@@ -30,7 +29,7 @@ import tempfile
 import time
 
 from machine import name_of_run, table
-from nodes import SECRET, configuration, unit_environment
+from nodes import SECRET, Process, configuration, leave, unit_environment
 
 # where the network's server listens for each bouncer, and where the bouncer does
 SERVER_PORTS = {"bnc": 16700, "znc": 16710}
@@ -78,7 +77,7 @@ ProtectWebSessions = true
 """
 
 
-class Bouncer:
+class Bouncer(Process):
     """The bouncer under measure, as a process."""
 
     def __init__(self, kind, program, workers=1, environment=(), before=()):
@@ -116,28 +115,10 @@ class Bouncer:
         """The configuration of a node."""
         return configuration("n1", "al", self.port, PEER_PORT, f"127.0.0.1:{self.server_port}", workers)
 
-    def seconds(self):
-        """Processor seconds of its threads so far."""
-        threads = f"/proc/{self.process.pid}/task"
-        nanoseconds = 0
-        for thread in os.listdir(threads):
-            try:
-                with open(f"{threads}/{thread}/schedstat") as file:
-                    nanoseconds += int(file.read().split()[0])
-            except FileNotFoundError:
-                # a thread that ended in between
-                continue
-        return nanoseconds / 1e9
-
     def tell(self, measure, figure, unit):
         """Prints a figure, and keeps it."""
         self.figures[f"{measure}, {unit}"] = figure
         print(f"{self.kind} {measure}: {figure:.0f} {unit}", flush=True)
-
-    def resident(self):
-        """Resident memory in bytes."""
-        with open(f"/proc/{self.process.pid}/statm") as file:
-            return int(file.read().split()[1]) * os.sysconf("SC_PAGE_SIZE")
 
     def login(self):
         if self.kind == "bnc":
@@ -147,10 +128,7 @@ class Bouncer:
     def stop(self):
         self.process.kill()
         self.process.wait()
-        if os.environ.get("KEEP"):
-            print(self.home)
-        else:
-            shutil.rmtree(self.home)
+        leave(self.home)
 
 
 class Server:

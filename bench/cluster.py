@@ -3,7 +3,6 @@ bench/soak.py stands on."""
 
 import os
 import re
-import shutil
 import signal
 import socket
 import subprocess
@@ -11,7 +10,7 @@ import tempfile
 import threading
 import time
 
-from nodes import SECRET, WORD, configuration, unit_environment
+from nodes import SECRET, WORD, Process, configuration, leave, unit_environment
 
 BODY = "x" * 40
 LOGIN = "CAP REQ :batch server-time message-tags draft/chathistory draft/read-marker\r\nPASS {}\r\nNICK al\r\n" \
@@ -42,7 +41,22 @@ def end(sockets):
             pass
 
 
-class Node:
+class Logging(Process):
+    """A process that is killed, and whose log is a file."""
+
+    # (the path of the log)
+    told = None
+
+    def kill(self):
+        self.process.send_signal(signal.SIGKILL)
+        self.process.wait()
+
+    def log(self):
+        with open(self.told, encoding="utf-8", errors="replace") as file:
+            return file.read()
+
+
+class Node(Logging):
     """A node as a process, in the environment of the unit, but for what is set already."""
 
     def __init__(self, home, program, number, server, peers):
@@ -62,24 +76,11 @@ class Node:
             self.process = subprocess.Popen([self.program, "serve", self.path], stdin=subprocess.DEVNULL, stdout=log, stderr=log,
                                             env={**unit_environment(), **os.environ}, cwd=os.path.dirname(self.path))
 
-    def kill(self):
-        self.process.send_signal(signal.SIGKILL)
-        self.process.wait()
-
     def is_up(self):
         return self.process.poll() is None
 
-    def log(self):
-        with open(self.told, encoding="utf-8", errors="replace") as file:
-            return file.read()
-
     def descriptors(self):
         return len(os.listdir(f"/proc/{self.process.pid}/fd"))
-
-    def resident(self):
-        """Resident memory in bytes."""
-        with open(f"/proc/{self.process.pid}/statm", encoding="ascii") as file:
-            return int(file.read().split()[1]) * os.sysconf("SC_PAGE_SIZE")
 
 
 class Link:
@@ -261,10 +262,7 @@ class Cluster:
         for node in self.nodes:
             if node.is_up():
                 node.kill()
-        if os.environ.get("KEEP"):
-            print(self.home)
-        else:
-            shutil.rmtree(self.home, ignore_errors=True)
+        leave(self.home)
 
 
 def greeted(node):

@@ -15,7 +15,7 @@ import tempfile
 
 from cluster import Network, Node, waits
 from ids import KINDS, spelled
-from joining import PATIENCE, Peer, Pinger, has, seconds_of
+from joining import PATIENCE, Peer, Pinger, has
 from machine import name_of_run, table
 
 COUNT, PIECE = 1_000_000, 1000
@@ -45,9 +45,9 @@ def floor(program, name):
         fill(network, node, name)
         peer, pinger = Peer(node), Pinger(node.clients)
         pinger.start()
-        spent = seconds_of(node)
+        spent = node.seconds()
         peer.give([f"C FLOOR demo net #a {FLOOR}"])
-        spent = seconds_of(node) - spent
+        spent = node.seconds() - spent
         return spent, pinger.stop()
     finally:
         node.kill()

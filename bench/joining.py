@@ -76,16 +76,6 @@ def fill(network, node, count):
     return time.monotonic() - begun
 
 
-def seconds_of(node):
-    """The processor seconds of a node so far."""
-    threads = f"/proc/{node.process.pid}/task"
-    total = 0
-    for thread in os.listdir(threads):
-        with open(f"{threads}/{thread}/schedstat", encoding="ascii") as it:
-            total += int(it.read().split()[0])
-    return total / 1e9
-
-
 class Peer:
     """A node that this script plays, which sends packets of changes."""
 
@@ -120,10 +110,10 @@ def packet_cost(node):
     peer = Peer(node)
     changes = [f"C POST demo net #a m{number:04d} {1000 + number} P #a bob!bob@host :{BODY}" for number in range(PIECES)]
     peer.give(changes)
-    spent = seconds_of(node)
+    spent = node.seconds()
     for _ in range(PACKETS):
         peer.give(changes)
-    spent = seconds_of(node) - spent
+    spent = node.seconds() - spent
     peer.socket.close()
     return spent / PACKETS / PIECES * 1e6
 
@@ -146,20 +136,20 @@ def main():
         taken = fill(network, first, count)
         here = Pinger(first.clients)
         here.start()
-        begun, spent = time.monotonic(), seconds_of(first)
+        begun, spent = time.monotonic(), first.seconds()
         second.start()
         waits("the second node", lambda: " listening: " in second.log(), 30, 0.05)
         there = Pinger(second.clients)
         there.start()
         waits("level", lambda: " peer level: n2" in second.log(), PATIENCE, 0.05)
         joined = time.monotonic() - begun
-        spent = seconds_of(first) - spent
+        spent = first.seconds() - spent
         print(name_of_run(program), "\n")
         print(table(["what", "figure", "goal"], [
             [f"a node takes {count:,} messages of its server", f"{taken:.1f} s", ""],
             ["a second node that holds nothing is level with it", f"after {joined:.1f} s", "10 s"],
             [".. of which the first one's processor time", f"{spent:.1f} s", ""],
-            [".. and the second one's", f"{seconds_of(second):.1f} s", ""],
+            [".. and the second one's", f"{second.seconds():.1f} s", ""],
             ["the longest wait for a PONG meanwhile, at the first and at the second",
              f"{here.stop() * 1000:.0f} and {there.stop() * 1000:.0f} ms", "50 ms"],
             ["resident memory of the first and of the second",

@@ -26,7 +26,7 @@ import tempfile
 import threading
 import time
 
-from cluster import WORD, Link, Network, Node, Session, waits
+from cluster import WORD, Link, Logging, Network, Node, Session, waits
 from joining import fill, has
 from machine import name_of_run, table
 
@@ -37,7 +37,7 @@ ONE_OF, PACE = 50, 100
 MINUTE = 60
 
 
-class Keeper:
+class Keeper(Logging):
     """A keeper as a process, with its file."""
 
     def __init__(self, home, program, peers):
@@ -54,14 +54,6 @@ class Keeper:
         with open(self.told, "wb") as log:
             self.process = subprocess.Popen(words, stdin=subprocess.DEVNULL, stdout=log, stderr=log,
                                             env={**os.environ, "MALLOC_ARENA_MAX": "1"})
-
-    def kill(self):
-        self.process.kill()
-        self.process.wait()
-
-    def log(self):
-        with open(self.told, encoding="utf-8", errors="replace") as file:
-            return file.read()
 
     def size(self):
         return os.path.getsize(self.file) if os.path.exists(self.file) else 0

@@ -1,6 +1,7 @@
-"""How a node under measure is configured, and the environment that its unit gives it."""
+"""How a node under measure is configured, the environment that its unit gives it, and what its process takes."""
 
 import os
+import shutil
 
 NODE = """name = "bnc.example"
 node = "{name}"
@@ -46,3 +47,36 @@ def unit_environment():
     with open(unit, encoding="utf-8") as file:
         words = [line.strip().removeprefix("Environment=") for line in file if line.startswith("Environment=")]
     return dict(word.split("=", 1) for word in words)
+
+
+class Process:
+    """A process under measure, and what it takes."""
+
+    # (who starts it sets this)
+    process = None
+
+    def seconds(self):
+        """Processor seconds of its threads so far."""
+        threads = f"/proc/{self.process.pid}/task"
+        nanoseconds = 0
+        for thread in os.listdir(threads):
+            try:
+                with open(f"{threads}/{thread}/schedstat", encoding="ascii") as file:
+                    nanoseconds += int(file.read().split()[0])
+            except FileNotFoundError:
+                # a thread that ended in between
+                continue
+        return nanoseconds / 1e9
+
+    def resident(self):
+        """Resident memory in bytes."""
+        with open(f"/proc/{self.process.pid}/statm", encoding="ascii") as file:
+            return int(file.read().split()[1]) * os.sysconf("SC_PAGE_SIZE")
+
+
+def leave(home):
+    """A run is done with its folder, which stays where the environment has KEEP."""
+    if os.environ.get("KEEP"):
+        print(home)
+    else:
+        shutil.rmtree(home, ignore_errors=True)

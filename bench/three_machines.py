@@ -19,7 +19,7 @@ import tempfile
 import time
 
 from machine import name_of_run, table
-from nodes import SECRET, configuration
+from nodes import SECRET, configuration, leave
 
 HERE = os.path.dirname(os.path.dirname(os.path.abspath(__file__)))
 PROGRAM = os.path.join(HERE, "crates", "bnc", "out", "bnc")
@@ -328,10 +328,7 @@ class Trial:
     def end(self):
         subprocess.run(["tmux", "-S", self.path("tmux"), "kill-server"], check=False, capture_output=True)
         self.machines.end()
-        if os.environ.get("KEEP"):
-            print(self.home)
-        else:
-            shutil.rmtree(self.home, ignore_errors=True)
+        leave(self.home)
 
 
 def lost(program, top, has_doors, is_machine, client):
