@@ -17,7 +17,7 @@ import tempfile
 
 from beside_znc import Bouncer, Clients, Server, begin, flood
 from cluster import free_ports
-from machine import name_of_run, table
+from machine import name_of_run, spread, table
 
 # How many lines come at once, and how many there are of each in a round.
 PIECES = {1: 2_000, 20: 10_000, 200: 20_000}
@@ -74,8 +74,7 @@ def row(piece, found):
     ours, bare, keeping, _ = each
     ratios = [one / other for one, other in zip(ours, bare)]
     times = [f"{statistics.median(it):.2f} us" for it in each]
-    told = f"{statistics.median(ratios):.1f} ({min(ratios):.1f} to {max(ratios):.1f})"
-    return [piece, *times[:2], told, 4, *times[2:], f"{statistics.median(map(operator.truediv, ours, keeping)):.2f}"]
+    return [piece, *times[:2], spread(ratios, 1), 4, *times[2:], f"{statistics.median(map(operator.truediv, ours, keeping)):.2f}"]
 
 
 HEADS = ["lines at once", "a relayed line", "the same by the loop in C", "ratio, and its range", "goal",

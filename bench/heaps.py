@@ -14,7 +14,7 @@ import sys
 import time
 
 from beside_znc import Clients, begin, flood
-from machine import name_of_run, table
+from machine import name_of_run, spread, table
 from memory import Growth, Running, settled
 
 WORKERS, HEAPS = (1, 4), (1, 16)
@@ -64,20 +64,19 @@ WHAT = ("a second", "a processor second")
 TAKES = ("an idle client", "a message")
 
 
+def compared(one, many):
+    """The figures with one heap and with many, and the ratio of the medians."""
+    return [spread(one), spread(many), f"{statistics.median(many) / statistics.median(one):.2f}"]
+
+
 def row_of(runs, workers, at, measure):
     one, many = ([run[at][measure] for run in runs[workers, heaps]] for heaps in HEAPS)
-    ratio = statistics.median(many) / statistics.median(one)
-    return [workers, RELAYED[at][0], WHAT[measure], told(one), told(many), f"{ratio:.2f}"]
-
-
-def told(figures):
-    return f"{statistics.median(figures):.0f} ({min(figures):.0f} to {max(figures):.0f})"
+    return [workers, RELAYED[at][0], WHAT[measure], *compared(one, many)]
 
 
 def memory_row(runs, workers, measure):
     one, many = ([run[measure] for run in runs[workers, heaps]] for heaps in HEAPS)
-    ratio = statistics.median(many) / statistics.median(one)
-    return [TAKES[measure], workers, told(one), told(many), f"{ratio:.2f}"]
+    return [TAKES[measure], workers, *compared(one, many)]
 
 
 def by_turns(rounds, measure):

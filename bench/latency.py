@@ -9,14 +9,13 @@ sleeps, and has a processor for itself where there are two; the bouncers share t
 """
 import os
 import shutil
-import statistics
 import subprocess
 import sys
 import tempfile
 
 from beside_c import Loop, built
 from beside_znc import Clients, begin
-from machine import name_of_run, table
+from machine import name_of_run, spread, table
 
 CLIENTS, LINES, PAUSE = 10, 2000, 1000
 
@@ -40,11 +39,6 @@ class Way:
         """The medians of its rounds, each with its range, and what 99 of 100 lines take beside another way."""
         ratios = [one[1] / its[1] for one, its in zip(self.rounds, other.rounds)]
         return [self.name, *(f"{spread(it)} us" for it in zip(*self.rounds)), spread(ratios, 2)]
-
-
-def spread(figures, digits=0):
-    """The median and the range."""
-    return f"{statistics.median(figures):.{digits}f} ({min(figures):.{digits}f} to {max(figures):.{digits}f})"
 
 
 def bouncers(program, ends):

@@ -1,7 +1,8 @@
-"""The one line that stands above a table of figures."""
+"""Tables of figures, and the one line that stands above each."""
 
 import os
 import re
+import statistics
 import subprocess
 import time
 
@@ -26,6 +27,11 @@ def name_of_run(program):
     busy, processors = os.getloadavg()[0], len(os.sched_getaffinity(0))
     return (f"Run: {time.strftime('%Y-%m-%d')}, {commit}, {os.path.basename(program)}, {processors} processors "
             f"({' '.join(processor.split())}), {busy:.1f} busy before.")
+
+
+def spread(figures, digits=0):
+    """The median and the range."""
+    return f"{statistics.median(figures):.{digits}f} ({min(figures):.{digits}f} to {max(figures):.{digits}f})"
 
 
 def table(heads, rows):

@@ -12,7 +12,7 @@ import statistics
 import sys
 
 from beside_znc import measure
-from machine import name_of_run, table
+from machine import name_of_run, spread, table
 
 
 def rounds_of(before, after, rounds):
@@ -22,11 +22,6 @@ def rounds_of(before, after, rounds):
         for program in (before, after) if number % 2 == 0 else (after, before):
             found[program].append(measure("bnc", program))
     return found[before], found[after]
-
-
-def told(figures):
-    """The median, the least and the greatest."""
-    return f"{statistics.median(figures):.0f} ({min(figures):.0f} to {max(figures):.0f})"
 
 
 def main():
@@ -41,7 +36,7 @@ def main():
     for name in olds[0]:
         old, new = ([figures[name] for figures in runs] for runs in (olds, news))
         overlap = max(min(old), min(new)) <= min(max(old), max(new))
-        rows.append([name, told(old), told(new), f"{statistics.median(new) / statistics.median(old):.2f}", "yes" if overlap else "no"])
+        rows.append([name, spread(old), spread(new), f"{statistics.median(new) / statistics.median(old):.2f}", "yes" if overlap else "no"])
     print(f"\n{head} Medians and ranges of {sys.argv[3]} rounds.\n")
     print(table(["what", "before", "after", "after : before", "ranges overlap"], rows))
 

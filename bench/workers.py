@@ -10,12 +10,11 @@ under way, so nobody overruns. It prints a table: the medians, with their ranges
 import os
 import selectors
 import socket
-import statistics
 import sys
 import time
 
 from beside_znc import BOUNCER_PORTS, PEER_PORT, SERVER_PORTS, Bouncer, Server, message, wait_for_port
-from machine import name_of_run, table
+from machine import name_of_run, spread, table
 from nodes import SECRET, configuration
 
 WORKERS, NETWORKS, CLIENTS = (1, 2, 4), 8, 5
@@ -112,10 +111,6 @@ def figures_of(program, workers):
         node.stop()
 
 
-def told(ratios):
-    return f"{statistics.median(ratios):.2f} ({min(ratios):.2f} to {max(ratios):.2f})"
-
-
 def main():
     programs, rounds = [os.path.abspath(it) for it in sys.argv[1:2] + sys.argv[3:4]], int(sys.argv[2])
     runs = {}
@@ -130,7 +125,7 @@ def main():
         for workers in WORKERS[1:]:
             many = runs[program, workers]
             lines, seconds = ([its[at] / first[at] for its, first in zip(many, one)] for at in (0, 1))
-            rows.append([os.path.basename(program), workers, told(lines), GOALS[workers][0], told(seconds), GOALS[workers][1]])
+            rows.append([os.path.basename(program), workers, spread(lines, 2), GOALS[workers][0], spread(seconds, 2), GOALS[workers][1]])
     print(table(["program", "workers", "lines a second : one worker's", "goal", "processor time a line : one worker's", "goal"], rows))
 
 
