@@ -78,19 +78,24 @@ def callgrind(log):
     return ["valgrind", "--quiet", "--tool=callgrind", f"--callgrind-out-file={log}"]
 
 
-def serve(program, log, count, at_once):
-    """The server says so many messages, so many of them at once."""
+def served(program, log, say):
+    """Lines of the server or of one client are said to a node whose instructions are counted."""
     bouncer, server = begin("bnc", program, before=callgrind(log))
     try:
         clients = Clients(bouncer, 1)
         clients.settle(2)
         clients.reset()
-        flood(server, clients, count, at_once)
+        say(server, clients)
         bouncer.process.terminate()
         bouncer.process.wait()
     finally:
         bouncer.stop()
         server.close()
+
+
+def serve(program, log, count, at_once):
+    """The server says so many messages, so many of them at once."""
+    served(program, log, lambda server, clients: flood(server, clients, count, at_once))
 
 
 def replay(program, log, count, _at_once):

@@ -10,10 +10,11 @@ isn't seen.
 import os
 import sys
 import tempfile
+from functools import partial
 
-from beside_znc import Clients, begin, flood, message
+from beside_znc import flood, message
 from machine import name_of_run, table
-from put import ALL, callgrind, instructions
+from put import ALL, instructions, served
 
 # The most bytes of tags in a server's line and in a client's (IRCv3 message-tags, "Size limit").
 SERVERS, CLIENTS = 8189, 4094
@@ -63,17 +64,7 @@ LINES = (
 
 
 def run(program, log, say, tags, count):
-    bouncer, server = begin("bnc", program, before=callgrind(log))
-    try:
-        clients = Clients(bouncer, 1)
-        clients.settle(2)
-        clients.reset()
-        say(tags, count, server, clients)
-        bouncer.process.terminate()
-        bouncer.process.wait()
-    finally:
-        bouncer.stop()
-        server.close()
+    served(program, log, partial(say, tags, count))
     return instructions(ALL, log)
 
 

@@ -17,7 +17,9 @@ import subprocess
 import sys
 import tempfile
 import time
+from functools import partial
 
+from cluster import waits
 from machine import name_of_run, table
 from nodes import SECRET, configuration, leave
 
@@ -204,14 +206,8 @@ def write(path, text, mode=0o600):
     os.chmod(path, mode)
 
 
-def wait(what, call, seconds=200):
-    """Waits until it is so, and answers how many seconds it took."""
-    begun = time.monotonic()
-    while not call():
-        if time.monotonic() - begun > seconds:
-            raise SystemExit(f"not so within {seconds} seconds: {what}")
-        time.sleep(0.05)
-    return time.monotonic() - begun
+# Waits until it is so, and says in how many seconds it was.
+wait = partial(waits, seconds=200, pause=0.05)
 
 
 class Trial:

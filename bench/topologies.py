@@ -13,11 +13,13 @@ import sys
 import tempfile
 import time
 
-from cluster import BODY, Link, Network, Node
+from cluster import BODY, Link, Network, Node, waits
 from machine import name_of_run, table
 
 PROGRAM = os.path.join(os.path.dirname(os.path.dirname(os.path.abspath(__file__))), "crates", "bnc", "out", "bnc")
 MESSAGES, PAUSE = 50, 0.1
+# The most seconds in which the nodes come together.
+TOGETHER = 300
 # All is said once nothing went over any link for so many seconds.
 QUIET = 15
 # A message's own line between nodes, with an id of the network's server.
@@ -56,10 +58,10 @@ class Nodes:
         for node in reversed(self.nodes):
             node.write()
             node.start()
-            wait(lambda: " listening: " in node.log() or not node.is_up())
+            waits(f"{node.name} listens", lambda: " listening: " in node.log() or not node.is_up(), TOGETHER, 0.05)
             if not node.is_up():
                 return False
-        wait(self.is_whole)
+        waits("the nodes are level", self.is_whole, TOGETHER, 0.05)
         return True
 
     def is_whole(self):
@@ -90,14 +92,6 @@ class Nodes:
             if node.process:
                 node.kill()
         shutil.rmtree(self.home, ignore_errors=True)
-
-
-def wait(call, seconds=300):
-    end = time.monotonic() + seconds
-    while not call():
-        if time.monotonic() > end:
-            raise SystemExit("the nodes didn't come together")
-        time.sleep(0.05)
 
 
 def row(program, count, name, pairs):
