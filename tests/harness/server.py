@@ -4,6 +4,7 @@ import time
 
 from harness.connection import Listener
 from harness.identities import EXAMPLE, user_of
+from harness.node import Node
 
 
 class Server(Listener):
@@ -49,3 +50,10 @@ class Server(Listener):
         sees, so they get a second for it: who comes by then may hear of what was said before."""
         self.settled(session)
         time.sleep(1)
+
+
+def begun(fixture, offers="message-tags server-time", **how):
+    """A node whose network is up, its server and its session there."""
+    server = Server(fixture)
+    node = Node(fixture, servers=[server.address], **how).begin()
+    return node, server, server.register(offers)

@@ -11,25 +11,18 @@ from harness.failure import expect
 from harness.identities import SECRETS
 from harness.node import Node, TwoAccounts
 from harness.registry import test
-from harness.server import Server
+from harness.server import Server, begun
 
 NAMES = "batch draft/chathistory draft/message-redaction draft/read-marker echo-message message-tags server-time"
 TOO_LONG = ":bnc.example 417 al :Input line was too long"
 NOBODY = ("127.0.0.1", 1)
 
 
-def node_and_server(fixture, channels=(), **limits):
-    """A node whose network is up, and its session with the server."""
-    server = Server(fixture)
-    node = Node(fixture, servers=[server.address], channels=channels, **limits).begin()
-    return node, server.register(channels=channels)
-
-
 @test
 def registration_word_for_word(fixture):
     """CAP holds registration back, NAK and ACK tell the words as given, and PASS may come late as long as something holds it
     back."""
-    node, _ = node_and_server(fixture)
+    node, *_ = begun(fixture, "")
     client = node.client()
     client.say("CAP LS 302", "NICK al", "USER demo/net 0 * :Al", "PASS s3cret")
     client.hear(f":bnc.example CAP * LS :{NAMES}")
@@ -42,7 +35,7 @@ def registration_word_for_word(fixture):
 @test
 def registration_in_one_packet(fixture):
     """All that a client says may come at once: the answers are the same, in the same order. The node has one worker."""
-    node, _ = node_and_server(fixture, workers=1, places=1)
+    node, *_ = begun(fixture, "", workers=1, places=1)
     client = node.client()
     client.say("CAP LS 302", "NICK al", "USER demo/net 0 * :Al", "PASS s3cret", "CAP REQ :batch nope",
                "CAP REQ :server-time batch", "CAP END")
@@ -115,12 +108,12 @@ def what_is_answered_after_registration(fixture):
 
 def refused(fixture, *lines):
     """A client that doesn't get in: it is told so a second later, and closed, and the operator is told who it was."""
-    node, _ = node_and_server(fixture)
+    node, *_ = begun(fixture, "")
     client = node.client()
-    begun = time.monotonic()
+    began = time.monotonic()
     client.say(*lines)
     client.hear(":bnc.example 464 * :Password incorrect", "ERROR :Closing link")
-    expect("whether a second went by", True, time.monotonic() - begun >= 0.9)
+    expect("whether a second went by", True, time.monotonic() - began >= 0.9)
     client.hear_end()
     node.wait_for(f"client refused: {spelled(client.address)}: its account, its network or its secret is wrong")
     node.client("the next client").register()
@@ -226,7 +219,7 @@ def a_network_that_is_not_there_lets_nobody_in(fixture):
 @test
 def the_place_of_a_client_that_left_is_given_to_the_next(fixture):
     """There is one place. While a client has it, another is closed without a word, which is told to the operator."""
-    node, _ = node_and_server(fixture, places=1)
+    node, *_ = begun(fixture, "", places=1)
     first = node.client("the first client").register()
     other = node.client("the second client")
     other.hear_end()
@@ -305,7 +298,7 @@ def of_many_who_come_at_once_as_many_get_in_as_places_are_free(fixture):
 @test
 def quit_is_answered_and_closes(fixture):
     """After QUIT nothing is answered."""
-    node, _ = node_and_server(fixture)
+    node, *_ = begun(fixture, "")
     client = node.client().register()
     client.say("QUIT :bye", "PING x")
     client.hear("ERROR :Closing link")
@@ -319,7 +312,7 @@ GARBAGE = b"\x00\xfe\x80 x\r\n:only.a.source\r\n\r\n"
 @test
 def a_client_that_sends_garbage_loses_nothing_else(fixture):
     """Before it registers and after it; and a line that is too long, between whose halves another client registers."""
-    node, _ = node_and_server(fixture)
+    node, *_ = begun(fixture, "")
     first = node.client("the first client")
     first.send(GARBAGE)
     first.hear(*2 * [":bnc.example 421 * * :Unknown command"])
@@ -336,7 +329,7 @@ def a_client_that_sends_garbage_loses_nothing_else(fixture):
 @test
 def lines_that_are_too_long_are_told(fixture):
     """A line has at most 512 bytes with its CR LF (RFC 1459), and 4,096 bytes of tags before it (message-tags)."""
-    node, _ = node_and_server(fixture)
+    node, *_ = begun(fixture, "")
     client = node.client().register()
     tags = b"@" + b"a" * 4094 + b" "
     for line, answer in (
@@ -354,7 +347,7 @@ def lines_that_are_too_long_are_told(fixture):
 @test
 def a_line_that_comes_in_parts_is_one_line(fixture):
     """Each byte in a packet of its own, and many lines in one. A CR that ends a packet and no line makes it unreadable."""
-    node, _ = node_and_server(fixture)
+    node, *_ = begun(fixture, "")
     client = node.client().register()
     for byte in b"PING parts\r\n":
         client.send(bytes([byte]))
@@ -369,7 +362,7 @@ def a_line_that_comes_in_parts_is_one_line(fixture):
 @test
 def a_hundred_clients_that_leave_in_mid_line_harm_nobody(fixture):
     """Registered or not, in mid-line and in a page; each place is free again."""
-    node, _ = node_and_server(fixture, places=4)
+    node, *_ = begun(fixture, "", places=4)
     stays = node.client("the client that stays").register()
     for number in range(100):
         guest = node.client("a guest")

@@ -9,7 +9,7 @@ from harness.failure import Failed, expect
 from harness.node import Node
 from harness.peer import Peer
 from harness.registry import add, test
-from harness.server import Server
+from harness.server import Server, begun
 
 NOBODY = ("127.0.0.1", 1)
 PAST = "batch draft/chathistory message-tags server-time"
@@ -19,13 +19,6 @@ TOO_LONG = ":bnc.example 417 al :Input line was too long"
 
 # A line without its CR LF and its tags, and the tags of a server's line with their `@` and their space.
 LINE, TAGS = 510, 8191
-
-
-def begun(fixture, offers="message-tags server-time", **how):
-    """A node whose network is up, and its session with the server."""
-    server = Server(fixture)
-    node = Node(fixture, servers=[server.address], **how).begin()
-    return node, server, server.register(offers)
 
 
 def filled(head, most=LINE):

@@ -7,10 +7,9 @@ import re
 from harness.client import page
 from harness.failure import Failed, expect
 from harness.mutations import BYTES, prefixes
-from harness.node import Node
 from harness.reading import CLIENT, SERVER, change_answer, escaped, is_message, is_word, lines_of, read_line, tags_of
 from harness.registry import add, test
-from harness.server import Server
+from harness.server import begun
 from suites.devices import laid
 
 TOO_LONG = ":bnc.example 417 al :Input line was too long"
@@ -456,20 +455,13 @@ KEPT_OF_SERVER = (
 )
 
 
-def begun(fixture, offers="message-tags server-time", **how):
-    """A node whose network is up, and its session with the server."""
-    server = Server(fixture)
-    node = Node(fixture, servers=[server.address], workers=1, **how).begin()
-    return node, server.register(offers)
-
-
 def tagged(tags, line):
     return f"@{tags} {line}" if tags else line
 
 
 @test
 def client_only_tags_of_a_server_are_passed_on(fixture):
-    node, session = begun(fixture)
+    node, _, session = begun(fixture, workers=1)
     client = node.client().register("message-tags")
     for tags, kept in KEPT_OF_SERVER:
         session.say(f"@{tags} :bob!b@h TAGMSG #a")
@@ -480,7 +472,7 @@ def client_only_tags_of_a_server_are_passed_on(fixture):
 
 @test
 def client_only_tags_of_a_client_are_passed_on(fixture):
-    node, session = begun(fixture)
+    node, _, session = begun(fixture, workers=1)
     client = node.client().register("message-tags")
     for tags, kept in KEPT:
         client.say(f"@{tags} TAGMSG #b")
@@ -520,7 +512,7 @@ IDS = (
 @test
 def ids_of_a_server_are_read_of_their_tags(fixture):
     """What is read is selected by as it is, and written with escapes. Where there is none, the node makes one."""
-    node, session = begun(fixture)
+    node, _, session = begun(fixture, workers=1)
     client = node.client().register("batch draft/chathistory message-tags")
     for number, (tags, id) in enumerate(IDS):
         session.say(f"@{tags} :bob!b@h PRIVMSG #i{number} :hi")
@@ -538,7 +530,7 @@ def ids_of_a_server_are_read_of_their_tags(fixture):
 @test
 def times_of_a_server_are_read_of_their_tags(fixture):
     """Where there is none, the message is of now."""
-    node, session = begun(fixture)
+    node, _, session = begun(fixture, workers=1)
     client = node.client().register("server-time")
     for time in (*(time for time, _ in TIMES), *NO_TIMES):
         session.say(f"@time={time} :bob!b@h PRIVMSG #a :hi")
@@ -554,7 +546,7 @@ BODIES = (("hi", "hi"), ("  a  bc   ", "a"), (":", ""), (":b  c  ", "b  c  "), (
 
 @test
 def parameters_of_a_message_are_its_target_and_its_body(fixture):
-    node, session = begun(fixture)
+    node, _, session = begun(fixture, workers=1)
     client = node.client().register("batch draft/chathistory")
     for number, (text, body) in enumerate(BODIES):
         session.say(f":bob!b@h   NOTICE  #b{number} {text}")
@@ -583,7 +575,7 @@ def told_to_client(text):
 @test
 def lines_of_a_server_with_a_byte_replaced(fixture):
     """And each beginning of one. What can't be read is dropped, and what can't be kept is passed on."""
-    node, session = begun(fixture)
+    node, _, session = begun(fixture, workers=1)
     client = node.client().register("message-tags server-time")
     tried = [*prefixes(WHOLE), *replaced(WHOLE)]
     for number, text in enumerate(tried):

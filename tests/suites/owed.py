@@ -12,7 +12,7 @@ from harness.failure import Failed, expect
 from harness.node import Node
 from harness.peer import Peer
 from harness.registry import add, test
-from harness.server import Server
+from harness.server import Server, begun
 from suites.limits import greeted, post, with_tags
 
 NOBODY = ("127.0.0.1", 1)
@@ -119,18 +119,11 @@ def a_node_that_starts_gets_messages_with_many_tags(fixture):
 # Servers that read
 
 
-def node_of(fixture, offers="message-tags", **how):
-    """A node of one worker whose network is up, and its session with the server."""
-    server = Server(fixture)
-    node = Node(fixture, servers=[server.address], **{"workers": 1, **how}).begin()
-    return node, server.register(offers)
-
-
 def a_paste_of_lines_with_tags(workers):
     """A test that fifteen lines of 4.6 kB, which a client sends in one piece, reach the server."""
 
     def call(fixture):
-        node, session = node_of(fixture, workers=workers)
+        node, _, session = begun(fixture, "message-tags", workers=workers)
         client = node.client().register()
         lines = [f"@{TAGS} PRIVMSG #a :{number:02} {'y' * 480}" for number in range(15)]
         client.say(*lines)
@@ -150,7 +143,7 @@ def pastes_at_once(workers):
     order."""
 
     def call(fixture):
-        node, session = node_of(fixture, workers=workers)
+        node, _, session = begun(fixture, "message-tags", workers=workers)
         clients = [node.client(f"client {number}").register() for number in range(PASTING)]
         node.process.send_signal(signal.SIGSTOP)
         for name, client in enumerate(clients):
@@ -239,7 +232,7 @@ def a_burst_is_told_whole(bound):
     """A test that three hundred lines of a server which come in one piece reach a client that reads, and it stays."""
 
     def call(fixture):
-        node, session = node_of(fixture, bound=bound)
+        node, _, session = begun(fixture, "message-tags", workers=1, bound=bound)
         client = node.client().register()
         lines = [f":bob!b@h PRIVMSG #a :{number:03} {'y' * 480}" for number in range(300)]
         session.say(*lines)
@@ -311,7 +304,7 @@ LAST = 500
 def last_words(fixture, workers):
     """The server says a lot, ends the session, and its machine refuses what comes for it from then on. So a write fails before
     all of it is read. All of it is told all the same, and the operator reads why the server ended the session."""
-    node, session = node_of(fixture, workers=workers)
+    node, _, session = begun(fixture, "message-tags", workers=workers)
     clients = [node.client(f"client {number}").register("message-tags") for number in range(2)]
     lines = [f"@msgid=m{number:03} :bob!b@h PRIVMSG #a :{number}" for number in range(LAST)]
     node.process.send_signal(signal.SIGSTOP)

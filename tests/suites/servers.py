@@ -8,19 +8,12 @@ from harness.failure import Failed, expect
 from harness.identities import NETWORKS, Identity
 from harness.node import Node, TwoAccounts
 from harness.registry import test
-from harness.server import Server
+from harness.server import Server, begun
 
 ASKED = "draft/message-redaction echo-message message-tags server-time"
 PAST = "batch draft/chathistory message-tags server-time"
 SAID = "@time=2026-11-23T00:00:07.000Z;msgid=zz :bob!b@h PRIVMSG #a :hi there"
 SHOWN = "@msgid=zz;time=2026-11-23T00:00:07.000Z :bob!b@h PRIVMSG #a :hi there"
-
-
-def begun(fixture, offers="", **how):
-    """A node whose network is up, and its session with the server."""
-    server = Server(fixture)
-    node = Node(fixture, servers=[server.address], **how).begin()
-    return node, server, server.register(offers)
 
 
 @test
@@ -67,7 +60,7 @@ def a_nick_that_is_taken_gets_an_underline_three_times(fixture):
 def many_clients_hear_a_piece_of_lines_in_its_order(fixture):
     """Each of several clients hears the messages and what is passed on between them as the server said them in one piece, also
     where these are more lines than a turn of the server has, and a marker after them."""
-    node, server, session = begun(fixture)
+    node, server, session = begun(fixture, "")
     clients = [node.client(f"client {number}").register() for number in range(2)]
     knows = node.client("knows markers").register("draft/read-marker")
     said = []
@@ -89,7 +82,7 @@ def many_clients_hear_a_piece_of_lines_in_its_order(fixture):
 @test
 def answers_of_any_length_go_out_whole(fixture):
     """Answers of a byte less and of a byte more than those that go out from where they wait (2,048 bytes), each as it is said."""
-    node, _, session = begun(fixture)
+    node, _, session = begun(fixture, "")
     witness, sizes, answers = node.client("the witness").register(), range(2046, 2051), []
     for number, size in enumerate(sizes, 1):
         target = f"#s{size}"
@@ -145,7 +138,7 @@ def what_is_said_is_told_and_kept(fixture):
 @test
 def a_message_without_an_id_gets_one(fixture):
     """`<node>-<incarnation>-<serial>`, with serial numbers that rise from 1000000000000; its time is now."""
-    node, server, session = begun(fixture)
+    node, server, session = begun(fixture, "")
     client = node.client().register(PAST)
     session.say(":bob!b@h PRIVMSG #a :one", ":bob!b@h NOTICE #a :two")
     pattern = r"@msgid=n1-([0-9]+)-(1[0-9]{12});time=20[-0-9]+T[0-9:]+\.[0-9]{3}Z :bob!b@h (.*)"
@@ -187,7 +180,7 @@ def conversations_are_listed(fixture):
 @test
 def what_a_client_says_goes_to_the_server(fixture):
     """Without its tags and its source. Where the server doesn't echo, it is kept, and told to those that hold echo-message."""
-    node, server, session = begun(fixture)
+    node, server, session = begun(fixture, "")
     speaker = node.client("the speaker").register()
     echoes = node.client("a client with echo-message").register("echo-message batch draft/chathistory")
     silent = node.client("a client without it").register()
@@ -222,7 +215,7 @@ def a_server_that_echoes_is_waited_for(fixture):
 def a_marker_is_told_to_sessions_of_the_other_worker(fixture):
     """Clients go to the workers in turn. A marker is told as it was asked for to whoever set it, and to others by the folded
     target; it never falls."""
-    node, server, session = begun(fixture, workers=2)
+    node, server, session = begun(fixture, "", workers=2)
     first, second, third = (node.client(f"client {number}").register("draft/read-marker") for number in range(3))
     without = node.client("a client without markers").register()
     first.say("MARKREAD #A timestamp=1970-01-01T00:00:05.000Z")
@@ -243,7 +236,7 @@ def a_marker_is_told_to_sessions_of_the_other_worker(fixture):
 @test
 def questions_of_both_workers_are_answered_at_once(fixture):
     """Eight clients, four of each worker, ask again and again while the server goes on. Each has its answers in order."""
-    node, server, session = begun(fixture, workers=2)
+    node, server, session = begun(fixture, "", workers=2)
     clients = [node.client(f"client {number}").register("batch draft/chathistory") for number in range(8)]
     for turn in range(20):
         for client in clients:
@@ -269,7 +262,7 @@ def questions_of_both_workers_are_answered_at_once(fixture):
 @test
 def a_channel_that_is_joined_is_told_with_its_marker(fixture):
     """A JOIN or a PART of the present nick changes the list of channels that a later client is told."""
-    node, server, session = begun(fixture)
+    node, server, session = begun(fixture, "")
     knows = node.client("a client with markers").register("draft/read-marker")
     plain = node.client("a plain client").register()
     session.say(":AL!a@h JOIN #b", ":bob!b@h JOIN #b")
@@ -313,7 +306,7 @@ def a_redaction_is_refused_where_the_server_knows_none(fixture):
 @test
 def garbage_of_a_server_is_dropped(fixture):
     """A line that can't be read is dropped, and what follows is told."""
-    node, server, session = begun(fixture)
+    node, server, session = begun(fixture, "")
     client = node.client().register()
     session.send(b"\x00\xfe\r\n:bob!b@h PRIVMSG #a :o\x00ne\r\n:only.a.source\r\n\r\n:s PRIVMSG\r\n" + b"x" * 20000 + b"\r\n")
     session.say(":bob!b@h PRIVMSG #a :after")

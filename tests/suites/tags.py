@@ -9,10 +9,9 @@ from harness.failure import Failed, expect
 from harness.node import Node
 from harness.peer import Peer
 from harness.registry import add, test
-from harness.server import Server
+from harness.server import Server, begun
 
 NOBODY = ("127.0.0.1", 1)
-OFFERS = "message-tags server-time"
 PAST = "batch draft/chathistory message-tags server-time"
 TIME = "time=2026-11-23T00:00:07.000Z"
 MS = 1795392007000
@@ -23,13 +22,6 @@ MOST = 4094
 
 # Each escape of a value, and none where it isn't needed.
 ESCAPES = r"+e=a\:b\sc\\d\re\nf;+plain=ü,:=x"
-
-
-def begun(fixture, offers=OFFERS, **how):
-    """A node whose network is up, and its session with the server."""
-    server = Server(fixture)
-    node = Node(fixture, servers=[server.address], **how).begin()
-    return node, server, server.register(offers)
 
 
 def shown(tags, text="hi", id="m1"):
