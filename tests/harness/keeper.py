@@ -2,10 +2,8 @@
 
 import contextlib
 import os
-import signal
 import socket
 
-from harness import processes
 from harness.connection import Listener, spelled
 from harness.failure import Failed, expect
 from harness.identities import WORD
@@ -78,10 +76,6 @@ class Keeper(Told):
             self.process = self.fixture.start(*words, program=self.program, front=self.front, stdin=None, stdout=log, stderr=log)
         return self
 
-    def errors(self):
-        """What becomes its standard error."""
-        return open(self.fixture.path(f"{self.name}.log"), "ab")
-
     def begin(self):
         """Starts it, and waits until its file was read and its life is begun."""
         self.forget_log()
@@ -92,11 +86,6 @@ class Keeper(Told):
     def run(self, **how):
         """Runs it to its end."""
         return self.fixture.run(*self.words(), program=self.program, front=self.front, **how)
-
-    def kill(self):
-        """Ends it with SIGKILL, without a word."""
-        self.process.send_signal(signal.SIGKILL)
-        processes.end(self.process)
 
     def data(self):
         """What its file has."""

@@ -2,9 +2,7 @@
 
 import json
 import os
-import signal
 
-from harness import processes
 from harness.client import Client
 from harness.connection import free_addresses, spelled
 from harness.failure import Failed
@@ -89,10 +87,6 @@ class Node(Told):
         with self.errors() as errors, open(self.fixture.path(f"{self.name}.out"), "ab") as out:
             self.process = self.fixture.start("serve", path, stdin=None, stdout=out, stderr=errors, front=self.front)
 
-    def errors(self):
-        """What becomes the program's standard error."""
-        return open(self.fixture.path(f"{self.name}.log"), "ab")
-
     def sockets(self):
         """How many of its descriptors are sockets."""
         folder, count = f"/proc/{self.process.pid}/fd", 0
@@ -108,22 +102,21 @@ class Node(Told):
         """How many threads the node has."""
         return len(os.listdir(f"/proc/{self.process.pid}/task"))
 
-    def processor_seconds(self):
-        """The processor time that the threads which the node has now have taken."""
-        threads, nanoseconds = f"/proc/{self.process.pid}/task", 0
+    def times(self):
+        """The nanoseconds that each of its threads has taken of a processor."""
+        threads, times = f"/proc/{self.process.pid}/task", {}
         for thread in os.listdir(threads):
             with open(f"{threads}/{thread}/schedstat") as file:
-                nanoseconds += int(file.read().split()[0])
-        return nanoseconds / 1e9
+                times[thread] = int(file.read().split()[0])
+        return times
+
+    def processor_seconds(self):
+        """The processor time that the threads which the node has now have taken."""
+        return sum(self.times().values()) / 1e9
 
     def client(self, name="a client", **how):
         """A client that connects to the node."""
         return Client(self.fixture, self.clients, name, **how)
-
-    def kill(self):
-        """Ends the node with SIGKILL, without a word."""
-        self.process.send_signal(signal.SIGKILL)
-        processes.end(self.process)
 
 
 class TwoAccounts(Node):

@@ -63,7 +63,7 @@ class Service(Told):
     def start(self, *words):
         """Starts it."""
         path = self.file()
-        with open(self.fixture.path(f"{self.name}.log"), "ab") as log:
+        with self.errors() as log:
             self.process = self.fixture.start(os.path.join(FOLDER, self.program), path, *words, program=self.python,
                                               front=self.front, stdin=None, stdout=log, stderr=log)
 

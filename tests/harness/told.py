@@ -1,5 +1,8 @@
 """What a process that a test began tells its operator."""
 
+import signal
+
+from harness import processes
 from harness.failure import Failed, text_of
 
 
@@ -8,6 +11,15 @@ class Told:
 
     # (who begins it sets these: the fixture, the name of the file and the process)
     fixture = name = process = None
+
+    def errors(self):
+        """What becomes its standard error."""
+        return open(self.fixture.path(f"{self.name}.log"), "ab")
+
+    def kill(self):
+        """Ends it with SIGKILL, without a word."""
+        self.process.send_signal(signal.SIGKILL)
+        processes.end(self.process)
 
     def log(self):
         """The lines that it has told the operator. What has no end yet is none."""

@@ -1,7 +1,6 @@
 """What a configuration says is what a node does (docs/OPERATING.md, "Start and stop" and "Size"; docs/PROTOCOL.md, "A session with
 a server" and "Lives and numbers")."""
 
-import os
 import time
 
 from harness.connection import spelled
@@ -54,23 +53,13 @@ def an_incarnation_is_the_clock_at_the_start(fixture):
         node.forget_log()
 
 
-def seconds_of_threads(node):
-    """The processor time of each thread of a node."""
-    threads = f"/proc/{node.process.pid}/task"
-    seconds = {}
-    for thread in os.listdir(threads):
-        with open(f"{threads}/{thread}/schedstat") as file:
-            seconds[thread] = int(file.read().split()[0])
-    return seconds
-
-
 def worker_of(node, client):
     """The thread that answers a client."""
-    before = seconds_of_threads(node)
+    before = node.times()
     for _ in range(10):
         client.say(*200 * ["PING x"])
         client.hear(*200 * [":bnc.example PONG bnc.example :x"])
-    after = seconds_of_threads(node)
+    after = node.times()
     return max(after, key=lambda thread: after[thread] - before.get(thread, 0))
 
 
