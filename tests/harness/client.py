@@ -73,3 +73,7 @@ class Client(Connection):
             if line == f":bnc.example BATCH {end}":
                 return lines
             lines.append(line)
+
+    def latest(self, target="#a", most=100):
+        """The lines of a latest page without their batch, whose reference is the session's own."""
+        return ["@" + line.partition(";")[2] for line in self.ask(f"CHATHISTORY LATEST {target} * {most}")]

@@ -15,6 +15,12 @@ from harness.told import Told
 # What stands in a node's configuration for the address of a keeper, which nobody dials.
 NOWHERE = ("127.0.0.1", 1)
 CLOSED = b"-"
+POST = "C POST demo net #a m{0} {0} P #a bob!b@h :hi {0}"
+
+
+def posts(*numbers):
+    """The posts of these numbers."""
+    return [POST.format(number) for number in numbers]
 
 
 def block(*lines):

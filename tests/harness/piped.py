@@ -6,6 +6,11 @@ import struct
 import termios
 
 
+def waiting_in(pipe):
+    """How many bytes nobody has taken from the pipe yet."""
+    return struct.unpack("i", fcntl.ioctl(pipe, termios.FIONREAD, bytes(4)))[0]
+
+
 class Piped:
     """A program whose standard error is a pipe, which is read as the test asks for the log. It stands before a class of
     `harness.told`."""
@@ -29,7 +34,7 @@ class Piped:
 
     def waiting(self):
         """How many bytes nobody has read yet."""
-        return struct.unpack("i", fcntl.ioctl(self.ours, termios.FIONREAD, bytes(4)))[0]
+        return waiting_in(self.ours)
 
     def read(self, most):
         """Reads so many bytes at most, and answers whether there were any."""

@@ -9,7 +9,6 @@ from harness.server import Server
 
 PAST = "batch draft/chathistory draft/read-marker message-tags server-time"
 OFFERED = "draft/message-redaction message-tags server-time"
-ASK = "CHATHISTORY LATEST #a * 100"
 
 
 def said(number, who="bob"):
@@ -47,18 +46,13 @@ class Cluster:
     def shows(self, node, nick, wanted):
         """Both come to show that page. A client asks until the other node has told all of it."""
         client = node.client(f"a client of {node.name}").register(PAST, nick)
-        self.fixture.until(f"{node.name} shows all", lambda: shown(client) == wanted or not wanted)
-        expect(client.name, wanted, shown(client))
+        self.fixture.until(f"{node.name} shows all", lambda: client.latest() == wanted or not wanted)
+        expect(client.name, wanted, client.latest())
         client.ping()
         return client
 
     def both_show(self, wanted):
         return self.shows(self.first, "al1", wanted), self.shows(self.second, "al2", wanted)
-
-
-def shown(client):
-    """The lines of a page without their batch, whose reference is the session's own."""
-    return ["@" + line.partition(";")[2] for line in client.ask(ASK)]
 
 
 @test
@@ -165,7 +159,7 @@ def live_together(version):
         wanted += [f"@msgid=old{n};time=2026-11-23T00:00:5{n}.000Z :old!o@h PRIVMSG #a :{n}" for n in range(2)]
         for node, nick in ((second, "al2"), (third, "al3")):
             client = node.client(f"a client of {node.name}").register(PAST, nick)
-            fixture.until(f"{node.name} shows all", lambda: shown(client) == wanted)
+            fixture.until(f"{node.name} shows all", lambda: client.latest() == wanted)
             client.ping()
         for peer, node in zip(old, (second, third)):
             peer.close()

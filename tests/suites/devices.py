@@ -1,15 +1,13 @@
 """Standard input and output of `bnc replay` that are cut, interrupted, or fail (docs/OPERATING.md, the table of statuses; the first
 paragraph of docs/PROTOCOL.md; docs/DECISIONS.md says how many reads are made at most)."""
 
-import fcntl
 import os
 import re
-import struct
 import subprocess
-import termios
 
 from harness.failure import Failed, expect
 from harness.fixture import LIMIT
+from harness.piped import waiting_in
 from harness.registry import add, test
 from harness.scripts import TESTS
 
@@ -104,11 +102,6 @@ def a_closed_input_fails_or_is_empty(fixture):
     ran = fixture.run("replay", "demo", "net", "al", given=None, stdin=None, front=["sh", "-c", 'exec "$@" <&-', "sh"])
     if (ran.status, ran.errors) not in ((0, b""), (4, FAILED)) or ran.output:
         raise Failed(f"status {ran.status}, {ran.output!r}, {ran.errors!r}")
-
-
-def waiting_in(pipe):
-    """How many bytes nobody has taken from the pipe."""
-    return struct.unpack("i", fcntl.ioctl(pipe, termios.FIONREAD, b"\0" * 4))[0]
 
 
 @test

@@ -81,13 +81,8 @@ class Place:
     def shows(self, wanted, target="#a", account="demo"):
         """Comes to show that page, and then shows just that."""
         client = self.client(account)
-        self.fixture.until(f"{self.name} shows {target} of {account}", lambda: shown(client, target) == wanted)
+        self.fixture.until(f"{self.name} shows {target} of {account}", lambda: client.latest(target) == wanted)
         client.ping()
-
-
-def shown(client, target):
-    """The lines of a page without their batch, whose reference is the session's own."""
-    return ["@" + line.partition(";")[2] for line in client.ask(f"CHATHISTORY LATEST {target} * 100")]
 
 
 OLD, FIRST, NEW = said("m1", BEFORE), said("m2", FROM), said("m3", LATER)

@@ -10,7 +10,7 @@ import time
 from harness.clocks import Clocks
 from harness.disk import Disk
 from harness.failure import Failed, expect
-from harness.keeper import NOWHERE, Keeper, PlayedNode, kept_in, payloads_of
+from harness.keeper import NOWHERE, Keeper, PlayedNode, kept_in, payloads_of, posts
 from harness.node import Node
 from harness.piped import Piped
 from harness.registry import add, test
@@ -19,15 +19,10 @@ from harness.server import Server
 
 PAST = "batch draft/chathistory draft/message-redaction message-tags server-time"
 OFFERED = "draft/message-redaction message-tags server-time"
-POST = "C POST demo net #a m{0} {0} P #a bob!b@h :hi {0}"
 REDACTION = "C REDACT demo net #a m{0} {0}"
 MINUTE, HOUR = 60, 3600
 # How often one cluster is killed; a test has as many as its time allows.
 KILLS = 5
-
-
-def posts(*numbers):
-    return [POST.format(number) for number in numbers]
 
 
 def said(number, text="hi"):

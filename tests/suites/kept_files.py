@@ -7,20 +7,15 @@ import re
 from harness.clocks import Clocks
 from harness.disk import Disk
 from harness.failure import Failed, expect
-from harness.keeper import CLOSED, NOWHERE, Keeper, PlayedNode, block, payloads_of
+from harness.keeper import CLOSED, NOWHERE, Keeper, PlayedNode, block, payloads_of, posts
 from harness.registry import add, test
 from harness.scripts import TESTS
 
 FAILED = "read or write failed\n"
-POST = "C POST demo net #a m{0} {0} P #a bob!b@h :hi {0}"
 FIRST = ["L 0keep 1764471000000"]
 # More calls than a start and some packets make.
 MOST_CALLS = 60
 DAY = 86400
-
-
-def posts(*numbers):
-    return [POST.format(number) for number in numbers]
 
 
 def has_life_behind(keeper, data):

@@ -22,11 +22,6 @@ def said(number):
     return f"@msgid=m{number:04};time={moment} :bob!b@h PRIVMSG #a :{number}"
 
 
-def shown(client, most=1000):
-    """The lines of the latest page without their batch."""
-    return ["@" + line.partition(";")[2] for line in client.ask(f"CHATHISTORY LATEST #a * {most}")]
-
-
 @test
 def a_connection_whose_far_end_is_gone_is_noticed(fixture):
     """By the node that opened it and has nothing to say. It gets what was said at the other node meanwhile."""
@@ -44,11 +39,11 @@ def a_connection_whose_far_end_is_gone_is_noticed(fixture):
     server.settled(session)
     clocks.skip(280)
     expect("whether it was noticed before five minutes", False, first.told("peer down: n2"))
-    expect("what came to n1", [], shown(client))
+    expect("what came to n1", [], client.latest(most=1000))
     clocks.skip(20)
     first.wait_for("peer down: n2: nothing came from it for five minutes, so it is taken for gone")
     clocks.skip(60)
-    fixture.until("n1 shows all", lambda: shown(client) == lines)
+    fixture.until("n1 shows all", lambda: client.latest(most=1000) == lines)
     expect("how often n1 was greeted", 2, sum("peer greeted: n1" in line for line in second.log()))
 
 
@@ -165,7 +160,7 @@ class Trio:
         """Whether a node shows all that was said, each message once."""
         client = self.nodes[at].client(f"a client of {NAMES[at]}")
         client.register(PAST, f"al{at + 1}", maximum=MESSAGES)
-        lines = shown(client, MESSAGES)
+        lines = client.latest(most=MESSAGES)
         client.close()
         expect(f"what {NAMES[at]} shows twice", [], sorted({line for line in lines if lines.count(line) > 1}))
         return lines == self.wanted()
