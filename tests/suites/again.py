@@ -4,6 +4,7 @@
 import mmap
 import struct
 import time
+from collections import Counter
 
 from harness.clocks import Clocks
 from harness.failure import Failed, expect
@@ -49,6 +50,13 @@ class Refusals:
         """Refuses nothing more, and answers how many were refused."""
         self.map[:8] = bytes(8)
         return self.count()
+
+
+def note(fixture, counts, words=str):
+    """Notes how often each outcome came, of which there has to be one."""
+    if not counts:
+        raise Failed("no request for memory was refused: is the program built with a sanitizer, which has its own malloc?")
+    fixture.notes.append(", ".join(f"{count} {words(came)}" for came, count in sorted(counts.items())))
 
 
 def outcome(refusals, peer, refused):
@@ -103,15 +111,13 @@ def what_a_peer_brings_is_published_though_memory_was_short(fixture):
     """Two requests in a row are refused, at each place in turn. The packet is acknowledged; or the connection is closed, or
     nothing is said, and the packet is taken when it comes again. Where its message only waits to be published, that is done a
     second later though nothing else is put."""
-    refusals, counts = Refusals(fixture), {}
+    refusals, counts = Refusals(fixture), Counter()
     for passed in range(REQUESTS):
         came = taken(fixture, refusals, f"x{passed}", passed, 2)
         if not came:
             break
-        counts[came] = counts.get(came, 0) + 1
-    if not counts:
-        raise Failed("no request for memory was refused: is the program built with a sanitizer, which has its own malloc?")
-    fixture.notes.append(", ".join(f"{count} {what}" for what, count in sorted(counts.items())))
+        counts[came] += 1
+    note(fixture, counts)
     expect("whether some waited", True, "published later" in counts)
 
 
@@ -170,15 +176,13 @@ def floors_put(fixture, name, passed, refused):
 def floors_that_the_operator_is_told_of_hold_though_memory_was_short(fixture):
     """Two requests in a row are refused, at each place in turn. Where some floors only wait to be published, that is done a second
     later though nothing else is put. The others are put an hour later."""
-    counts = {}
+    counts = Counter()
     for passed in range(REQUESTS):
         came = floors_put(fixture, f"x{passed}", passed, 2)
         if came is None:
             break
-        counts[came] = counts.get(came, 0) + 1
-    if not counts:
-        raise Failed("no request for memory was refused: is the program built with a sanitizer, which has its own malloc?")
-    fixture.notes.append(", ".join(f"{count} times {told} told and {gone} there" for (told, gone), count in sorted(counts.items())))
+        counts[came] += 1
+    note(fixture, counts, lambda came: "times {} told and {} there".format(*came))
     expect("whether some waited", True, any(gone < told for told, gone in counts))
     expect("whether a part of them was told", True, any(0 < told < len(TARGETS) for told, _ in counts))
 
@@ -207,19 +211,17 @@ def told(fixture, name, passed, line, refused):
 def a_line_of_a_server_is_read_again_where_memory_was_short(fixture):
     """Nine requests in a row are refused, at each place in turn. The session stays, and the line is told as if nothing had been. A
     client for which there was no memory is closed, without a part of a line."""
-    counts = {}
+    counts = Counter()
     for kind in ("TOPIC", "PRIVMSG"):
         for passed in range(REQUESTS):
             came = told(fixture, f"{kind.lower()}{passed}", passed, f":bob!b@h {kind} #a :hi", 9)
             if came is None:
                 break
             what = "told" if came else "closed"
-            counts[what] = counts.get(what, 0) + 1
+            counts[what] += 1
             if passed == 0:
                 expect(f"whether a {kind} was told", "told", what)
-    if not counts:
-        raise Failed("no request for memory was refused: is the program built with a sanitizer, which has its own malloc?")
-    fixture.notes.append(", ".join(f"{count} {what}" for what, count in sorted(counts.items())))
+    note(fixture, counts)
 
 
 def without_memory(fixture, name, line, refused):
@@ -318,16 +320,14 @@ def told_at_once(fixture, name, passed, refused):
 def messages_that_come_at_once_are_told_as_far_as_the_node_has_them(fixture):
     """Requests in a row are refused, at each place in turn. A client is told those messages that the node has, and where that isn't
     all of them the session ends."""
-    counts = {}
+    counts = Counter()
     for refused in (1, TRIES + 1):
         for passed in range(REQUESTS):
             count = told_at_once(fixture, f"x{refused}x{passed}", passed, refused)
             if count is None:
                 break
-            counts[count] = counts.get(count, 0) + 1
-    if not counts:
-        raise Failed("no request for memory was refused: is the program built with a sanitizer, which has its own malloc?")
-    fixture.notes.append(", ".join(f"{count} times {told} told" for told, count in sorted(counts.items())))
+            counts[count] += 1
+    note(fixture, counts, "times {} told".format)
 
 
 @test
@@ -406,16 +406,14 @@ def packets_for_a_keeper(part):
     def call(fixture):
         """Some requests in a row are refused, at each place in turn. What a node brings is acknowledged, or the connection is closed,
         or the file is let go; and then it is kept when it comes again."""
-        counts = {}
+        counts = Counter()
         for refused in (1, 3):
             for passed in range(part, REQUESTS, PARTS):
                 came = kept(fixture, passed, refused)
                 if not came:
                     break
-                counts[came] = counts.get(came, 0) + 1
-        if not counts:
-            raise Failed("no request for memory was refused: is the program built with a sanitizer, which has its own malloc?")
-        fixture.notes.append(", ".join(f"{count} {what}" for what, count in sorted(counts.items())))
+                counts[came] += 1
+        note(fixture, counts)
 
     add(f"again: what a node brings a keeper is kept though memory was short, {part + 1} of {PARTS}", call)
 
