@@ -8,6 +8,8 @@ from harness.failure import Failed
 
 # How want of memory is told; NoRing is that of a ring.
 WANT = re.compile(rb"memory|AllocError|AllocFailed|NoRing|Refused", re.I)
+# Why a test of refused requests fails that had none.
+UNREFUSED = "no request for memory was refused: is the program built with a sanitizer, which has its own malloc?"
 
 
 class Refusals:
@@ -43,7 +45,7 @@ class Refusals:
     def told(self, last):
         """What is told of the runs."""
         if not self.counts:
-            raise Failed("no request for memory was refused: is the program built with a sanitizer, which has its own malloc?")
+            raise Failed(UNREFUSED)
         sampled = f" (of those above {self.last} each {self.step}rd)" if last > self.last else ""
         row = f", {self.together} in a row" if self.together > 1 else ""
         counts = ", ".join(f"{count} {word}" for word, count in sorted(self.counts.items()))

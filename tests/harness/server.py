@@ -22,17 +22,22 @@ class Server(Listener):
         session.hear("CAP LS 302", f"NICK {nick}", f"USER {user} 0 * :{user}")
         return session
 
+    @staticmethod
+    def offer(session, offers):
+        """The session asks for what the server offers, and gets it."""
+        session.say(f":irc.example CAP * LS :{offers}")
+        if offers:
+            session.hear(f"CAP REQ :{offers}")
+            session.say(f":irc.example CAP * ACK :{offers}")
+        session.hear("CAP END")
+
     def register(self, offers="", nick=None, channels=None):
         """Takes in the next session, which asks for what the server offers. The network is up then, since the node has
         answered what came after the welcome. The nick and the channels are those of the configuration, where none are given."""
         who = self.identity()
         nick, channels = nick or who.nick, who.channels if channels is None else channels
         session = self.greeted(nick)
-        session.say(f":irc.example CAP * LS :{offers}")
-        if offers:
-            session.hear(f"CAP REQ :{offers}")
-            session.say(f":irc.example CAP * ACK :{offers}")
-        session.hear("CAP END")
+        self.offer(session, offers)
         session.say(f":irc.example 001 {nick} :Welcome", "PING :up")
         session.hear(*(f"JOIN {channel}" for channel in channels), "PONG :up")
         for channel in channels:

@@ -12,6 +12,7 @@ from harness.keeper import Keeper, PlayedNode, payloads_of
 from harness.node import Node
 from harness.peer import Peer
 from harness.readable import readable
+from harness.refusals import UNREFUSED
 from harness.registry import add, test
 from harness.server import Server
 
@@ -55,7 +56,7 @@ class Refusals:
 def note(fixture, counts, words=str):
     """Notes how often each outcome came, of which there has to be one."""
     if not counts:
-        raise Failed("no request for memory was refused: is the program built with a sanitizer, which has its own malloc?")
+        raise Failed(UNREFUSED)
     fixture.notes.append(", ".join(f"{count} {words(came)}" for came, count in sorted(counts.items())))
 
 

@@ -55,12 +55,21 @@ def a_client_is_told_the_right_nick_and_the_channels(fixture):
     node.client("another").register(nick="carol", channels=["#a", "#b"])
 
 
+def answers(client, rows):
+    """Each line of a client has its answer, or none."""
+    for line, answer in rows:
+        client.say(line)
+        if answer:
+            client.hear(f":bnc.example {answer}")
+    client.ping()
+
+
 @test
 def what_is_answered_before_registration(fixture):
     """The rows of "Before registration", each with its answer."""
     node = Node(fixture).begin()
     client = node.client()
-    for line, answer in (
+    answers(client, (
         ("PRIVMSG #a :hi", "451 * :You have not registered"),
         ("PASS", "461 * PASS :Not enough parameters"),
         ("USER demo/net 0 *", "461 * USER :Not enough parameters"),
@@ -72,11 +81,7 @@ def what_is_answered_before_registration(fixture):
         (f"PING {'x' * 400}", f"PONG bnc.example :{'x' * 300}"),
         ("PASS s3cret", None), ("PONG x", None), ("", None),
         ("CHATHISTORY LATEST #a * 5", "451 * :You have not registered"),
-    ):
-        client.say(line)
-        if answer:
-            client.hear(f":bnc.example {answer}")
-    client.ping()
+    ))
 
 
 @test
@@ -84,7 +89,7 @@ def what_is_answered_after_registration(fixture):
     """The rows of "After registration" that need no server."""
     node = Node(fixture, servers=[("127.0.0.1", 1)]).begin()
     client = node.client().register()
-    for line, answer in (
+    answers(client, (
         ("PASS x", "462 al :You may not reregister"),
         ("USER demo/net 0 * :Al", "462 al :You may not reregister"),
         ("CHATHISTORY LATEST #a * 5", "421 al CHATHISTORY :Unknown command"),
@@ -99,11 +104,7 @@ def what_is_answered_after_registration(fixture):
         ("TAGMSG", "NOTICE al :Not connected to net"),
         ("@+typing=active TAGMSG #a", "NOTICE al :Not connected to net"),
         ("PONG x", None),
-    ):
-        client.say(line)
-        if answer:
-            client.hear(f":bnc.example {answer}")
-    client.ping()
+    ))
 
 
 def refused(fixture, *lines):

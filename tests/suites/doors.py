@@ -51,11 +51,7 @@ def network(fixture, offers="", channels=("#a",), **how):
     server = Server(fixture)
     it = door(fixture, server, channels=channels, **how)
     session = server.greeted()
-    session.say(f":irc.example CAP * LS :{offers}")
-    if offers:
-        session.hear(f"CAP REQ :{offers}")
-        session.say(f":irc.example CAP * ACK :{offers}")
-    session.hear("CAP END")
+    server.offer(session, offers)
     welcome(session, *([f"JOIN {','.join(channels)}"] if channels else []))
     for channel in channels:
         session.say(f":al!al@host JOIN {channel}")

@@ -248,27 +248,29 @@ def a_client_made_for_soju_asks_for_what_it_missed(fixture):
         client.hear(":bnc.example MARKREAD #a timestamp=2026-01-02T03:04:05.678Z")
 
 
+def run_script(fixture, path, *words):
+    """What came of one of the repository's scripts."""
+    return subprocess.run([os.path.join(TOP, path), *words], capture_output=True, text=True, check=False, timeout=fixture.patience())
+
+
 @test
 def the_picture_of_the_layers_is_true(fixture):
     """docs/ARCHITECTURE.md is as `tools/layers` makes it of crates.txt."""
-    ran = subprocess.run([os.path.join(TOP, "tools", "layers"), "--check"], capture_output=True, text=True, check=False,
-                         timeout=fixture.patience())
+    ran = run_script(fixture, "tools/layers", "--check")
     expect("tools/layers --check", (0, "", ""), (ran.returncode, ran.stdout, ran.stderr))
 
 
 @test
 def no_type_has_the_name_of_another_crates(fixture):
     """One name is one thing, in all crates."""
-    ran = subprocess.run([os.path.join(TOP, "tools", "names")], capture_output=True, text=True, check=False,
-                         timeout=fixture.patience())
+    ran = run_script(fixture, "tools/names")
     expect("tools/names", (0, "", ""), (ran.returncode, ran.stdout, ran.stderr))
 
 
 @test
 def the_documents_have_at_most_25_000_words(fixture):
     """README, CONTRIBUTING, docs and the READMEs of tests, examples and companions together."""
-    ran = subprocess.run([os.path.join(TOP, "tools", "words"), "--check"], capture_output=True, text=True, check=False,
-                         timeout=fixture.patience())
+    ran = run_script(fixture, "tools/words", "--check")
     expect("tools/words --check", 0, ran.returncode)
 
 
@@ -282,8 +284,7 @@ def three_scripts_stand_at_the_root(fixture):
 @test
 def the_table_of_goals_is_true(fixture):
     """The table of goals in docs/PERFORMANCE.md is as `bench/goals.py` makes it of the tables below it."""
-    ran = subprocess.run([os.path.join(TOP, "bench", "goals.py"), "--check"], capture_output=True, text=True, check=False,
-                         timeout=fixture.patience())
+    ran = run_script(fixture, "bench/goals.py", "--check")
     expect("bench/goals.py --check", (0, "", ""), (ran.returncode, ran.stdout, ran.stderr))
 
 

@@ -582,15 +582,20 @@ def reader(node):
     return client
 
 
+def brings(node, peer, posts):
+    """A peer's posts are taken, and go on to it. The client asks for pages then."""
+    peer.give(0, *posts)
+    peer.hear_acknowledged(len(posts))
+    peer.hear_packet(0, len(posts), *posts)
+    return reader(node)
+
+
 @test
 def the_longest_posts_that_a_peer_brings(fixture):
     """They go on to the peer, as to any, and are on a page."""
     node, peer = greeted(fixture)
     posts = [post(kind=kind, id=kind + "i" * 254) for kind in "NP"]
-    peer.give(0, *posts)
-    peer.hear_acknowledged(2)
-    peer.hear_packet(0, 2, *posts)
-    client = reader(node)
+    client = brings(node, peer, posts)
     client.say(f"CHATHISTORY LATEST {TARGET} * 5")
     client.hear(*page(1, TARGET, *map(line_of, posts)))
 
@@ -601,10 +606,7 @@ def the_longest_posts_with_tags_that_a_peer_brings(fixture):
     node, peer = greeted(fixture)
     plain = [post(kind=kind, id=kind + "i" * 254) for kind in "NP"]
     posts = [with_tags(line) for line in plain]
-    peer.give(0, *posts)
-    peer.hear_acknowledged(2)
-    peer.hear_packet(0, 2, *posts)
-    client = reader(node)
+    client = brings(node, peer, posts)
     client.say(f"CHATHISTORY LATEST {TARGET} * 5")
     client.hear(*page(1, TARGET, *(line_of(line).replace(" ", f";{RECORD_TAGS} ", 1) for line in plain)))
 
@@ -614,10 +616,7 @@ def a_packet_of_the_most_changes_and_pages_of_the_longest_messages(fixture):
     """256 posts, each of the longest. A client gets the last hundred of them at once, with the least bound."""
     node, peer = greeted(fixture, bound=1024)
     posts = [post(id=f"{number:03}{'i' * 252}") for number in range(256)]
-    peer.give(0, *posts)
-    peer.hear_acknowledged(256)
-    peer.hear_packet(0, 256, *posts)
-    client = reader(node)
+    client = brings(node, peer, posts)
     client.say(f"CHATHISTORY LATEST {TARGET} * 101")
     client.hear(*page(1, TARGET, *map(line_of, posts[-100:])))
 

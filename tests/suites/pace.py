@@ -7,9 +7,9 @@ import time
 from harness.client import login, page
 from harness.connection import connect, spelled
 from harness.failure import Failed
-from harness.node import Node, TwoAccounts
+from harness.node import TwoAccounts
 from harness.registry import test
-from harness.server import Server
+from harness.server import Server, begun
 
 BODY = "x" * 400
 NOBODY = ("127.0.0.1", 1)
@@ -26,9 +26,7 @@ def said(number):
 
 def node_with(fixture, messages, **limits):
     """A node that has heard so many messages."""
-    server = Server(fixture)
-    node = Node(fixture, servers=[server.address], **limits).begin()
-    session = server.register("message-tags")
+    node, server, session = begun(fixture, "message-tags", **limits)
     for number in range(messages):
         session.say(said(number))
     server.settled(session)

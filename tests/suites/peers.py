@@ -21,6 +21,13 @@ def begun(fixture, **how):
     return Node(fixture, peers=[("n0", NOBODY)], servers=[NOBODY], **how).begin()
 
 
+def shows(node, *lines):
+    """A client that comes gets a page of these lines."""
+    client = node.client().register(PAST)
+    client.say("CHATHISTORY LATEST #a * 10")
+    client.hear(*page(1, "#a", *lines))
+
+
 def stranger(node):
     """A connection that has said nothing yet."""
     return Peer(node.fixture, connect(node.fixture, node.peers), "n0")
@@ -124,9 +131,7 @@ def who_answers_by_the_word_of_another_cluster_is_closed(fixture):
     peer.say(f"W {peer.word}", peer.hello())
     peer.give(0, POST_ONE)
     node.wait_for(f"peer refused: n2 at 127.0.0.1:{listener.address[1]}: it sent another word than the shared one")
-    client = node.client().register(PAST)
-    client.say("CHATHISTORY LATEST #a * 10")
-    client.hear(*page(1, "#a"))
+    shows(node)
 
 
 @test
@@ -226,9 +231,7 @@ def a_packet_is_taken_and_acknowledged(fixture):
     peer.hear_acknowledged(2)
     peer.hear_packet(0, 2, POST_TWO, POST_ONE)
     peer.acknowledge(2)
-    client = node.client().register(PAST)
-    client.say("CHATHISTORY LATEST #a * 10")
-    client.hear(*page(1, "#a", ONE, TWO))
+    shows(node, ONE, TWO)
 
 
 @test
@@ -244,9 +247,7 @@ def a_packet_that_comes_twice_changes_nothing(fixture):
     peer.give(1, POST_TWO)
     peer.hear_acknowledged(2)
     peer.hear_packet(1, 2, POST_TWO)
-    client = node.client().register(PAST)
-    client.say("CHATHISTORY LATEST #a * 10")
-    client.hear(*page(1, "#a", ONE, TWO))
+    shows(node, ONE, TWO)
 
 
 @test
@@ -435,9 +436,7 @@ def a_peer_that_is_behind_is_told(fixture):
     peer.hear_acknowledged(1)
     peer.give(1, POST_TWO)
     peer.hear_acknowledged(2)
-    client = node.client().register(PAST)
-    client.say("CHATHISTORY LATEST #a * 10")
-    client.hear(*page(1, "#a", ONE, TWO))
+    shows(node, ONE, TWO)
     for kind in ("peer greeted", "peer behind"):
         expect(f"how often '{kind}' was told", 1, sum(f"{kind}: n0" in line for line in node.log()))
 
@@ -461,9 +460,7 @@ def a_node_that_is_behind_is_told(fixture):
         peer.close()
         fixture.until("the peer is down", lambda: sum("peer down: n0" in it for it in node.log()) > number)
         expect("how often it was told", number + 1, sum(f"node behind: n0 {LATER}" in it for it in node.log()))
-    client = node.client().register(PAST)
-    client.say("CHATHISTORY LATEST #a * 10")
-    client.hear(*page(1, "#a"))
+    shows(node)
 
 
 @test

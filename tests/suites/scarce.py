@@ -14,6 +14,7 @@ from harness.client import greeting, login
 from harness.failure import Failed, shortened
 from harness.identities import SECRETS, identity_of
 from harness.node import TwoAccounts
+from harness.refusals import UNREFUSED
 from harness.registry import add
 from harness.server import Server
 
@@ -275,7 +276,7 @@ def scarce(one_of):
         work.check()
         made, refused = rate.counts()
         if not refused:
-            raise Failed("no request for memory was refused: is the program built with a sanitizer, which has its own malloc?")
+            raise Failed(UNREFUSED)
         counts = ", ".join(f"{count} {what}" for what, count in sorted(work.counts.items()))
         fixture.notes.append(f"{refused} of {made} requests refused; {counts}; kB and descriptors {before} before, {after} after")
 

@@ -12,7 +12,7 @@ from harness.node import Node
 from harness.peer import Peer
 from harness.readable import readable
 from harness.registry import add, test
-from harness.server import Server
+from harness.server import Server, begun
 
 NOBODY = ("127.0.0.1", 1)
 BODY = "x" * 440
@@ -69,9 +69,7 @@ PAGES, MOST, LATE = 9, 1000, 4 << 20
 @test
 def four_megabytes_reach_a_late_reader_whole(fixture):
     """It asks for pages of so much, and reads them a second later. Nothing is missing, and nothing comes twice."""
-    server = Server(fixture)
-    node = Node(fixture, servers=[server.address], maximum=MOST, bound=1024).begin()
-    session = server.register(OFFERED)
+    node, server, session = begun(fixture, OFFERED, maximum=MOST, bound=1024)
     lines = [said(number) for number in range(MOST)]
     session.say(*lines)
     server.settled(session)
@@ -99,9 +97,7 @@ def four_megabytes_reach_a_late_reader_whole(fixture):
 def a_client_that_asks_while_a_page_is_owed_waits(fixture):
     """Its lines are taken in their order: nobody hears the marker that it set behind its questions before it has read the
     answers."""
-    server = Server(fixture)
-    node = Node(fixture, servers=[server.address], maximum=MOST, bound=1024).begin()
-    session = server.register(OFFERED)
+    node, server, session = begun(fixture, OFFERED, maximum=MOST, bound=1024)
     lines = [said(number) for number in range(MOST)]
     session.say(*lines)
     server.told(session)
@@ -160,10 +156,10 @@ def without_descriptors_nobody_spins_and_everybody_is_served_in_the_end(fixture)
         # (those that are in leave, and as many of the others come in)
         for guest in inside:
             guest.close()
-        begun = time.monotonic()
+        began = time.monotonic()
         fixture.until("the next are in", lambda: not outside or readable([it.socket for it in outside]))
-        if time.monotonic() - begun > SOON:
-            raise Failed(f"who waited was let in after {time.monotonic() - begun:.1f} seconds")
+        if time.monotonic() - began > SOON:
+            raise Failed(f"who waited was let in after {time.monotonic() - began:.1f} seconds")
         time.sleep(0.3)
         inside = [guest for guest in outside if readable([guest.socket])]
         outside = [guest for guest in outside if guest not in inside]
@@ -297,11 +293,11 @@ def who_is_closed_hears_of_it_at_once(fixture):
     node, took = Node(fixture).begin(), []
     for number in range(5):
         client = node.client(f"client {number}")
-        begun = time.monotonic()
+        began = time.monotonic()
         client.say("QUIT")
         client.hear("ERROR :Closing link")
         client.hear_end()
-        took.append(time.monotonic() - begun)
+        took.append(time.monotonic() - began)
     if min(took) > 0.9 * STAYS:
         raise Failed(f"the end was heard after {min(took):.2f} seconds")
 
