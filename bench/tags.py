@@ -12,22 +12,16 @@ import sys
 import tempfile
 from functools import partial
 
+sys.path.insert(1, os.path.join(os.path.dirname(os.path.dirname(os.path.realpath(__file__))), "tests"))
+
 from beside_znc import flood, message
+from harness.keys import most_keys
 from machine import name_of_run, table
 from put import ALL, instructions, served
 
 # The most bytes of tags in a server's line and in a client's (IRCv3 message-tags, "Size limit").
 SERVERS, CLIENTS = 8189, 4094
 FIVE = b"account=bob;+draft/reply=abcdefgh;msgid=m%012d;time=2026-11-23T00:00:07.000Z;label=7"
-# Each byte that may stand in a key.
-KEY_BYTES = [bytes([byte]) for byte in range(256) if byte not in b"\0\r\n ;="]
-
-
-def keys(length):
-    """As many distinct client-only keys as stand in so many bytes."""
-    pairs = [b"+" + byte for byte in KEY_BYTES]
-    triples = (b"+" + one + other for one in KEY_BYTES for other in KEY_BYTES)
-    return b";".join(pairs + [next(triples) for _ in range((length + 1 - 3 * len(pairs)) // 4)])
 
 
 def one_tag(length):
@@ -56,10 +50,10 @@ LINES = (
     ("a server's line without tags", said_by_server, b"", 1000),
     ("with five", said_by_server, FIVE, 1000),
     (f"with one of {SERVERS:,} bytes", said_by_server, one_tag(SERVERS), 100),
-    (f"with {SERVERS:,} bytes of keys", said_by_server, keys(SERVERS), 100),
+    (f"with {SERVERS:,} bytes of keys", said_by_server, most_keys(SERVERS), 100),
     ("a client's line without tags", said_by_client, b"", 100),
     (f"with one of {CLIENTS:,} bytes", said_by_client, one_tag(CLIENTS), 50),
-    (f"with {CLIENTS:,} bytes of keys", said_by_client, keys(CLIENTS), 50),
+    (f"with {CLIENTS:,} bytes of keys", said_by_client, most_keys(CLIENTS), 50),
 )
 
 

@@ -6,6 +6,7 @@ import time
 
 from harness.client import page
 from harness.failure import Failed, expect
+from harness.keys import most_keys
 from harness.node import Node
 from harness.peer import Peer
 from harness.registry import add, test
@@ -345,18 +346,8 @@ def the_map_of_few_tags_is_four_blocks(fixture):
 ROUNDS, HUNDREDS = 5, 2
 # Within so many seconds a PING is answered, which is tried so often at most.
 SOON, MOST_ROUNDS = 0.02, 200
-# Each byte that may stand in a key.
-KEY_BYTES = [bytes([byte]) for byte in range(256) if byte not in b"\0\r\n ;="]
 # The most bytes of tags that a server's line has.
 SERVERS = 8189
-
-
-def most_keys(length):
-    """Client-only tags of so many bytes, of as many distinct keys as there can be: those of two bytes, and then of three."""
-    pairs = [b"+" + byte for byte in KEY_BYTES]
-    triples = (b"+" + one + other for one in KEY_BYTES for other in KEY_BYTES)
-    left = (length + 1 - 3 * len(pairs)) // 4
-    return b";".join(pairs + [next(triples) for _ in range(left)])
 
 
 @test
