@@ -101,14 +101,18 @@ class Listener:
         """Takes connections from now on. Before that they are refused."""
         self.socket.listen(16)
 
-    def accept(self, name):
-        """The next connection."""
+    def next_socket(self, name):
+        """The socket of the next connection."""
         self.socket.settimeout(self.fixture.patience())
         try:
             it, _ = self.socket.accept()
         except socket.timeout:
             raise Failed(f"{name}: nobody connected") from None
-        return Connection(self.fixture, it, name)
+        return it
+
+    def accept(self, name):
+        """The next connection."""
+        return Connection(self.fixture, self.next_socket(name), name)
 
 
 class Ports:

@@ -182,11 +182,7 @@ class PlayedNode(Listener):
 
     def meet(self):
         """Takes in the next connection, and greets."""
-        self.socket.settimeout(self.fixture.patience())
-        try:
-            it, _ = self.socket.accept()
-        except socket.timeout:
-            raise Failed(f"no keeper connected to {self.name}") from None
+        it = self.next_socket(self.name)
         played = Played(self.fixture, it, self.name, self.incarnation, version=self.version, told=self.told)
         played.hear(f"W {played.word}")
         played.hear_hello()

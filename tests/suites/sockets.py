@@ -302,13 +302,18 @@ def who_is_closed_hears_of_it_at_once(fixture):
         raise Failed(f"the end was heard after {min(took):.2f} seconds")
 
 
+def with_another(fixture, **how):
+    """A node, a client that stays there, and how many sockets it has then."""
+    node = Node(fixture, **how).begin()
+    other = node.client("another client")
+    other.ping()
+    return node, other, node.sockets()
+
+
 @test
 def few_whom_the_node_has_closed_are_kept_and_not_for_long(fixture):
     """They don't close their ends. A worker keeps 16 of them for a second."""
-    node = Node(fixture, workers=1, places=64).begin()
-    other = node.client("another client")
-    other.ping()
-    before = node.sockets()
+    node, other, before = with_another(fixture, workers=1, places=64)
     clients = [node.client(f"client {number}") for number in range(3 * LINGERING)]
     for client in clients:
         client.say("QUIT")
@@ -349,10 +354,7 @@ def is_not_reset(call):
 @test
 def who_speaks_on_behind_its_end_is_not_reset(fixture):
     """Nor is it as the node lets it go."""
-    node = Node(fixture, workers=1).begin()
-    other = node.client("another client")
-    other.ping()
-    before = node.sockets()
+    node, other, before = with_another(fixture, workers=1)
 
     def call():
         client = node.client()
@@ -366,10 +368,7 @@ def who_speaks_on_behind_its_end_is_not_reset(fixture):
 @test
 def of_many_whom_the_node_has_closed_the_latest_are_kept(fixture):
     """Sixteen that were closed don't close their ends. The next one speaks on, and isn't reset: the first makes way for it."""
-    node = Node(fixture, workers=1, places=64).begin()
-    other = node.client("another client")
-    other.ping()
-    before = node.sockets()
+    node, other, before = with_another(fixture, workers=1, places=64)
 
     def call():
         fixture.until("none is kept", lambda: node.sockets() == before)
