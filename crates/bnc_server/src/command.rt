@@ -1,5 +1,5 @@
 //! Lines about nodes.
-ghost use Rattle.std.specs.Prelude.{◌≡◌, ◌-◌, ◌<◌, ◌&&◌, not, ◌==◌};
+ghost use Rattle.std.specs.Prelude.{◌≡◌, ◌-◌, ◌<◌, ◌&&◌, not, ◌==◌, true};
 ghost use Rattle.bnc_server.specs.Command as spec;
 ghost use Rattle.bnc_server.specs.HeldNode.{value_of, HasNodes};
 
@@ -34,96 +34,12 @@ fn are_node_digits(one: u8, two: u8) -> bool
     is_node_digit(one) && (is_node_digit(two) && one != two)
 }
 
-fn select_of(one: u8) -> NodeCommand
-    ensures value { value_of result ≡ spec.on_node one spec.select }
-    ensures nodes { HasNodes result }
+// The place of the node with that digit.
+fn place_of(digit: u8) -> usize
+    requires { spec.is_node_digit digit ≡ true }
+    ensures { result ≡ spec.index_of digit }
 {
-    if is_node_digit(one) {
-        NodeCommand::Select((one - b'1') as usize)
-    } else {
-        NodeCommand::BadForm
-    }
-}
-
-fn restart_of(one: u8) -> NodeCommand
-    ensures value { value_of result ≡ spec.on_node one spec.restart }
-    ensures nodes { HasNodes result }
-{
-    if is_node_digit(one) {
-        NodeCommand::Restart((one - b'1') as usize)
-    } else {
-        NodeCommand::BadForm
-    }
-}
-
-fn exchange_of(one: u8, two: u8) -> NodeCommand
-    ensures value { value_of result ≡ spec.on_pair one two spec.exchange }
-    ensures nodes { HasNodes result }
-{
-    if are_node_digits(one, two) {
-        NodeCommand::Exchange((one - b'1') as usize, (two - b'1') as usize)
-    } else {
-        NodeCommand::BadForm
-    }
-}
-
-fn lose_of(one: u8, two: u8) -> NodeCommand
-    ensures value { value_of result ≡ spec.on_pair one two spec.lose }
-    ensures nodes { HasNodes result }
-{
-    if are_node_digits(one, two) {
-        NodeCommand::Lose((one - b'1') as usize, (two - b'1') as usize)
-    } else {
-        NodeCommand::BadForm
-    }
-}
-
-fn hold_back_of(one: u8, two: u8) -> NodeCommand
-    ensures value { value_of result ≡ spec.on_pair one two spec.hold_back }
-    ensures nodes { HasNodes result }
-{
-    if are_node_digits(one, two) {
-        NodeCommand::HoldBack((one - b'1') as usize, (two - b'1') as usize)
-    } else {
-        NodeCommand::BadForm
-    }
-}
-
-fn hand_over_of(one: u8, two: u8) -> NodeCommand
-    ensures value { value_of result ≡ spec.on_pair one two spec.hand_over }
-    ensures nodes { HasNodes result }
-{
-    if are_node_digits(one, two) {
-        NodeCommand::HandOver((one - b'1') as usize, (two - b'1') as usize)
-    } else {
-        NodeCommand::BadForm
-    }
-}
-
-fn between(one: u8, sign: u8, two: u8) -> NodeCommand
-    ensures value { value_of result ≡ spec.between one sign two }
-    ensures nodes { HasNodes result }
-{
-    if sign == b'>' {
-        exchange_of(one, two)
-    } else if sign == b'<' {
-        hand_over_of(one, two)
-    } else {
-        NodeCommand::BadForm
-    }
-}
-
-fn between_and(one: u8, two: u8, last: u8) -> NodeCommand
-    ensures value { value_of result ≡ spec.between_and one two last }
-    ensures nodes { HasNodes result }
-{
-    if last == b'!' {
-        lose_of(one, two)
-    } else if last == b'-' {
-        hold_back_of(one, two)
-    } else {
-        NodeCommand::BadForm
-    }
+    (digit - b'1') as usize
 }
 
 /// What the text behind a `%` asks for.
@@ -132,10 +48,20 @@ pub(crate) fn command_of(text: &[u8]) -> NodeCommand
     ensures nodes { HasNodes result }
 {
     match text {
-        [one] => select_of(*one),
-        [one, b'*'] => restart_of(*one),
-        [one, sign, two] => between(*one, *sign, *two),
-        [one, b'>', two, last] => between_and(*one, *two, *last),
+        [one] if is_node_digit(*one) => NodeCommand::Select(place_of(*one)),
+        [one, b'*'] if is_node_digit(*one) => NodeCommand::Restart(place_of(*one)),
+        [one, b'>', two] if are_node_digits(*one, *two) => {
+            NodeCommand::Exchange(place_of(*one), place_of(*two))
+        }
+        [one, b'<', two] if are_node_digits(*one, *two) => {
+            NodeCommand::HandOver(place_of(*one), place_of(*two))
+        }
+        [one, b'>', two, b'!'] if are_node_digits(*one, *two) => {
+            NodeCommand::Lose(place_of(*one), place_of(*two))
+        }
+        [one, b'>', two, b'-'] if are_node_digits(*one, *two) => {
+            NodeCommand::HoldBack(place_of(*one), place_of(*two))
+        }
         _ => NodeCommand::BadForm,
     }
 }
