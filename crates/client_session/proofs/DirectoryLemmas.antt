@@ -15,7 +15,7 @@ use Rattle.cluster_directory.specs.Directory.{Directory, entry_in, entry_by_secr
 use Rattle.cluster_directory.proofs.CallerLemmas.{put_if}
 use Rattle.client_session.specs.Command.{command_of}
 use Rattle.client_session.specs.declared.command.ClientCommand.{ClientCommand}
-use Rattle.client_session.specs.declared.command.ClientCommand.TheVariants.{Cap, Pass, Nick, User, Ping, Pong, Quit, Chathistory, Markread, Redact, Message, Other}
+use Rattle.client_session.specs.declared.command.ClientCommand.TheVariants.{Cap, Nick, User}
 use Rattle.client_session.specs.declared.stage.Waiting.{Waiting as Stays}
 use Rattle.client_session.specs.declared.stage.Stage.{Stage}
 use Rattle.client_session.specs.declared.stage.Stage.TheVariants.{Waiting, Registered, Closed}
@@ -46,17 +46,7 @@ command-alike : (entry : Entry) (channels : List (List ℕ)) (f : Facts) (shown 
     ≡ after_registration (Some entry) (with_nick_of (Some entry) f) shown bytes command line
 unfolding other_channels
 command-alike entry channels f shown bytes Cap line = refl
-command-alike entry channels f shown bytes Pass line = refl
-command-alike entry channels f shown bytes Nick line = refl
-command-alike entry channels f shown bytes User line = refl
-command-alike entry channels f shown bytes Ping line = refl
-command-alike entry channels f shown bytes Pong line = refl
-command-alike entry channels f shown bytes Quit line = refl
-command-alike entry channels f shown bytes Chathistory line = refl
-command-alike entry channels f shown bytes Markread line = refl
-command-alike entry channels f shown bytes Redact line = refl
-command-alike entry channels f shown bytes Message line = refl
-command-alike entry channels f shown bytes Other line = refl
+command-alike entry channels f shown bytes _ line = refl
 
 registered-alike : (o : Option Entry) (entry : Entry) (channels : List (List ℕ)) (f : Facts) (shown : Bool) (bytes : List ℕ) (reading : Result Reading LineFault)
     → registered_by (put_if o (other_channels entry channels)) f shown bytes reading ≡ registered_by (put_if o entry) f shown bytes reading
@@ -136,17 +126,9 @@ before-alike : (directory full : Directory) (w : Stays) (command : ClientCommand
     → LetsInIf directory full (last_user w.user (user_of command parameters))
     → before_registration directory w command parameters ≡ before_registration full w command parameters
 before-alike directory full w Cap parameters same = cap-alike directory full w parameters same
-before-alike directory full w Pass parameters same = refl
 before-alike directory full w Nick parameters same = nick-of directory full w (nick_refusal w.cluster no_nick parameters) same
 before-alike directory full w User parameters same = user-of directory full w (user_name parameters) same
-before-alike directory full w Ping parameters same = refl
-before-alike directory full w Pong parameters same = refl
-before-alike directory full w Quit parameters same = refl
-before-alike directory full w Chathistory parameters same = refl
-before-alike directory full w Markread parameters same = refl
-before-alike directory full w Redact parameters same = refl
-before-alike directory full w Message parameters same = refl
-before-alike directory full w Other parameters same = refl
+before-alike directory full w _ parameters same = refl
 
 reading-alike : (directory full : Directory) (shown : Bool) (w : Stays) (bytes : List ℕ) (reading : Result Reading LineFault)
     → LetsInIf directory full (last_user w.user (user_in_reading reading))

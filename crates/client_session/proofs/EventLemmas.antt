@@ -12,7 +12,7 @@ use Rattle.chat_query.specs.declared.facts.Facts.{Facts}
 use Rattle.cluster_directory.specs.Directory.{Directory, account_in, entry_in}
 use Rattle.client_session.specs.Command.{command_of}
 use Rattle.client_session.specs.declared.command.ClientCommand.{ClientCommand}
-use Rattle.client_session.specs.declared.command.ClientCommand.TheVariants.{Cap, Pass, Nick, User, Ping, Pong, Quit, Chathistory, Markread, Redact, Message, Other}
+use Rattle.client_session.specs.declared.command.ClientCommand.TheVariants.{Redact}
 use Rattle.client_session.specs.Step.{Step}
 use Rattle.chat_query.specs.Buffers.{has_buffer}
 use Rattle.client_session.specs.Session.{step, reading_step}
@@ -237,17 +237,7 @@ own_place_of : (f : Facts) (command : ClientCommand) (ps : List (List ℕ)) → 
 own_place_of f Redact [] = tt
 own_place_of f Redact (target ∷ []) = tt
 own_place_of f Redact (target ∷ id ∷ more) = own_name_if f (f.caps.message_redaction && (has_buffer f target && is_id id)) _ (refl, refl)
-own_place_of f Cap ps = tt
-own_place_of f Pass ps = tt
-own_place_of f Nick ps = tt
-own_place_of f User ps = tt
-own_place_of f Ping ps = tt
-own_place_of f Pong ps = tt
-own_place_of f Quit ps = tt
-own_place_of f Chathistory ps = tt
-own_place_of f Markread ps = tt
-own_place_of f Message ps = tt
-own_place_of f Other ps = tt
+own_place_of f _ ps = tt
 
 own_place_in : (f : Facts) (reading : Result Reading LineFault) → IsOwnName f (name_in f reading)
 own_place_in f (Err fault) = tt

@@ -21,7 +21,7 @@ use Rattle.client_session.specs.Registration.{waits, account_of, network_of, cha
 use Rattle.client_session.specs.Session.{reading_step}
 use Rattle.client_session.specs.Events.{Claim, IsAnswer, IsGreeting, IsLetIn, IsUserOf, HasSecret, HasClose, EndsAtClose, user_after, is_nick, claim_by_command, claim_by_reading}
 use Rattle.client_session.specs.declared.command.ClientCommand.{ClientCommand}
-use Rattle.client_session.specs.declared.command.ClientCommand.TheVariants.{Cap, Pass, Nick, User, Ping, Pong, Quit, Chathistory, Markread, Redact, Message, Other}
+use Rattle.client_session.specs.declared.command.ClientCommand.TheVariants.{Cap, Pass, Nick, User, Ping, Pong, Quit}
 use Rattle.client_session.specs.declared.effect.Effect.{Effect}
 use Rattle.client_session.specs.declared.effect.Effect.TheVariants.{Send, Put, Ask, Upstream, Close}
 use Rattle.client_session.specs.declared.stage.Waiting.{Waiting}
@@ -200,11 +200,7 @@ row_before directory w User ps = user_row_if directory w (user_name ps)
 row_before directory w Ping ps = ping_row directory w ps
 row_before directory w Pong ps = goes_on directory w _ tt
 row_before directory w Quit ps = closed refl (tt, (tt, tt)) (refl, tt)
-row_before directory w Chathistory ps = goes_on directory w _ (tt, tt)
-row_before directory w Markread ps = goes_on directory w _ (tt, tt)
-row_before directory w Redact ps = goes_on directory w _ (tt, tt)
-row_before directory w Message ps = goes_on directory w _ (tt, tt)
-row_before directory w Other ps = goes_on directory w _ (tt, tt)
+row_before directory w _ ps = goes_on directory w _ (tt, tt)
 
 pub refused_before : (directory : Directory) (w : Waiting) (fault : LineFault) → Outcome (ToCome w) directory (claim_of w) (waits w (refusal w.cluster no_nick fault))
 refused_before directory w Empty = goes_on directory w _ tt

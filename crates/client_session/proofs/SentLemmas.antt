@@ -38,7 +38,7 @@ use Rattle.client_session.specs.Events.{ClientEvent, after, effects_of, run}
 use Rattle.client_session.specs.Events as event
 use Rattle.client_session.specs.Standing.{CanNameCluster, greatest_maximum, NetworkStands, AccountStands, DirectoryStands, EventStands, SendsLines}
 use Rattle.client_session.specs.declared.command.ClientCommand.{ClientCommand}
-use Rattle.client_session.specs.declared.command.ClientCommand.TheVariants.{Cap, Pass, Nick, User, Ping, Pong, Quit, Chathistory, Markread, Redact, Message, Other}
+use Rattle.client_session.specs.declared.command.ClientCommand.TheVariants.{Cap, Pass, Nick, User, Ping, Pong, Quit}
 use Rattle.client_session.specs.declared.effect.Effect.{Effect}
 use Rattle.client_session.specs.declared.effect.Effect.TheVariants.{Send, Put, Ask, Upstream, Close}
 use Rattle.client_session.specs.declared.stage.Waiting.{Waiting}
@@ -275,11 +275,7 @@ module _ (limit : TagLimit) (directory : Directory) (stands : DirectoryStands di
     row_sent Ping ps good = on w sound _ (ping_stands limit w.cluster sound.cluster.source no_nick star sound.cluster.parameter ps good)
     row_sent Pong ps good = on w sound [] tt
     row_sent Quit ps good = record { effects = (closing_line limit, (tt, tt)); session = tt }
-    row_sent Chathistory ps good = not_yet w sound
-    row_sent Markread ps good = not_yet w sound
-    row_sent Redact ps good = not_yet w sound
-    row_sent Message ps good = not_yet w sound
-    row_sent Other ps good = not_yet w sound
+    row_sent _ ps good = not_yet w sound
 
   reading_sent : (shown : Bool) (session : Stage) (bytes : List ℕ) (r : Result Reading LineFault) → IfOk r (λ line. AllByRecursion HasNoBadByte line.parameters)
       → IsSound session → IsSent limit (reading_step directory shown session bytes r)

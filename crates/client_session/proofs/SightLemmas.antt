@@ -12,7 +12,7 @@ use Rattle.cluster_directory.specs.Entry.{Entry}
 use Rattle.cluster_directory.specs.Directory.{Directory, entry_in}
 use Rattle.client_session.specs.Command.{command_of}
 use Rattle.client_session.specs.declared.command.ClientCommand.{ClientCommand}
-use Rattle.client_session.specs.declared.command.ClientCommand.TheVariants.{Cap, Pass, Nick, User, Ping, Pong, Quit, Chathistory, Markread, Redact, Message, Other}
+use Rattle.client_session.specs.declared.command.ClientCommand.TheVariants.{Redact}
 use Rattle.client_session.specs.declared.effect.Effect.{Effect}
 use Rattle.client_session.specs.declared.stage.Stage.{Stage}
 use Rattle.client_session.specs.declared.stage.Stage.TheVariants as stage
@@ -48,18 +48,8 @@ redact_unnamed entry f shown (target ∷ id ∷ more) e = redact_unseen entry f 
 
 command_unseen : (entry : Option Entry) (f : Facts) (shown : Bool) (bytes : List ℕ) (command : ClientCommand) (line : Reading) → name_by_command f command line.parameters ≡ None
     → after_registration entry (with_nick_of entry f) shown bytes command line ≡ after_registration entry (with_nick_of entry f) false bytes command line
-command_unseen entry f shown bytes Cap line e = refl
-command_unseen entry f shown bytes Pass line e = refl
-command_unseen entry f shown bytes Nick line e = refl
-command_unseen entry f shown bytes User line e = refl
-command_unseen entry f shown bytes Ping line e = refl
-command_unseen entry f shown bytes Pong line e = refl
-command_unseen entry f shown bytes Quit line e = refl
-command_unseen entry f shown bytes Chathistory line e = refl
-command_unseen entry f shown bytes Markread line e = refl
-command_unseen entry f shown bytes Message line e = refl
-command_unseen entry f shown bytes Other line e = refl
 command_unseen entry f shown bytes Redact line e = ap (stays (with_nick_of entry f)) (redact_unnamed entry f shown line.parameters e)
+command_unseen entry f shown bytes _ line e = refl
 
 reading_unseen : (directory : Directory) (shown : Bool) (f : Facts) (bytes : List ℕ) (r : Result Reading LineFault) → name_in f r ≡ None
     → reading_step directory shown (stage.Registered f) bytes r ≡ reading_step directory false (stage.Registered f) bytes r

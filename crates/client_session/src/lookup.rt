@@ -50,17 +50,7 @@ pub(crate) fn sought(
         Err(_) => Ok(None),
         Ok(line) => match command_of(line.command()) {
             ClientCommand::Redact => sought_by(alloc, facts, line.parameters()),
-            ClientCommand::Cap
-            | ClientCommand::Pass
-            | ClientCommand::Nick
-            | ClientCommand::User
-            | ClientCommand::Ping
-            | ClientCommand::Pong
-            | ClientCommand::Quit
-            | ClientCommand::Chathistory
-            | ClientCommand::Markread
-            | ClientCommand::Message
-            | ClientCommand::Other => Ok(None),
+            _ => Ok(None),
         },
     }
 }

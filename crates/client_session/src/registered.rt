@@ -305,16 +305,7 @@ impl ServedLine<'_> {
                 let list = closing(alloc)?;
                 Ok((Continuation::Closes, list))
             }
-            ClientCommand::Pass
-            | ClientCommand::User
-            | ClientCommand::Ping
-            | ClientCommand::Pong
-            | ClientCommand::Nick
-            | ClientCommand::Chathistory
-            | ClientCommand::Markread
-            | ClientCommand::Redact
-            | ClientCommand::Message
-            | ClientCommand::Other => {
+            _ => {
                 let list = self.effects(alloc, scratch, facts)?;
                 Ok((Continuation::Stays, list))
             }

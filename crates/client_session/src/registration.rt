@@ -300,11 +300,7 @@ impl Waiting {
                 let list = closing(alloc)?;
                 Ok((Stage::Closed, list))
             }
-            ClientCommand::Chathistory
-            | ClientCommand::Markread
-            | ClientCommand::Redact
-            | ClientCommand::Message
-            | ClientCommand::Other => self.not_yet(alloc),
+            _ => self.not_yet(alloc),
         }
     }
 
