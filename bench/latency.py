@@ -1,8 +1,8 @@
 #!/usr/bin/env python3
-"""Measures how long a line takes from the network's server to ten clients: through the bouncer, through ZNC, and through a loop in
-C that reads from one socket and writes to ten, by turns.
+"""Measures how long a line takes from the network's server to its clients: through the bouncer, through ZNC, and through a loop in
+C that reads from one socket and writes to all, by turns.
 
-    bench/latency.py PROGRAM [ROUNDS]      9 rounds if nothing else is said
+    bench/latency.py PROGRAM [ROUNDS [CLIENTS]]      9 rounds and 10 clients if nothing else is said
 
 It needs cc and Debian's znc. bench/plain/latency.c says the lines, one each millisecond, and hears them at all clients. It never
 sleeps, and has a processor for itself where there are two; the bouncers share the others.
@@ -17,7 +17,8 @@ from beside_c import Loop, built
 from beside_znc import Clients, begin
 from machine import name_of_run, spread, table
 
-CLIENTS, LINES, PAUSE = 10, 2000, 1000
+CLIENTS = int(sys.argv[3]) if len(sys.argv) > 3 else 10
+LINES, PAUSE = 2000, 1000
 
 
 class Way:
@@ -76,7 +77,7 @@ def main():
             # (the first round warms up)
             del way.rounds[0]
         print(f"{head} Medians and ranges of {rounds} rounds by turns, of {LINES:,} lines each.\n")
-        heads = ["a line to one of 10 clients", "half of them take at most", "99 of 100", "all of them", "99 of 100 : ZNC's", "goal"]
+        heads = [f"a line to one of {CLIENTS} clients", "half of them take at most", "99 of 100", "all of them", "99 of 100 : ZNC's", "goal"]
         print(table(heads, ([*way.row(ways[1]), goal] for way, goal in zip(ways, (0.5, "", "")))))
     finally:
         for end in reversed(ends):
