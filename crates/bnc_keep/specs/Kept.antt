@@ -1,5 +1,5 @@
 -- What is kept, and when a packet is acknowledged.
-use Rattle.std.specs.Prelude.{ℕ, List, ◌++◌}
+use Rattle.std.specs.Prelude.{ℕ, List, ◌++◌, ⊤}
 use Rattle.block_file.specs.declared.device.Device.{Ghosts}
 use Rattle.chat_change.specs.declared.change.Change.{Change}
 use Rattle.chat_history.specs.StateValue.{StateValue}
@@ -16,6 +16,11 @@ state_in (LetGo state terms) = state
 abbrev pub life_in : {D : Type 0} {g : Ghosts D} → Kept D g → ℕ
 life_in (Open begun) = begun.keeper.life
 life_in (LetGo state terms) = terms.value.me.incarnation
+
+-- the file is let go
+abbrev pub IsLetGo : {D : Type 0} {g : Ghosts D} → Kept D g → Type 0
+IsLetGo (Open begun) = ⊥
+IsLetGo (LetGo state terms) = ⊤
 
 -- The file is open, and the keeper that had taken a list has taken these changes too: they are in the state, and whatever a crash
 -- at this moment may leave says them.

@@ -1,8 +1,8 @@
 //! What is kept, and what a message of a peer does to it.
-ghost use Rattle.std.specs.Prelude.{◌≡◌, ◌++◌, Ok, IfOk};
+ghost use Rattle.std.specs.Prelude.{◌≡◌, ◌++◌, Ok, IfOk, OnOk, OnErr};
 ghost use Rattle.gossip_link.specs.Arrival.{reply, changes_of};
 ghost use Rattle.gossip_link.specs.declared.outcome.Outcome.TheVariants.{Taken};
-ghost use Rattle.bnc_keep.specs.Kept.{IsAcknowledged, state_in, life_in};
+ghost use Rattle.bnc_keep.specs.Kept.{IsAcknowledged, IsLetGo, state_in, life_in};
 
 use crate::begun::Begun;
 use byte_text::NoMemory;
@@ -73,6 +73,8 @@ impl<D: Device> Kept<D> {
 impl<D: Device + Drop> Kept<D> {
     /// Lets the file go, and keeps the state, under the life that it has. For want of memory nothing changes.
     pub(crate) fn let_go(&mut self, alloc: Global) -> Result<(), AllocError>
+        ensures let_go { OnOk result (IsLetGo self.new) }
+        ensures same { OnErr result (self.new ≡ self.old) }
         ensures state { state_in self.new ≡ state_in self.old }
         ensures life { life_in self.new ≡ life_in self.old }
     {
